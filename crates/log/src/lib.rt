@@ -1,0 +1,1 @@
+// The log: records, groups and the log in a slice of bytes.
