@@ -1,1 +1,14 @@
--- Laws of the log's format.
+-- The laws of the log's format, by what they say: reading (Reader, RecordLaws, GroupLaws, LogLaws), the code's answers (Answers),
+-- round trip and prefix (RoundTrip), soundness (Soundness), cut and zeroed lists (Torn), stores (StoreLaws, FlatLaws); worked cases (Cases).
+pub mod Basics
+pub mod Reader
+pub mod RecordLaws
+pub mod GroupLaws
+pub mod LogLaws
+pub mod Answers
+pub mod RoundTrip
+pub mod Soundness
+pub mod Torn
+pub mod StoreLaws
+pub mod FlatLaws
+pub mod Cases

@@ -1,1 +1,13 @@
-// The log: records, groups and the log in a slice of bytes.
+// The log: records, groups and the log itself, read from the front of a slice and written into one; stores that are counted.
+pub mod group;
+pub mod number;
+pub mod record;
+pub mod records;
+pub mod scan;
+pub mod stores;
+
+// A transaction id. 0 is never given.
+pub struct TxId(pub u16);
+
+// A commit sequence number (document 01: commit number). 0 stands for "none yet".
+pub struct Csn(pub u32);

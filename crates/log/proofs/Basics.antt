@@ -1,0 +1,44 @@
+-- Small laws of Bools, lists and parts of slices.
+use Prim.Native.Nat.{ℕ, zero, suc, _+_, _-_, _≤_, _<_}
+use native.Mathlib.Decide.{decLt}
+use native.Mathlib.Omega.{arith}
+use mathlib.Core.Bool.{Bool, true, false, not, _&&_}
+use mathlib.Core.List.{List}
+use mathlib.Core.Path.{_≡_, refl}
+use lib.ListN.{length, getD, take, drop, List·getD-eq-default, length-drop}
+use lib.Seq.{take-all}
+
+-- two constructors are never equal: `clash (cc)`
+pub clash : {A : Type 0} → _≡_ {A = ℕ} 0 1 → A
+clash z = absurd (omega arith)
+
+pub and-left : (a b : Bool) → a && b ≡ true → a ≡ true
+and-left true b e = refl
+and-left false b e = e
+
+pub and-right : (a b : Bool) → a && b ≡ true → b ≡ true
+and-right true b e = e
+and-right false b e = clash (cc)
+
+pub not-yes : (a : Bool) → not a ≡ true → a ≡ false
+not-yes true e = clash (cc)
+not-yes false e = refl
+
+pub not-no : (a : Bool) → not a ≡ false → a ≡ true
+not-no true e = refl
+not-no false e = clash (cc)
+
+pub and-both : (a b : Bool) → a ≡ true → b ≡ true → a && b ≡ true
+and-both a b p q = rw p q
+
+-- a byte that is not 0 lies within the list
+pub nonzero-within : (s : List ℕ) (i n : ℕ) → getD s i 0 ≡ suc n → i < length s
+nonzero-within s i n e =
+    elim (decLt i (length s)) [
+      | yes p ↦ p
+      | no q ↦ absurd (omega (arith, q, e, List·getD-eq-default s 0 {n = i} (omega (arith, q))))
+    ]
+
+-- the part of a slice from a place on, `&s[at..]`
+pub from : (s : List ℕ) (at : ℕ) → take (length s - at) (drop at s) ≡ drop at s
+from s at = take-all (length s - at) (drop at s) (simp length-drop (omega arith))

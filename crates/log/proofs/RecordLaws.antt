@@ -1,0 +1,78 @@
+-- Laws of `readRecord`: which of the three readings it was, and that what it reads lies within the list.
+use Prim.Native.Nat.{ℕ, suc, _+_, _-_, _≤_, _<_}
+use native.Mathlib.Decide.{decLe}
+use native.Mathlib.Omega.{arith}
+use mathlib.Core.Bool.{Bool, true, false, cond, _&&_}
+use mathlib.Core.List.{List}
+use mathlib.Core.Option.{Option, none, some}
+use mathlib.Core.Path.{_≡_, refl, sym, _∙_, subst}
+use lib.ListN.{length, getD, take, drop, length-drop}
+use lib.Seq.{length-take-le}
+use lib.Dec.{eqb, leb}
+use borrow.Author.Tests.{eqb-true, le-leb, lt-leb}
+use Rattle.log.specs.Record.{Record, redo, commit, abort, size, keep, readRedo, readCommit, readAbort, readRecord}
+use Rattle.log.proofs.Basics.{clash, and-left, nonzero-within}
+
+pub keep-inv : (t : Bool) (x r : Record) → keep t x ≡ some r → (t ≡ true) × (x ≡ r)
+keep-inv true x r e = (refl, cc)
+keep-inv false x r e = clash (cc)
+
+pub record-cases : (P : Record → Type 0) (s : List ℕ)
+    → ((r : Record) → getD s 0 0 ≡ 1 → readRedo s ≡ some r → P r)
+    → ((r : Record) → getD s 0 0 ≡ 2 → readCommit s ≡ some r → P r)
+    → ((r : Record) → getD s 0 0 ≡ 3 → readAbort s ≡ some r → P r)
+    → (r : Record) → readRecord s ≡ some r → P r
+unfolding readRecord
+record-cases P s f g h r = go (eqb (getD s 0 0) 1) (eqb (getD s 0 0) 2) (eqb (getD s 0 0) 3) refl refl refl
+  where
+    go : (t₁ t₂ t₃ : Bool) → eqb (getD s 0 0) 1 ≡ t₁ → eqb (getD s 0 0) 2 ≡ t₂ → eqb (getD s 0 0) 3 ≡ t₃ → cond t₁ (readRedo s) (cond t₂ (readCommit s) (cond t₃ (readAbort s) none)) ≡ some r → P r
+    go true t₂ t₃ e₁ e₂ e₃ e = f r (eqb-true _ _ e₁) e
+    go false true t₃ e₁ e₂ e₃ e = g r (eqb-true _ _ e₂) e
+    go false false true e₁ e₂ e₃ e = h r (eqb-true _ _ e₃) e
+    go false false false e₁ e₂ e₃ e = clash (cc)
+
+-- the byte at n is the record's last one, and it is not 0
+pub record Ends (s : List ℕ) (r : Record) (n : ℕ) : Type 0 where
+  pub sized : size r ≡ suc n
+  pub kind : ℕ
+  pub closes : getD s n 0 ≡ suc kind
+
+pub redo-ends : (s : List ℕ) (r : Record) → readRedo s ≡ some r → Ends s r (6 + getD s 5 0)
+unfolding readRedo
+redo-ends s r e =
+    let i = keep-inv _ _ r e in
+    let n = getD s 5 0 in
+    let b : getD s (6 + n) 0 ≡ 1 = eqb-true _ _ (and-left _ _ (and-left _ _ (i .0))) in
+    let l = nonzero-within s (6 + n) 0 b in
+    let d : length (take n (drop 6 s)) ≡ n = length-take-le n (drop 6 s) (simp length-drop (omega arith)) in
+    subst (λ (r : Record). Ends s r (6 + getD s 5 0)) (i .1) (record { sized = omega arith; kind = 0; closes = b })
+
+pub commit-ends : (s : List ℕ) (r : Record) → readCommit s ≡ some r → Ends s r 7
+unfolding readCommit
+commit-ends s r e =
+    let i = keep-inv _ _ r e in
+    subst (λ (r : Record). Ends s r 7) (i .1) (record { sized = refl; kind = 1; closes = eqb-true _ _ (and-left _ _ (i .0)) })
+
+pub abort-ends : (s : List ℕ) (r : Record) → readAbort s ≡ some r → Ends s r 3
+unfolding readAbort
+abort-ends s r e =
+    let i = keep-inv _ _ r e in
+    subst (λ (r : Record). Ends s r 3) (i .1) (record { sized = refl; kind = 2; closes = eqb-true _ _ (and-left _ _ (i .0)) })
+
+-- a record that is read ends in a byte that is not 0, and so lies within the list
+pub record-ends : (s : List ℕ) (r : Record) → readRecord s ≡ some r → (n : ℕ) × Ends s r n
+record-ends s =
+    record-cases (λ r. (n : ℕ) × Ends s r n) s (λ r k e. (_, redo-ends s r e)) (λ r k e. (_, commit-ends s r e)) (λ r k e. (_, abort-ends s r e))
+
+pub record-within : (s : List ℕ) (r : Record) → readRecord s ≡ some r → size r ≤ length s
+record-within s r e =
+    let w = record-ends s r e in
+    omega (arith, w .1 .sized, nonzero-within s (w .0) (w .1 .kind) (w .1 .closes))
+
+-- the range rule's sum as the code tests it, where nothing can wrap
+pub range-end : (addr n : ℕ) → n ≤ 32 → leb addr (4096 - n) ≡ leb (addr + n) 4096
+range-end addr n h =
+    elim (decLe (addr + n) 4096) [
+      | yes p ↦ le-leb addr (4096 - n) (omega arith) ∙ sym (le-leb (addr + n) 4096 p)
+      | no q ↦ lt-leb addr (4096 - n) (omega (arith, q)) ∙ sym (lt-leb (addr + n) 4096 (omega (arith, q)))
+    ]

@@ -1,0 +1,181 @@
+use Prim.Native.Nat.{ℕ, _+_, _-_, _≤_}
+use native.Mathlib.Omega.{arith}
+use borrow.Author.Needs.{needs}
+use mathlib.Core.Path.{_≡_, refl, sym, ap, _∙_}
+use lib.ListN.{length, drop, length-drop}
+use lib.Seq.{drop-drop}
+use denote.Ref.{now}
+use mathlib.Core.List.{List}
+use mathlib.Core.Option.{some, none}
+use Rattle.log.specs.Record.{redo, commit, abort, readRecord, headOf}
+use Rattle.recovery.specs.Group.{Write}
+use Rattle.log.proofs.Basics.{from}
+use Rattle.log.proofs.RecordLaws.{record-within}
+use Rattle.log.proofs.GroupLaws.{bodyEnd, body-none, body-abort, body-other-redo, body-other-commit, body-other-csn, body-go, body-last}
+use Rattle.log.proofs.Answers.{head-redo, head-commit, head-abort, head-nothing}
+use Rattle.log.proofs.group.read_body.Statement.{statement}
+use Rattle.log.proofs.group.read_body.Tie as tie
+
+abbrev Inv-loop : tie.InvT-loop
+Inv-loop s id prev at₀ at =
+    (at ≤ length s) × (bodyEnd (prev .0) (id .0) 0 s ≡ bodyEnd (prev .0) (id .0) at (drop at s))
+
+abbrev μ-loop : tie.MeasureT-loop
+μ-loop s id prev at₀ at = length s - at
+
+loop-holds : tie.Need-loop-holds Inv-loop μ-loop
+loop-holds c = (omega arith, refl)
+
+sub-read-record : tie.Need-sub-read-record Inv-loop μ-loop
+sub-read-record c = search needs
+
+part-read-record-start : tie.Need-part-read-record-start Inv-loop μ-loop
+part-read-record-start c = search needs
+
+part-read-record-end : tie.Need-part-read-record-end Inv-loop μ-loop
+part-read-record-end c = search needs
+
+read-record-requires : tie.Need-read-record-requires Inv-loop μ-loop
+read-record-requires c κs = search needs
+
+enum-known-head : tie.Need-enum-known-head Inv-loop μ-loop
+enum-known-head c = search needs
+
+-- what was read at `at`
+read-at : (c : tie.After-read-record Inv-loop μ-loop)
+    → c .read-record .result ≡ headOf (readRecord (drop (c .before .before .loop .at) (c .before .before .before .before .args .s .now)))
+read-at c =
+    c .read-record .ensures
+    ∙ ap (λ (t : List ℕ). headOf (readRecord t)) (from (c .before .before .before .before .args .s .now) (c .before .before .loop .at))
+
+redo-at : (c : tie.After-head Inv-loop μ-loop)
+    → (w : Write)
+    × (readRecord (drop (c .before .before .before .before .loop .at) (c .before .before .before .before .before .before .args .s .now))
+    ≡ some (redo (c .head .given .0 .0 .0) w))
+    × (w .addr ≡ c .head .given .0 .1 .0)
+    × (length (w .bytes) ≡ c .head .given .0 .1 .1 .0)
+redo-at c = head-redo _ _ _ _ (sym (read-at (c .before .before)) ∙ c .head .given .1)
+
+commit-at : (c : tie.After-head2 Inv-loop μ-loop)
+    → readRecord (drop (c .before .before .before .before .loop .at) (c .before .before .before .before .before .before .args .s .now))
+    ≡ some (commit (c .head2 .given .0 .0 .0) (c .head2 .given .0 .1 .0 .0))
+commit-at c = head-commit _ _ _ (sym (read-at (c .before .before)) ∙ c .head2 .given .1)
+
+returns : tie.Need-returns Inv-loop μ-loop
+returns c =
+    let w = redo-at (c .before .before .before .before) in
+    sym (c .before .before .before .before .before .before .before .before .loop .inv .1 ∙ body-other-redo _ _ _ _ _ (w .0) (w .1) (c .if1 .taken))
+
+add-at : tie.Need-add-at Inv-loop μ-loop
+add-at c =
+    let s = c .before .before .before .before .before .before .before .before .before .before .args .s .now in
+    let at = c .before .before .before .before .before .before .before .before .loop .at in
+    let w = redo-at (c .before .before .before .before) in
+    let l : 7 + length (w .0 .bytes) ≤ length s - at = rw length-drop at (record-within (drop at s) _ (w .1)) in
+    omega (arith, w .3, c .before .before .before .before .before .before .before .before .before .before .good)
+
+cast-at : tie.Need-cast-at Inv-loop μ-loop
+cast-at c = search needs
+
+add-at-2 : tie.Need-add-at-2 Inv-loop μ-loop
+add-at-2 c =
+    let s = c .before .before .before .before .before .before .before .before .before .before .args .s .now in
+    let at = c .before .before .before .before .before .before .before .before .loop .at in
+    let w = redo-at (c .before .before .before .before) in
+    let l : 7 + length (w .0 .bytes) ≤ length s - at = rw length-drop at (record-within (drop at s) _ (w .1)) in
+    omega (arith, w .3, c .before .before .before .before .before .before .before .before .before .before .good)
+
+loop-less : tie.Need-loop-less Inv-loop μ-loop
+loop-less c =
+    let s = c .before .before .before .before .before .before .before .before .before .before .args .s .now in
+    let at = c .before .before .before .before .before .before .before .before .loop .at in
+    let w = redo-at (c .before .before .before .before) in
+    let l : 7 + length (w .0 .bytes) ≤ length s - at = rw length-drop at (record-within (drop at s) _ (w .1)) in
+    omega (arith, w .3)
+
+loop-again : tie.Need-loop-again Inv-loop μ-loop
+loop-again c =
+    let s = c .before .before .before .before .before .before .before .before .before .before .args .s .now in
+    let at = c .before .before .before .before .before .before .before .before .loop .at in
+    let w = redo-at (c .before .before .before .before) in
+    let l : 7 + length (w .0 .bytes) ≤ length s - at = rw length-drop at (record-within (drop at s) _ (w .1)) in
+    let k = at + 7 + c .before .before .before .before .head .given .0 .1 .1 .0 in
+    (omega (arith, w .3), c .before .before .before .before .before .before .before .before .loop .inv .1 ∙ body-go _ _ at _ (w .0) s k (w .1) (c .if1 .left) (omega (arith, w .3)))
+
+enum-known-head-2 : tie.Need-enum-known-head-2 Inv-loop μ-loop
+enum-known-head-2 c = search needs
+
+returns-2 : tie.Need-returns-2 Inv-loop μ-loop
+returns-2 c = sym (c .before .before .before .before .before .before .before .before .loop .inv .1 ∙ body-other-commit _ _ _ _ _ _ (commit-at (c .before .before .before .before)) (c .if2 .taken))
+
+returns-3 : tie.Need-returns-3 Inv-loop μ-loop
+returns-3 c =
+    sym
+    (c .before .before .before .before .before .before .before .before .before .before .before .loop .inv .1
+    ∙ body-other-csn _ _ _ _ _ _ (commit-at (c .before .before .before .before .before .before .before)) (c .before .before .before .if2 .left) (λ e. omega (arith, e, c .if3 .taken)))
+
+sub-if4 : tie.Need-sub-if4 Inv-loop μ-loop
+sub-if4 c = search needs
+
+returns-4 : tie.Need-returns-4 Inv-loop μ-loop
+returns-4 c =
+    sym
+    (c .before .before .before .before .before .before .before .before .before .before .before .before .before .before .loop .inv .1
+    ∙ body-other-csn _ _ _ _ _ _ (commit-at (c .before .before .before .before .before .before .before .before .before .before)) (c .before .before .before .before .before .before .if2 .left) (λ e. c .if4 .taken (omega (arith, e))))
+
+add-t19 : tie.Need-add-t19 Inv-loop μ-loop
+add-t19 c =
+    let s = c .before .before .before .before .before .before .before .before .before .before .before .before .before .before .before .before .args .s .now in
+    let at = c .before .before .before .before .before .before .before .before .before .before .before .before .before .before .loop .at in
+    let l : 8 ≤ length s - at = rw length-drop at (record-within (drop at s) _ (commit-at (c .before .before .before .before .before .before .before .before .before .before))) in
+    omega (arith, c .before .before .before .before .before .before .before .before .before .before .before .before .before .before .before .before .good)
+
+returns-5 : tie.Need-returns-5 Inv-loop μ-loop
+returns-5 c =
+    sym
+    (c .before .before .before .before .before .before .before .before .before .before .before .before .before .before .loop .inv .1
+    ∙ body-last _ _ _ _ _ _ (commit-at (c .before .before .before .before .before .before .before .before .before .before)) (c .before .before .before .before .before .before .if2 .left) (omega (arith, c .if4 .left, c .before .before .before .if3 .left)))
+
+enum-told : tie.Need-enum-told Inv-loop μ-loop
+enum-told c = search needs
+
+returns-6 : tie.Need-returns-6 Inv-loop μ-loop
+returns-6 c =
+    sym (c .before .before .before .before .loop .inv .1 ∙ body-abort _ _ _ _ _ (head-abort _ _ (sym (read-at (c .before .before)) ∙ c .enum-told .given .1)))
+
+enum-told-2 : tie.Need-enum-told-2 Inv-loop μ-loop
+enum-told-2 c = search needs
+
+returns-7 : tie.Need-returns-7 Inv-loop μ-loop
+returns-7 c =
+    sym (c .before .before .before .before .loop .inv .1 ∙ body-none _ _ _ _ (head-nothing _ (sym (read-at (c .before .before)) ∙ c .enum-told2 .given .1)))
+
+pub read-body-spec : {M : Type 1} → statement M
+read-body-spec =
+    tie.close
+    (tie.spec
+    Inv-loop
+    μ-loop
+    loop-holds
+    sub-read-record
+    part-read-record-start
+    part-read-record-end
+    read-record-requires
+    enum-known-head
+    returns
+    add-at
+    cast-at
+    add-at-2
+    loop-less
+    loop-again
+    enum-known-head-2
+    returns-2
+    returns-3
+    sub-if4
+    returns-4
+    add-t19
+    returns-5
+    enum-told
+    returns-6
+    enum-told-2
+    returns-7)

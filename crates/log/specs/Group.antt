@@ -1,0 +1,78 @@
+-- Groups on disk: "an abort, or zero or more redo records and one commit, all of one id, whose commit number is the previous one plus 1".
+use Prim.Native.Nat.{ℕ, _+_}
+use mathlib.Core.Bool.{Bool, true, false, cond, _&&_}
+use mathlib.Core.List.{List, [], _∷_, _++_}
+use mathlib.Core.Option.{Option, none, some}
+use lib.ListN.{length, drop}
+use lib.Dec.{eqb}
+use Rattle.recovery.specs.Group.{Write, Group, committed, aborted, redoSize}
+use Rattle.log.specs.Record.{Record, redo, commit, abort, encode, size, wellFormed, readRecord}
+use Rattle.log.specs.Reader.{whole}
+use Rattle.log.specs.declared.group.GroupEnd.{GroupEnd}
+use Rattle.log.specs.declared.group.GroupEnd.the-variants.{Aborted, Committed, NoGroup}
+
+-- the redo records of these writes, and the commit
+abbrev pub encodeBody : ℕ → ℕ → List Write → List ℕ
+encodeBody id csn [] = encode (commit id csn)
+encodeBody id csn (w ∷ ws) = encode (redo id w) ++ encodeBody id csn ws
+
+abbrev pub encodeGroup : Group → List ℕ
+encodeGroup (committed id csn ws) = encodeBody id csn ws
+encodeGroup (aborted id) = encode (abort id)
+
+-- a group that may stand in a log after a commit number: its records are well formed and its own number is the next one
+abbrev pub wellFormedBody : ℕ → ℕ → List Write → Bool
+wellFormedBody id csn [] = wellFormed (commit id csn)
+wellFormedBody id csn (w ∷ ws) = wellFormed (redo id w) && wellFormedBody id csn ws
+
+abbrev pub wellFormedGroup : ℕ → Group → Bool
+wellFormedGroup prev (committed id csn ws) = eqb csn (prev + 1) && wellFormedBody id csn ws
+wellFormedGroup prev (aborted id) = wellFormed (abort id)
+
+-- what a record is to a group of this id after that number: one more write, the group's last record, or none of its own
+pub data Turn : Type 0 where
+  more : Write → Turn
+  last : Turn
+  stop : Turn
+
+abbrev pub turnOf : ℕ → ℕ → Option Record → Turn
+turnOf prev id none = stop
+turnOf prev id (some (redo i w)) = cond (eqb i id) (more w) stop
+turnOf prev id (some (commit i csn)) = cond (eqb i id && eqb csn (prev + 1)) last stop
+turnOf prev id (some (abort i)) = stop
+
+abbrev pub andThen : Write → Option (List Write) → Option (List Write)
+andThen w none = none
+andThen w (some ws) = some (w ∷ ws)
+
+abbrev pub onTurn : (ℕ → List ℕ → Option (List Write)) → ℕ → List ℕ → Turn → Option (List Write)
+onTurn rest id s (more w) = andThen w (rest id (drop (size (redo id w)) s))
+onTurn rest id s last = some []
+onTurn rest id s stop = none
+
+abbrev pub bodyStep : ℕ → (ℕ → List ℕ → Option (List Write)) → ℕ → List ℕ → Option (List Write)
+bodyStep prev rest id s = onTurn rest id s (turnOf prev id (readRecord s))
+
+-- the writes of the redo records of this id at the front of s, if their commit follows
+unfoldable pub readBody : ℕ → ℕ → List ℕ → Option (List Write)
+readBody prev id s = whole (bodyStep prev) none id s
+
+abbrev pub committedIf : ℕ → ℕ → Option (List Write) → Option Group
+committedIf id csn none = none
+committedIf id csn (some ws) = some (committed id csn ws)
+
+abbrev pub groupBy : ℕ → List ℕ → Option Record → Option Group
+groupBy prev s none = none
+groupBy prev s (some (redo id w)) = committedIf id (prev + 1) (readBody prev id s)
+groupBy prev s (some (commit id csn)) = committedIf id (prev + 1) (readBody prev id s)
+groupBy prev s (some (abort id)) = some (aborted id)
+
+-- the whole group at the front of s, if there is one, after a commit number
+unfoldable pub readGroup : ℕ → List ℕ → Option Group
+readGroup prev s = groupBy prev s (readRecord s)
+
+-- what the code answers of a group that starts at a place: its id, its commit number and where it ends
+abbrev pub endOf : ℕ → Option Group → GroupEnd
+endOf at none = NoGroup
+endOf at (some (committed id csn ws)) = Committed (record { 0 = id }) (record { 0 = csn }) (at + (redoSize ws + 8))
+endOf at (some (aborted id)) = Aborted (record { 0 = id }) (at + 4)

@@ -1,0 +1,34 @@
+-- The log: "ends after the last group before the first place where no whole group stands".
+use Prim.Native.Nat.{ℕ, _+_}
+use mathlib.Core.Bool.{Bool, true, _&&_}
+use mathlib.Core.List.{List, [], _∷_, _++_}
+use mathlib.Core.Option.{Option, none, some}
+use lib.ListN.{drop}
+use Rattle.recovery.specs.Group.{Group, groupSize, groupsSize, csnAfter, lastCsn}
+use Rattle.log.specs.Group.{encodeGroup, wellFormedGroup, readGroup}
+use Rattle.log.specs.Reader.{whole}
+use Rattle.log.specs.declared.scan.LogEnd.{LogEnd}
+
+abbrev pub onGroup : (ℕ → List ℕ → List Group) → ℕ → List ℕ → Option Group → List Group
+onGroup rest prev s none = []
+onGroup rest prev s (some g) = g ∷ rest (csnAfter prev g) (drop (groupSize g) s)
+
+abbrev pub logStep : (ℕ → List ℕ → List Group) → ℕ → List ℕ → List Group
+logStep rest prev s = onGroup rest prev s (readGroup prev s)
+
+-- the groups of the log that starts at the front of s, after a commit number
+unfoldable pub readLog : ℕ → List ℕ → List Group
+readLog prev s = whole logStep [] prev s
+
+-- what the code answers of a log that starts at a place: where it ends, and its last commit number
+abbrev pub logEndOf : ℕ → ℕ → List Group → LogEnd
+logEndOf at prev gs = record { end = at + groupsSize gs; csn = record { 0 = lastCsn prev gs } }
+
+-- groups one after the other
+abbrev pub encodeLog : List Group → List ℕ
+encodeLog [] = []
+encodeLog (g ∷ gs) = encodeGroup g ++ encodeLog gs
+
+abbrev pub wellFormedLog : ℕ → List Group → Bool
+wellFormedLog prev [] = true
+wellFormedLog prev (g ∷ gs) = wellFormedGroup prev g && wellFormedLog (csnAfter prev g) gs

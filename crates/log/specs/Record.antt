@@ -1,0 +1,69 @@
+-- The three log records: what each is on disk, when it is well formed, and which one stands at the front of a list of bytes.
+use Prim.Native.Nat.{ℕ, _+_}
+use mathlib.Core.Bool.{Bool, true, false, cond, not, _&&_}
+use mathlib.Core.List.{List, [], _∷_, _++_}
+use mathlib.Core.Option.{Option, none, some}
+use lib.ListN.{length, getD, take, drop}
+use lib.Dec.{leb, eqb}
+use Rattle.recovery.specs.Group.{Write}
+use Rattle.log.specs.Number.{be2, be4, bytes2, bytes4}
+use Rattle.log.specs.declared.record.Head.{Head}
+use Rattle.log.specs.declared.record.Head.the-variants.{Redo, Commit, Abort, Nothing}
+
+-- redo: id, address and new bytes; commit: id, commit number; abort: id
+pub data Record : Type 0 where
+  redo : ℕ → Write → Record
+  commit : ℕ → ℕ → Record
+  abort : ℕ → Record
+
+-- "redo: 1, id (2 bytes), address (2), length (1), the new bytes, 1"; "commit: 2, id (2), commit number (4), 2"; "abort: 3, id (2), 3"
+abbrev pub encode : Record → List ℕ
+encode (redo id w) = 1 ∷ (bytes2 id ++ (bytes2 (w .addr) ++ (length (w .bytes) ∷ (w .bytes ++ (1 ∷ [])))))
+encode (commit id csn) = 2 ∷ (bytes2 id ++ (bytes4 csn ++ (2 ∷ [])))
+encode (abort id) = 3 ∷ (bytes2 id ++ (3 ∷ []))
+
+abbrev pub size : Record → ℕ
+size (redo id w) = 7 + length (w .bytes)
+size (commit id csn) = 8
+size (abort id) = 4
+
+-- the range rule: "the length is 1 to 32 and address + length ≤ 4,096"
+abbrev pub inRange : ℕ → ℕ → Bool
+inRange addr n = leb 1 n && leb n 32 && leb (addr + n) 4096
+
+-- "its id isn't 0 and, for redo," the range rule; that first and last byte agree is in `encode` and in the readers
+abbrev pub wellFormed : Record → Bool
+wellFormed (redo id w) = not (eqb id 0) && inRange (w .addr) (length (w .bytes))
+wellFormed (commit id csn) = not (eqb id 0)
+wellFormed (abort id) = not (eqb id 0)
+
+-- r where the test holds
+abbrev pub keep : Bool → Record → Option Record
+keep true r = some r
+keep false r = none
+
+-- Past the end of s stand zeros, and a record's last byte is not zero: so a record whose last byte agrees lies within s.
+unfoldable pub readRedo : List ℕ → Option Record
+readRedo s =
+    keep
+    (eqb (getD s (6 + getD s 5 0) 0) 1 && not (eqb (be2 s 1) 0) && inRange (be2 s 3) (getD s 5 0))
+    (redo (be2 s 1) (record { addr = be2 s 3; bytes = take (getD s 5 0) (drop 6 s) }))
+
+unfoldable pub readCommit : List ℕ → Option Record
+readCommit s = keep (eqb (getD s 7 0) 2 && not (eqb (be2 s 1) 0)) (commit (be2 s 1) (be4 s 3))
+
+unfoldable pub readAbort : List ℕ → Option Record
+readAbort s = keep (eqb (getD s 3 0) 3 && not (eqb (be2 s 1) 0)) (abort (be2 s 1))
+
+-- the well-formed record at the front of s, if there is one
+unfoldable pub readRecord : List ℕ → Option Record
+readRecord s =
+    cond (eqb (getD s 0 0) 1) (readRedo s)
+    (cond (eqb (getD s 0 0) 2) (readCommit s) (cond (eqb (getD s 0 0) 3) (readAbort s) none))
+
+-- what the code answers of a record: its numbers, and of a redo how many bytes it has
+abbrev pub headOf : Option Record → Head
+headOf none = Nothing
+headOf (some (redo id w)) = Redo (record { 0 = id }) (w .addr) (length (w .bytes))
+headOf (some (commit id csn)) = Commit (record { 0 = id }) (record { 0 = csn })
+headOf (some (abort id)) = Abort (record { 0 = id })

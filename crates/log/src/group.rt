@@ -1,0 +1,108 @@
+// Groups: an abort, or the redo records of one transaction and their commit.
+use crate::Csn;
+use crate::TxId;
+use crate::record::Head;
+use crate::record::put_commit;
+use crate::record::put_redo;
+use crate::record::read_record;
+use crate::records::Records;
+ghost use mathlib.Core.Path.{_≡_};
+ghost use Prim.Native.Nat.{ℕ, _+_, _≤_, _<_};
+ghost use lib.ListN.{length, getD};
+ghost use lib.Seq.{sets};
+ghost use Rattle.recovery.specs.Group.{groupSize, committed};
+ghost use Rattle.log.specs.Group.{encodeGroup, readBody, committedIf, readGroup, endOf};
+ghost use Rattle.log.specs.Records.{writesOf};
+
+// The whole group at the front of a slice, and where it ends.
+pub enum GroupEnd {
+    Aborted { id: TxId, end: usize },
+    Committed { id: TxId, csn: Csn, end: usize },
+    NoGroup,
+}
+
+// The redo records of this id at the front of s, and their commit.
+fn read_body(s: &[u8], id: TxId, prev: Csn) -> GroupEnd
+    ensures { λ r. ⌜ r ≡ endOf 0 (committedIf (id .0) (prev .0 + 1) (readBody (prev .0) (id .0) (now (s .entry)))) ⌝ }
+{
+    let mut at: usize = 0;
+    loop {
+        let head = read_record(&s[at..]);
+        match head {
+            Head::Redo {
+                id: i,
+                addr: _,
+                len,
+            } => {
+                if i.0 != id.0 {
+                    return GroupEnd::NoGroup;
+                }
+                at = at + 7 + len as usize;
+            }
+            Head::Commit { id: i, csn } => {
+                if i.0 != id.0 {
+                    return GroupEnd::NoGroup;
+                }
+                if csn.0 <= prev.0 {
+                    return GroupEnd::NoGroup;
+                }
+                if csn.0 - prev.0 != 1 {
+                    return GroupEnd::NoGroup;
+                }
+                return GroupEnd::Committed {
+                    id: id,
+                    csn: csn,
+                    end: at + 8,
+                };
+            }
+            Head::Abort(_) => {
+                return GroupEnd::NoGroup;
+            }
+            Head::Nothing => {
+                return GroupEnd::NoGroup;
+            }
+        }
+    }
+}
+
+// prev is the commit number before the group.
+pub fn read_group(s: &[u8], prev: Csn) -> GroupEnd
+    ensures { λ r. ⌜ r ≡ endOf 0 (readGroup (prev .0) (now (s .entry))) ⌝ }
+{
+    let head = read_record(s);
+    match head {
+        Head::Redo {
+            id,
+            addr: _,
+            len: _,
+        } => read_body(s, id, prev),
+        Head::Commit { id, csn: _ } => read_body(s, id, prev),
+        Head::Abort(id) => GroupEnd::Aborted { id: id, end: 4 },
+        Head::Nothing => GroupEnd::NoGroup,
+    }
+}
+
+// Writes the group of these redo records and their commit, and returns where it ends.
+pub fn put_group(b: &mut [u8], at: usize, id: TxId, csn: Csn, redo: Records) -> usize
+    requires { ⌜ redo .count ≤ 16 ⌝ }
+    requires { ⌜ ((k : ℕ) → k < redo .count → getD (redo .len) k 0 ≤ 32) ⌝ }
+    requires { ⌜ at + groupSize (committed (id .0) (csn .0) (writesOf redo)) ≤ length (now b) ⌝ }
+    ensures { λ r. ⌜ r ≡ at + groupSize (committed (id .0) (csn .0) (writesOf redo)) ⌝ }
+    ensures { λ _. ⌜ now (b .exit) ≡ sets (now (b .entry)) at (encodeGroup (committed (id .0) (csn .0) (writesOf redo))) ⌝ }
+{
+    let n = redo.count as usize;
+    let addr = redo.addr;
+    let len = redo.len;
+    let bytes = redo.bytes;
+    let mut o = at;
+    let mut i: usize = 0;
+    while i < n {
+        let l = len[i] as usize;
+        let from = i * 32;
+        put_redo(b, o, id, addr[i], &bytes[from..from + l]);
+        o = o + (7 + l);
+        i = i + 1;
+    }
+    put_commit(b, o, id, csn);
+    o + 8
+}

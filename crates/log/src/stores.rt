@@ -1,0 +1,50 @@
+// Stores of single bytes, counted: of a call that may make so many, the first ones of its list.
+ghost use mathlib.Core.Path.{_≡_};
+ghost use Prim.Native.Nat.{_+_, _-_, _≤_, min};
+ghost use lib.ListN.{length, take};
+ghost use lib.Seq.{sets};
+ghost use Rattle.log.specs.Stores.{apply, copies, clears};
+
+// All of src, from at on.
+pub fn copy(b: &mut [u8], at: usize, src: &[u8])
+    requires { ⌜ at + length (now src) ≤ length (now b) ⌝ }
+    ensures { λ _. ⌜ now (b .exit) ≡ sets (now (b .entry)) at (now (src .entry)) ⌝ }
+{
+    let mut i: usize = 0;
+    while i < src.len() {
+        b[at + i] = src[i];
+        i += 1;
+    }
+}
+
+// Stores src upward from at on, as far as stores are allowed, and returns how many were made.
+pub fn copy_up(b: &mut [u8], at: usize, src: &[u8], allowed: usize) -> usize
+    requires { ⌜ at + length (now src) ≤ length (now b) ⌝ }
+    ensures { λ r. ⌜ r ≡ min allowed (length (copies at (now (src .entry)))) ⌝ }
+    ensures { λ _. ⌜ now (b .exit) ≡ apply (take allowed (copies at (now (src .entry)))) (now (b .entry)) ⌝ }
+{
+    if allowed < src.len() {
+        copy(b, at, &src[..allowed]);
+        return allowed;
+    }
+    copy(b, at, src);
+    src.len()
+}
+
+// Stores zeros from the last byte of b down to low, as far as stores are allowed, and returns how many were made.
+pub fn clear_down(b: &mut [u8], low: usize, allowed: usize) -> usize
+    ensures { λ r. ⌜ r ≡ min allowed (length (clears low (length (now (b .entry)) - low))) ⌝ }
+    ensures { λ _. ⌜ now (b .exit) ≡ apply (take allowed (clears low (length (now (b .entry)) - low))) (now (b .entry)) ⌝ }
+{
+    let mut at = b.len();
+    let mut left = allowed;
+    while low < at {
+        if left == 0 {
+            return allowed;
+        }
+        at = at - 1;
+        left = left - 1;
+        b[at] = 0;
+    }
+    allowed - left
+}
