@@ -9,7 +9,7 @@ use lib.Seq.{sets}
 use Rattle.recovery.specs.Group.{Write, redoSize}
 use Rattle.log.specs.Record.{redo, encode}
 use Rattle.log.specs.Group.{encodeBody}
-use Rattle.log.specs.Records.{writeAt, writesFrom}
+use Rattle.log.specs.Flat.{writeAt, writesFrom}
 use Rattle.log.proofs.StoreLaws.{sets-append}
 use Rattle.log.proofs.RoundTrip.{length-encode}
 

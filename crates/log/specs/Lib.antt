@@ -4,5 +4,5 @@ pub mod Reader
 pub mod Record
 pub mod Group
 pub mod Log
-pub mod Records
+pub mod Flat
 pub mod Stores

@@ -5,14 +5,13 @@ use crate::record::Head;
 use crate::record::put_commit;
 use crate::record::put_redo;
 use crate::record::read_record;
-use crate::records::Records;
 ghost use mathlib.Core.Path.{_≡_};
-ghost use Prim.Native.Nat.{ℕ, _+_, _≤_, _<_};
+ghost use Prim.Native.Nat.{ℕ, _+_, _*_, _≤_, _<_};
 ghost use lib.ListN.{length, getD};
 ghost use lib.Seq.{sets};
 ghost use Rattle.recovery.specs.Group.{groupSize, committed};
 ghost use Rattle.log.specs.Group.{encodeGroup, readBody, committedIf, readGroup, endOf};
-ghost use Rattle.log.specs.Records.{writesOf};
+ghost use Rattle.log.specs.Flat.{writesFrom};
 
 // The whole group at the front of a slice, and where it ends.
 pub enum GroupEnd {
@@ -82,18 +81,24 @@ pub fn read_group(s: &[u8], prev: Csn) -> GroupEnd
     }
 }
 
-// Writes the group of these redo records and their commit, and returns where it ends.
-pub fn put_group(b: &mut [u8], at: usize, id: TxId, csn: Csn, redo: Records) -> usize
-    requires { ⌜ redo .count ≤ 16 ⌝ }
-    requires { ⌜ ((k : ℕ) → k < redo .count → getD (redo .len) k 0 ≤ 32) ⌝ }
-    requires { ⌜ at + groupSize (committed (id .0) (csn .0) (writesOf redo)) ≤ length (now b) ⌝ }
-    ensures { λ r. ⌜ r ≡ at + groupSize (committed (id .0) (csn .0) (writesOf redo)) ⌝ }
-    ensures { λ _. ⌜ now (b .exit) ≡ sets (now (b .entry)) at (encodeGroup (committed (id .0) (csn .0) (writesOf redo))) ⌝ }
+// Writes the group of the first n redo records of these arrays and their commit, and returns where it ends. The i-th record has the len[i]
+// bytes from 32 * i on.
+pub fn put_group(
+    b: &mut [u8],
+    at: usize,
+    id: TxId,
+    csn: Csn,
+    n: usize,
+    addr: &[u16],
+    len: &[u8],
+    bytes: &[u8],
+) -> usize
+    requires { ⌜ (n ≤ length (now addr)) × (n ≤ length (now len)) × (n * 32 ≤ length (now bytes)) ⌝ }
+    requires { ⌜ ((k : ℕ) → k < n → getD (now len) k 0 ≤ 32) ⌝ }
+    requires { ⌜ at + groupSize (committed (id .0) (csn .0) (writesFrom (now addr) (now len) (now bytes) n 0)) ≤ length (now b) ⌝ }
+    ensures { λ r. ⌜ r ≡ at + groupSize (committed (id .0) (csn .0) (writesFrom (now (addr .entry)) (now (len .entry)) (now (bytes .entry)) n 0)) ⌝ }
+    ensures { λ _. ⌜ now (b .exit) ≡ sets (now (b .entry)) at (encodeGroup (committed (id .0) (csn .0) (writesFrom (now (addr .entry)) (now (len .entry)) (now (bytes .entry)) n 0))) ⌝ }
 {
-    let n = redo.count as usize;
-    let addr = redo.addr;
-    let len = redo.len;
-    let bytes = redo.bytes;
     let mut o = at;
     let mut i: usize = 0;
     while i < n {

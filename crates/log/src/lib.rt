@@ -2,7 +2,6 @@
 pub mod group;
 pub mod number;
 pub mod record;
-pub mod records;
 pub mod scan;
 pub mod stores;
 

@@ -1,14 +1,13 @@
 use Prim.Native.Nat.{ℕ, _+_, _-_, _*_, _≤_, _<_}
 use native.Mathlib.Nat.{sub-zero}
 use native.Mathlib.Omega.{arith}
-use borrow.Author.Needs.{needs}
 use mathlib.Core.List.{List}
 use mathlib.Core.Path.{_≡_, refl, sym, ap, _∙_}
 use lib.ListN.{length, getD, take, drop}
 use lib.Seq.{sets}
 use Rattle.recovery.specs.Group.{redoSize}
 use Rattle.log.specs.Group.{encodeBody}
-use Rattle.log.specs.Records.{writesFrom}
+use Rattle.log.specs.Flat.{writesFrom}
 use Rattle.log.proofs.FlatLaws.{turn-size, turn-stores}
 use Rattle.log.proofs.group.put_group.Statement.{statement}
 use Rattle.log.proofs.group.put_group.Tie as tie
@@ -25,41 +24,35 @@ Inv-loop b₀ at id csn n addr len bytes o₀ i₀ b o i =
 abbrev μ-loop : tie.MeasureT-loop
 μ-loop b₀ at id csn n addr len bytes o₀ i₀ b o i = n - i
 
-whole-bytes : (c : tie.Start Inv-loop μ-loop) → length (c .args .redo .bytes) ≡ 512
-whole-bytes c = search needs
+-- in a turn: the record has 32 bytes at most, and the place set aside for it lies within the bytes
+short : (c : tie.In-loop Inv-loop μ-loop) → getD (c .before .before .before .before .before .before .args .len .now) (c .before .loop .i) 0 ≤ 32
+short c = c .before .before .before .before .before .before .pre .1 .0 (c .before .loop .i) (c .loop-test .taken)
 
--- in a turn: the place is below 16, and its record has 32 bytes at most
-few : (c : tie.In-loop Inv-loop μ-loop) → c .before .loop .i < 16
-few c = omega (arith, c .loop-test .taken, c .before .before .before .before .before .before .before .pre .0)
-
-short : (c : tie.In-loop Inv-loop μ-loop) → getD (c .before .before .before .before .before .before .before .args .redo .len) (c .before .loop .i) 0 ≤ 32
-short c = c .before .before .before .before .before .before .before .pre .1 .0 (c .before .loop .i) (c .loop-test .taken)
-
-cast-n : tie.Need-cast-n Inv-loop μ-loop
-cast-n c = search needs
+aside : (c : tie.In-loop Inv-loop μ-loop) → c .before .loop .i * 32 + 32 ≤ length (c .before .before .before .before .before .before .args .bytes .now)
+aside c = omega (arith, c .loop-test .taken, c .before .before .before .before .before .before .pre .0)
 
 loop-holds : tie.Need-loop-holds Inv-loop μ-loop
 loop-holds c =
-    let r = c .before .before .before .before .before .args .redo in
-    (omega arith, refl, rw (sub-zero (r .count)), rw (sub-zero (r .count)))
+    let n = c .before .before .before .before .args .n in
+    (omega arith, refl, rw (sub-zero n), rw (sub-zero n))
 
-array-read-l : tie.Need-array-read-l Inv-loop μ-loop
-array-read-l c = omega (arith, few c)
+shared-slice-read-l : tie.Need-shared-slice-read-l Inv-loop μ-loop
+shared-slice-read-l c = omega (arith, c .before .before .before .before .before .before .before .pre .0)
 
 cast-l : tie.Need-cast-l Inv-loop μ-loop
-cast-l c = omega (arith, short c)
+cast-l c = omega (arith, short (c .before))
 
 mul-from : tie.Need-mul-from Inv-loop μ-loop
-mul-from c = omega (arith, few c)
+mul-from c = omega (arith, aside (c .before))
 
 mul-put-redo : tie.Need-mul-put-redo Inv-loop μ-loop
-mul-put-redo c = omega (arith, few (c .before))
+mul-put-redo c = omega (arith, aside (c .before .before))
 
-array-read-put-redo : tie.Need-array-read-put-redo Inv-loop μ-loop
-array-read-put-redo c = omega (arith, few (c .before))
+shared-slice-read-put-redo : tie.Need-shared-slice-read-put-redo Inv-loop μ-loop
+shared-slice-read-put-redo c = omega (arith, c .before .before .before .before .before .before .before .before .before .pre .0)
 
 add-put-redo : tie.Need-add-put-redo Inv-loop μ-loop
-add-put-redo c = omega (arith, few (c .before), short (c .before))
+add-put-redo c = omega (arith, aside (c .before .before .before), short (c .before .before .before))
 
 sub-put-redo : tie.Need-sub-put-redo Inv-loop μ-loop
 sub-put-redo c = omega arith
@@ -68,41 +61,39 @@ part-put-redo-start : tie.Need-part-put-redo-start Inv-loop μ-loop
 part-put-redo-start c = omega arith
 
 part-put-redo-end : tie.Need-part-put-redo-end Inv-loop μ-loop
-part-put-redo-end c = omega (arith, few (c .before .before), short (c .before .before), whole-bytes (c .before .before .before .before .before .before .before .before .before))
+part-put-redo-end c = omega (arith, aside (c .before .before .before), short (c .before .before .before))
 
--- what a turn does to the size and the stores that are left
+-- what a turn does to the size that is left
 size-turn : (c : tie.After-put-redo-arg2 Inv-loop μ-loop)
-    → let r = c .before .before .before .before .before .before .before .before .before .before .args .redo in
-    let i = c .before .before .before .before .loop .i in
-    redoSize (writesFrom (r .addr) (r .len) (r .bytes) (r .count - i) i)
-    ≡ 7 + getD (r .len) i 0 + redoSize (writesFrom (r .addr) (r .len) (r .bytes) (r .count - (i + 1)) (i + 1))
-size-turn c = turn-size _ _ _ _ _ (c .before .before .before .loop-test .taken) (c .put-redo-arg2 .given .2)
+    → let a = c .before .before .before .before .before .before .before .before .before .before .args in
+    let i = c .before .before .before .before .before .loop .i in
+    redoSize (writesFrom (a .addr .now) (a .len .now) (a .bytes .now) (a .n - i) i)
+    ≡ 7 + getD (a .len .now) i 0 + redoSize (writesFrom (a .addr .now) (a .len .now) (a .bytes .now) (a .n - (i + 1)) (i + 1))
+size-turn c = turn-size _ _ _ _ _ (c .before .before .before .before .loop-test .taken) (c .put-redo-arg2 .given .2)
 
 put-redo-requires : tie.Need-put-redo-requires Inv-loop μ-loop
 put-redo-requires c κs =
-    let inv = c .before .before .before .before .loop .inv in (
-      omega (arith, short (c .before .before .before)),
-      omega (arith, size-turn c, c .before .before .before .before .before .before .before .before .before .before .pre .1 .1),
-    )
+    let inv = c .before .before .before .before .before .loop .inv in
+    (omega (arith, short (c .before .before .before .before)), omega (arith, size-turn c, c .before .before .before .before .before .before .before .before .before .before .pre .1 .1))
 
 add-o : tie.Need-add-o Inv-loop μ-loop
-add-o c = omega (arith, short (c .before .before .before .before .before .before))
+add-o c = omega (arith, short (c .before .before .before .before .before .before .before))
 
 add-o-2 : tie.Need-add-o-2 Inv-loop μ-loop
 add-o-2 c =
-    let inv = c .before .before .before .before .before .before .before .loop .inv in
+    let inv = c .before .before .before .before .before .before .before .before .loop .inv in
     omega (arith, size-turn (c .before .before .before), c .before .before .before .before .before .before .before .before .before .before .before .before .before .pre .1 .1, c .before .before .before .before .before .before .before .before .before .before .before .before .before .good .0)
 
 add-i : tie.Need-add-i Inv-loop μ-loop
-add-i c = omega (arith, few (c .before .before .before .before .before .before))
+add-i c = omega (arith, aside (c .before .before .before .before .before .before .before))
 
 loop-less : tie.Need-loop-less Inv-loop μ-loop
-loop-less c = omega (arith, c .before .before .before .before .before .before .loop-test .taken)
+loop-less c = omega (arith, c .before .before .before .before .before .before .before .loop-test .taken)
 
 loop-again : tie.Need-loop-again Inv-loop μ-loop
 loop-again c =
-    let inv = c .before .before .before .before .before .before .before .loop .inv in
-    let h = c .before .before .before .before .before .before .loop-test .taken in (
+    let inv = c .before .before .before .before .before .before .before .before .loop .inv in
+    let h = c .before .before .before .before .before .before .before .loop-test .taken in (
       omega (arith, h),
       c .before .before .put-redo .kept .0 ∙ inv .1,
       omega (arith, size-turn (c .before .before .before)),
@@ -110,22 +101,22 @@ loop-again c =
     )
 
 -- after the loop nothing is left but the commit
-none-left : (c : tie.After-loop Inv-loop μ-loop) → c .before .before .before .before .before .before .before .args .redo .count - c .before .loop .i ≡ 0
+none-left : (c : tie.After-loop Inv-loop μ-loop) → c .before .before .before .before .before .before .args .n - c .before .loop .i ≡ 0
 none-left c = omega (arith, c .loop-test .left)
 
 size-left : (c : tie.After-loop Inv-loop μ-loop)
-    → let r = c .before .before .before .before .before .before .before .args .redo in redoSize (writesFrom (r .addr) (r .len) (r .bytes) (r .count - c .before .loop .i) (c .before .loop .i)) ≡ 0
+    → let a = c .before .before .before .before .before .before .args in redoSize (writesFrom (a .addr .now) (a .len .now) (a .bytes .now) (a .n - c .before .loop .i) (c .before .loop .i)) ≡ 0
 size-left c = rw (none-left c)
 
 put-commit-requires : tie.Need-put-commit-requires Inv-loop μ-loop
 put-commit-requires c κs =
     let inv = c .before .before .loop .inv in
-    omega (arith, size-left (c .before), c .before .before .before .before .before .before .before .before .pre .1 .1)
+    omega (arith, size-left (c .before), c .before .before .before .before .before .before .before .pre .1 .1)
 
 add-result : tie.Need-add-result Inv-loop μ-loop
 add-result c =
     let inv = c .before .before .before .before .before .loop .inv in
-    omega (arith, size-left (c .before .before .before .before), c .before .before .before .before .before .before .before .before .before .before .before .pre .1 .1, c .before .before .before .before .before .before .before .before .before .before .before .good .0)
+    omega (arith, size-left (c .before .before .before .before), c .before .before .before .before .before .before .before .before .before .before .pre .1 .1, c .before .before .before .before .before .before .before .before .before .before .good .0)
 
 same-length : tie.Need-same-length Inv-loop μ-loop
 same-length c = c .before .before .put-commit .kept .0 ∙ c .before .before .before .before .before .loop .inv .1
@@ -141,13 +132,12 @@ put-group-spec =
     (tie.spec
     Inv-loop
     μ-loop
-    cast-n
     loop-holds
-    array-read-l
+    shared-slice-read-l
     cast-l
     mul-from
     mul-put-redo
-    array-read-put-redo
+    shared-slice-read-put-redo
     add-put-redo
     sub-put-redo
     part-put-redo-start

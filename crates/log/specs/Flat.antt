@@ -1,11 +1,10 @@
--- A transaction's records as the code holds them, seen as a list of writes.
+-- Records in flat arrays, as the code holds them, seen as a list of writes.
 use Prim.Native.Nat.{ℕ, zero, suc, _*_}
 use mathlib.Core.List.{List, [], _∷_}
 use lib.ListN.{getD, take, drop}
 use Rattle.recovery.specs.Group.{Write}
-use Rattle.log.specs.declared.records.Records.{Records}
 
--- the i-th record: 32 bytes are set aside for each
+-- the i-th record: an address, a length, and that many of the 32 bytes that are set aside for it
 abbrev pub writeAt : List ℕ → List ℕ → List ℕ → ℕ → Write
 writeAt addr len bytes i = record { addr = getD addr i 0; bytes = take (getD len i 0) (drop (i * 32) bytes) }
 
@@ -13,6 +12,3 @@ writeAt addr len bytes i = record { addr = getD addr i 0; bytes = take (getD len
 abbrev pub writesFrom : List ℕ → List ℕ → List ℕ → ℕ → ℕ → List Write
 writesFrom addr len bytes zero i = []
 writesFrom addr len bytes (suc k) i = writeAt addr len bytes i ∷ writesFrom addr len bytes k (suc i)
-
-abbrev pub writesOf : Records → List Write
-writesOf r = writesFrom (r .addr) (r .len) (r .bytes) (r .count) 0
