@@ -3,7 +3,7 @@
 use Prim.Native.Nat.{ℕ, zero, suc, _+_, _*_, _/_, _%_, _≤_, _<_}
 use native.Mathlib.Nat.{zero-add, suc-add}
 use native.Mathlib.Omega.{arith}
-use mathlib.Core.Bool.{Bool, true, false, _&&_}
+use mathlib.Core.Bool.{Bool, true, false, not, _&&_}
 use mathlib.Core.List.{List, [], _∷_, _++_, append-assoc}
 use mathlib.Core.Option.{Option, none, some}
 use mathlib.Core.Path.{_≡_, refl, sym, ap, ap₂, _∙_, subst}
@@ -12,11 +12,12 @@ use lib.Seq.{getD-append-seam, take-append-seam, getD-take, take-take, take-nil,
 use lib.Dec.{eqb}
 use borrow.Author.Tests.{eqb-true}
 use Rattle.recovery.specs.Group.{Write, Group, committed, aborted, redoSize, groupSize, groupsSize, csnAfter, lastCsn}
-use Rattle.log.specs.Record.{Record, redo, commit, abort, size, encode, wellFormed, readRedo, readCommit, readAbort, readRecord}
+use Rattle.log.specs.Number.{be2}
+use Rattle.log.specs.Record.{Record, redo, commit, abort, size, encode, wellFormed, inRange, readRedo, readCommit, readAbort, readKind, readRecord}
 use Rattle.log.specs.Group.{encodeBody, encodeGroup, wellFormedBody, wellFormedGroup, readBody, readGroup}
 use Rattle.log.specs.Log.{readLog, encodeLog, wellFormedLog}
-use Rattle.log.proofs.Basics.{and-left, and-right}
-use Rattle.log.proofs.RecordLaws.{record-cases, redo-ends, commit-ends, abort-ends}
+use Rattle.log.proofs.Basics.{and-left, and-right, not-yes}
+use Rattle.log.proofs.RecordLaws.{record-cases, record-named, record-by, redo-ends, commit-ends, abort-ends}
 use Rattle.log.proofs.GroupLaws.{body-inv, body-intro, group-inv, group-intro}
 use Rattle.log.proofs.LogLaws.{log-more, log-inv}
 
@@ -49,9 +50,9 @@ length-log (g ∷ gs) = length-append (encodeGroup g) (encodeLog gs) ∙ ap₂ _
 -- ---- round trip
 
 pub record-written : (r : Record) (rest : List ℕ) → wellFormed r ≡ true → readRecord (encode r ++ rest) ≡ some r
-unfolding readRecord readRedo readCommit readAbort
-record-written (abort id) rest h = simp (joined2, h)
-record-written (commit id n) rest h = simp (joined2, joined4, h)
+unfolding readRedo readCommit readAbort
+record-written (abort id) rest h = record-by _ 3 id refl (joined2 id) (not-yes _ h)
+record-written (commit id n) rest h = record-by _ 2 id refl (joined2 id) (not-yes _ h) ∙ simp (joined2, joined4)
 record-written (redo id w) rest h =
     let bs = w .bytes in
     let n = length bs in
@@ -60,7 +61,9 @@ record-written (redo id w) rest h =
     let a : u ≡ bs ++ (1 ∷ rest) = append-assoc bs (1 ∷ []) rest in
     let k : getD s (6 + n) 0 ≡ 1 = ap (λ (i : ℕ). getD s i 0) six ∙ (ap (λ (l : List ℕ). getD l n 0) a ∙ getD-append-seam bs 1 rest 0) in
     let b : take n u ≡ bs = ap (take n) a ∙ take-append-seam bs (1 ∷ rest) in
-    simp (k, joined2, b, h)
+    let named = not (eqb id 0) in
+    let ranged = inRange (w .addr) n in
+    record-by s 1 id refl (joined2 id) (not-yes (eqb id 0) (and-left named ranged h)) ∙ simp (k, joined2, b, and-right named ranged h)
   where
     six : 6 + length (w .bytes) ≡ suc (suc (suc (suc (suc (suc (length (w .bytes)))))))
     six = omega arith
@@ -120,30 +123,36 @@ pub same-rest : (m k : ℕ) (s t : List ℕ) → Same (m + k) s t → Same k (dr
 same-rest m k s t e = sym (drop-take m k t) ∙ ap (drop m) e ∙ drop-take m k s
 
 pub record-same : (s t : List ℕ) (r : Record) → readRecord s ≡ some r → Same (size r) s t → readRecord t ≡ some r
-unfolding readRecord readRedo readCommit readAbort
-record-same s t r e a = record-cases (λ r. Same (size r) s t → readRecord t ≡ some r) s of-redo of-commit of-abort r e a
+unfolding readRedo readCommit readAbort
+record-same s t r e = record-cases (λ r. Same (size r) s t → readRecord t ≡ some r) s of-redo of-commit of-abort r e
   where
-    of-redo : (r : Record) → getD s 0 0 ≡ 1 → readRedo s ≡ some r → Same (size r) s t → readRecord t ≡ some r
+    named : eqb (be2 s 1) 0 ≡ false
+    named = record-named s r e
+
+    -- the same kind and id
+    begins : (n kind : ℕ) → 4 ≤ n → getD s 0 0 ≡ kind → Same n s t → readRecord t ≡ readKind kind (be2 s 1) t
+    begins n kind h k a =
+        let g = same-at n s t a in
+        record-by t kind (be2 s 1) (g 0 (omega arith) ∙ k) (ap₂ (λ (x y : ℕ). x * 256 + y) (g 1 (omega arith)) (g 2 (omega arith))) named
+
+    of-redo : (r : Record) → getD s 0 0 ≡ 1 → readRedo (be2 s 1) s ≡ some r → Same (size r) s t → readRecord t ≡ some r
     of-redo r k e a =
         let n = getD s 5 0 in
-        let z : size r ≡ suc (6 + n) = redo-ends s r e .sized in
+        let z : size r ≡ suc (6 + n) = redo-ends _ s r e .sized in
         let g = same-at (size r) s t a in
         let b : take n (drop 6 t) ≡ take n (drop 6 s) = same-rest 6 n s t (same-less (6 + n) (size r) s t (omega arith) a) in
-        rw (g 0 (omega arith) ∙ k)
-        (simp (g 1 (omega arith), g 2 (omega arith), g 3 (omega arith), g 4 (omega arith), g 5 (omega arith), g (6 + n) (omega arith), b) e)
+        begins (size r) 1 (omega arith) k a ∙ simp (g 3 (omega arith), g 4 (omega arith), g 5 (omega arith), g (6 + n) (omega arith), b) e
 
-    of-commit : (r : Record) → getD s 0 0 ≡ 2 → readCommit s ≡ some r → Same (size r) s t → readRecord t ≡ some r
+    of-commit : (r : Record) → getD s 0 0 ≡ 2 → readCommit (be2 s 1) s ≡ some r → Same (size r) s t → readRecord t ≡ some r
     of-commit r k e a =
-        let z : size r ≡ 8 = commit-ends s r e .sized in
+        let z : size r ≡ 8 = commit-ends _ s r e .sized in
         let g = same-at (size r) s t a in
-        rw (g 0 (omega arith) ∙ k)
-        (simp (g 1 (omega arith), g 2 (omega arith), g 3 (omega arith), g 4 (omega arith), g 5 (omega arith), g 6 (omega arith), g 7 (omega arith)) e)
+        begins (size r) 2 (omega arith) k a ∙ simp (g 3 (omega arith), g 4 (omega arith), g 5 (omega arith), g 6 (omega arith), g 7 (omega arith)) e
 
-    of-abort : (r : Record) → getD s 0 0 ≡ 3 → readAbort s ≡ some r → Same (size r) s t → readRecord t ≡ some r
+    of-abort : (r : Record) → getD s 0 0 ≡ 3 → readAbort (be2 s 1) s ≡ some r → Same (size r) s t → readRecord t ≡ some r
     of-abort r k e a =
-        let z : size r ≡ 4 = abort-ends s r e .sized in
-        let g = same-at (size r) s t a in
-        rw (g 0 (omega arith) ∙ k) (simp (g 1 (omega arith), g 2 (omega arith), g 3 (omega arith)) e)
+        let z : size r ≡ 4 = abort-ends _ s r e .sized in
+        begins (size r) 3 (omega arith) k a ∙ simp (same-at (size r) s t a 3 (omega arith)) e
 
 pub body-same : (prev id : ℕ) (ws : List Write) (s t : List ℕ) → readBody prev id s ≡ some ws → Same (redoSize ws + 8) s t → readBody prev id t ≡ some ws
 body-same prev id [] s t e a = body-intro prev id t [] (record-same s t (commit id (prev + 1)) (body-inv prev id s [] e) a)

@@ -16,7 +16,7 @@ use Rattle.log.specs.Record.{Record, redo, commit, abort, size, encode, 
 use Rattle.log.specs.Group.{encodeBody, encodeGroup, wellFormedBody, wellFormedGroup, readBody, readGroup}
 use Rattle.log.specs.Log.{readLog, encodeLog, wellFormedLog}
 use Rattle.log.proofs.Basics.{clash, and-left, and-right, and-both, nonzero-within}
-use Rattle.log.proofs.RecordLaws.{keep-inv, record-cases}
+use Rattle.log.proofs.RecordLaws.{keep-inv, record-cases, record-named}
 use Rattle.log.proofs.GroupLaws.{body-inv, group-inv}
 use Rattle.log.proofs.LogLaws.{log-inv, log-inv-none, log-none}
 use Rattle.log.proofs.RoundTrip.{record-written, group-written, log-written}
@@ -72,76 +72,86 @@ front4 s i h =
 
 -- ---- records
 
-Sound : List ℕ → Record → Type 0
-Sound s r = (s ≡ encode r ++ drop (size r) s) × (wellFormed r ≡ true)
+module _ (s : List ℕ) (b : Bytes s) where
+  abort-sound : getD s 0 0 ≡ 3 → (r : Record) → readAbort (be2 s 1) s ≡ some r → s ≡ encode r ++ drop (size r) s
+  unfolding readAbort
+  abort-sound k r e =
+      let i = keep-inv _ _ r e in
+      let z : getD s 3 0 ≡ 3 = eqb-true _ _ (i .0) in
+      let l = nonzero-within s 3 2 z in
+      let h = high2 (getD s 1 0) (getD s 2 0) (b 2) in
+      let w = low2 (getD s 1 0) (getD s 2 0) (b 2) in
+      let f = front4 s 0 (omega arith) in
+      subst (λ (r : Record). s ≡ encode r ++ drop (size r) s) (i .1) (cc)
 
-abort-sound : (s : List ℕ) → Bytes s → getD s 0 0 ≡ 3 → (r : Record) → readAbort s ≡ some r → Sound s r
-unfolding readAbort Sound
-abort-sound s b k r e =
-    let i = keep-inv _ _ r e in
-    let z : getD s 3 0 ≡ 3 = eqb-true _ _ (and-left _ _ (i .0)) in
-    let l = nonzero-within s 3 2 z in
-    let h = high2 (getD s 1 0) (getD s 2 0) (b 2) in
-    let w = low2 (getD s 1 0) (getD s 2 0) (b 2) in
-    let f = front4 s 0 (omega arith) in
-    subst (λ (r : Record). Sound s r) (i .1) (cc, and-right (eqb (getD s 3 0) 3) (not (eqb (be2 s 1) 0)) (i .0))
+  commit-sound : getD s 0 0 ≡ 2 → (r : Record) → readCommit (be2 s 1) s ≡ some r → s ≡ encode r ++ drop (size r) s
+  unfolding readCommit
+  commit-sound k r e =
+      let i = keep-inv _ _ r e in
+      let z : getD s 7 0 ≡ 2 = eqb-true _ _ (i .0) in
+      let l = nonzero-within s 7 1 z in
+      let h = high2 (getD s 1 0) (getD s 2 0) (b 2) in
+      let w = low2 (getD s 1 0) (getD s 2 0) (b 2) in
+      let n = bytes4-read s 3 b in
+      let f = front4 s 0 (omega arith) in
+      let g = front4 s 4 (omega arith) in
+      subst (λ (r : Record). s ≡ encode r ++ drop (size r) s) (i .1) (cc)
 
-commit-sound : (s : List ℕ) → Bytes s → getD s 0 0 ≡ 2 → (r : Record) → readCommit s ≡ some r → Sound s r
-unfolding readCommit Sound
-commit-sound s b k r e =
-    let i = keep-inv _ _ r e in
-    let z : getD s 7 0 ≡ 2 = eqb-true _ _ (and-left _ _ (i .0)) in
-    let l = nonzero-within s 7 1 z in
-    let h = high2 (getD s 1 0) (getD s 2 0) (b 2) in
-    let w = low2 (getD s 1 0) (getD s 2 0) (b 2) in
-    let n = bytes4-read s 3 b in
-    let f = front4 s 0 (omega arith) in
-    let g = front4 s 4 (omega arith) in
-    subst (λ (r : Record). Sound s r) (i .1) (cc, and-right (eqb (getD s 7 0) 2) (not (eqb (be2 s 1) 0)) (i .0))
+  -- the new bytes, the last byte, and what follows the record
+  redo-rest : (n : ℕ) → getD s (6 + n) 0 ≡ 1 → 6 + n < length s → length (take n (drop 6 s)) ≡ n
+      → drop 6 s ≡ (take n (drop 6 s) ++ (1 ∷ [])) ++ drop (7 + length (take n (drop 6 s))) s
+  redo-rest n z l d =
+      let bs = take n (drop 6 s) in
+      let e : suc (6 + n) ≡ 7 + length bs = omega arith in
+      sym (take-append-drop n (drop 6 s))
+      ∙ ap (λ (r : List ℕ). bs ++ r) (drop-drop n 6 s ∙ drop-cons s (6 + n) 0 l ∙ ap₂ (λ (x j : ℕ). x ∷ drop j s) z e)
+      ∙ sym (append-assoc bs (1 ∷ []) (drop (7 + length bs) s))
 
--- the new bytes, the last byte, and what follows the record
-redo-rest : (s : List ℕ) (n : ℕ) → getD s (6 + n) 0 ≡ 1 → 6 + n < length s → length (take n (drop 6 s)) ≡ n
-    → drop 6 s ≡ (take n (drop 6 s) ++ (1 ∷ [])) ++ drop (7 + length (take n (drop 6 s))) s
-redo-rest s n z l d =
-    let bs = take n (drop 6 s) in
-    let e : suc (6 + n) ≡ 7 + length bs = omega arith in
-    sym (take-append-drop n (drop 6 s))
-    ∙ ap (λ (r : List ℕ). bs ++ r) (drop-drop n 6 s ∙ drop-cons s (6 + n) 0 l ∙ ap₂ (λ (x j : ℕ). x ∷ drop j s) z e)
-    ∙ sym (append-assoc bs (1 ∷ []) (drop (7 + length bs) s))
+  redo-sound : getD s 0 0 ≡ 1 → (r : Record) → readRedo (be2 s 1) s ≡ some r → s ≡ encode r ++ drop (size r) s
+  unfolding readRedo
+  redo-sound k r e =
+      let i = keep-inv _ _ r e in
+      let n = getD s 5 0 in
+      let z : getD s (6 + n) 0 ≡ 1 = eqb-true _ _ (and-left _ _ (i .0)) in
+      let l = nonzero-within s (6 + n) 0 z in
+      let d : length (take n (drop 6 s)) ≡ n = length-take-le n (drop 6 s) (simp length-drop (omega arith)) in
+      let c = redo-rest n z l d in
+      let h = high2 (getD s 1 0) (getD s 2 0) (b 2) in
+      let w = low2 (getD s 1 0) (getD s 2 0) (b 2) in
+      let p = high2 (getD s 3 0) (getD s 4 0) (b 4) in
+      let q = low2 (getD s 3 0) (getD s 4 0) (b 4) in
+      let f = front4 s 0 (omega arith) in
+      let g = front2 s 4 (omega arith) in
+      subst (λ (r : Record). s ≡ encode r ++ drop (size r) s) (i .1) (cc)
 
-redo-sound : (s : List ℕ) → Bytes s → getD s 0 0 ≡ 1 → (r : Record) → readRedo s ≡ some r → Sound s r
-unfolding readRedo Sound
-redo-sound s b k r e =
-    let i = keep-inv _ _ r e in
-    let n = getD s 5 0 in
-    let bs = take n (drop 6 s) in
-    let ends = eqb (getD s (6 + n) 0) 1 in
-    let named = not (eqb (be2 s 1) 0) in
-    let ranged = inRange (be2 s 3) n in
-    let z : getD s (6 + n) 0 ≡ 1 = eqb-true _ _ (and-left ends named (and-left (ends && named) ranged (i .0))) in
-    let l = nonzero-within s (6 + n) 0 z in
-    let d : length bs ≡ n = length-take-le n (drop 6 s) (simp length-drop (omega arith)) in
-    let y : wellFormed (redo (be2 s 1) (record { addr = be2 s 3; bytes = bs })) ≡ true =
-    rw d (and-both named ranged (and-right ends named (and-left (ends && named) ranged (i .0))) (and-right (ends && named) ranged (i .0))) in
-    let c : drop 6 s ≡ (bs ++ (1 ∷ [])) ++ drop (7 + length bs) s = redo-rest s n z l d in
-    let h = high2 (getD s 1 0) (getD s 2 0) (b 2) in
-    let w = low2 (getD s 1 0) (getD s 2 0) (b 2) in
-    let p = high2 (getD s 3 0) (getD s 4 0) (b 4) in
-    let q = low2 (getD s 3 0) (getD s 4 0) (b 4) in
-    let f = front4 s 0 (omega arith) in
-    let g = front2 s 4 (omega arith) in
-    subst (λ (r : Record). Sound s r) (i .1) (cc, y)
+  pub record-sound : (r : Record) → readRecord s ≡ some r → s ≡ encode r ++ drop (size r) s
+  record-sound = record-cases (λ r. s ≡ encode r ++ drop (size r) s) s (λ r k. redo-sound k r) (λ r k. commit-sound k r) (λ r k. abort-sound k r)
 
-sound : (s : List ℕ) → Bytes s → (r : Record) → readRecord s ≡ some r → Sound s r
-sound s b = record-cases (λ r. Sound s r) s (λ r k. redo-sound s b k r) (λ r k. commit-sound s b k r) (λ r k. abort-sound s b k r)
+-- what is read is well formed
+module _ (id : ℕ) (s : List ℕ) (r : Record) (named : not (eqb id 0) ≡ true) where
+  redo-formed : readRedo id s ≡ some r → wellFormed r ≡ true
+  unfolding readRedo
+  redo-formed e =
+      let i = keep-inv _ _ r e in
+      let n = getD s 5 0 in
+      let ends = eqb (getD s (6 + n) 0) 1 in
+      let ranged = inRange (be2 s 3) n in
+      let l = nonzero-within s (6 + n) 0 (eqb-true _ _ (and-left ends ranged (i .0))) in
+      let d : length (take n (drop 6 s)) ≡ n = length-take-le n (drop 6 s) (simp length-drop (omega arith)) in
+      subst (λ (r : Record). wellFormed r ≡ true) (i .1) (rw d (and-both (not (eqb id 0)) ranged named (and-right ends ranged (i .0))))
 
-pub record-sound : (s : List ℕ) → Bytes s → (r : Record) → readRecord s ≡ some r → s ≡ encode r ++ drop (size r) s
-unfolding Sound
-record-sound s b r e = sound s b r e .0
+  commit-formed : readCommit id s ≡ some r → wellFormed r ≡ true
+  unfolding readCommit
+  commit-formed e = let i = keep-inv (eqb (getD s 7 0) 2) (commit id (be4 s 3)) r e in subst (λ (r : Record). wellFormed r ≡ true) (i .1) named
 
-pub record-formed : (s : List ℕ) → Bytes s → (r : Record) → readRecord s ≡ some r → wellFormed r ≡ true
-unfolding Sound
-record-formed s b r e = sound s b r e .1
+  abort-formed : readAbort id s ≡ some r → wellFormed r ≡ true
+  unfolding readAbort
+  abort-formed e = let i = keep-inv (eqb (getD s 3 0) 3) (abort id) r e in subst (λ (r : Record). wellFormed r ≡ true) (i .1) named
+
+pub record-formed : (s : List ℕ) (r : Record) → readRecord s ≡ some r → wellFormed r ≡ true
+record-formed s r e =
+    let n : not (eqb (be2 s 1) 0) ≡ true = rw (record-named s r e) in
+    record-cases (λ r. wellFormed r ≡ true) s (λ r k. redo-formed _ s r n) (λ r k. commit-formed _ s r n) (λ r k. abort-formed _ s r n) r e
 
 -- ---- groups
 
@@ -165,19 +175,19 @@ group-sound prev s b (committed id n ws) e =
     let i = group-inv prev s (committed id n ws) e in
     rw (i .0) (body-sound prev id ws s b (i .1))
 
-body-formed : (prev id : ℕ) (ws : List Write) (s : List ℕ) → Bytes s → readBody prev id s ≡ some ws → wellFormedBody id (prev + 1) ws ≡ true
-body-formed prev id [] s b e = record-formed s b (commit id (prev + 1)) (body-inv prev id s [] e)
-body-formed prev id (w ∷ ws) s b e =
+body-formed : (prev id : ℕ) (ws : List Write) (s : List ℕ) → readBody prev id s ≡ some ws → wellFormedBody id (prev + 1) ws ≡ true
+body-formed prev id [] s e = record-formed s (commit id (prev + 1)) (body-inv prev id s [] e)
+body-formed prev id (w ∷ ws) s e =
     let i = body-inv prev id s (w ∷ ws) e in
     let m = 7 + length (w .bytes) in
-    and-both (wellFormed (redo id w)) (wellFormedBody id (prev + 1) ws) (record-formed s b (redo id w) (i .0))
-    (body-formed prev id ws (drop m s) (bytes-drop m s b) (i .1))
+    and-both (wellFormed (redo id w)) (wellFormedBody id (prev + 1) ws) (record-formed s (redo id w) (i .0))
+    (body-formed prev id ws (drop m s) (i .1))
 
-pub group-formed : (prev : ℕ) (s : List ℕ) → Bytes s → (g : Group) → readGroup prev s ≡ some g → wellFormedGroup prev g ≡ true
-group-formed prev s b (aborted id) e = record-formed s b (abort id) (group-inv prev s (aborted id) e)
-group-formed prev s b (committed id n ws) e =
+pub group-formed : (prev : ℕ) (s : List ℕ) (g : Group) → readGroup prev s ≡ some g → wellFormedGroup prev g ≡ true
+group-formed prev s (aborted id) e = record-formed s (abort id) (group-inv prev s (aborted id) e)
+group-formed prev s (committed id n ws) e =
     let i = group-inv prev s (committed id n ws) e in
-    rw (i .0) (and-both (eqb (prev + 1) (prev + 1)) (wellFormedBody id (prev + 1) ws) (eq-eqb (prev + 1) (prev + 1) refl) (body-formed prev id ws s b (i .1)))
+    rw (i .0) (and-both (eqb (prev + 1) (prev + 1)) (wellFormedBody id (prev + 1) ws) (eq-eqb (prev + 1) (prev + 1) refl) (body-formed prev id ws s (i .1)))
 
 -- ---- logs
 
@@ -188,12 +198,12 @@ log-sound prev (g ∷ gs) s b e =
     joined s (encodeGroup g) (encodeLog gs) (groupSize g) (groupsSize gs) (groupsSize (g ∷ gs)) (group-sound prev s b g (i .0))
     (log-sound (csnAfter prev g) gs (drop (groupSize g) s) (bytes-drop (groupSize g) s b) (i .1)) refl
 
-pub log-formed : (prev : ℕ) (gs : List Group) (s : List ℕ) → Bytes s → readLog prev s ≡ gs → wellFormedLog prev gs ≡ true
-log-formed prev [] s b e = refl
-log-formed prev (g ∷ gs) s b e =
+pub log-formed : (prev : ℕ) (gs : List Group) (s : List ℕ) → readLog prev s ≡ gs → wellFormedLog prev gs ≡ true
+log-formed prev [] s e = refl
+log-formed prev (g ∷ gs) s e =
     let i = log-inv prev s g gs e in
-    and-both (wellFormedGroup prev g) (wellFormedLog (csnAfter prev g) gs) (group-formed prev s b g (i .0))
-    (log-formed (csnAfter prev g) gs (drop (groupSize g) s) (bytes-drop (groupSize g) s b) (i .1))
+    and-both (wellFormedGroup prev g) (wellFormedLog (csnAfter prev g) gs) (group-formed prev s g (i .0))
+    (log-formed (csnAfter prev g) gs (drop (groupSize g) s) (i .1))
 
 -- ---- one reading at most: what begins with the bytes of two is one
 

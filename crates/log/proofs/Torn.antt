@@ -16,7 +16,7 @@ use Rattle.log.specs.Record.{Record, redo, commit, abort, size, readReco
 use Rattle.log.specs.Group.{readBody, readGroup}
 use Rattle.log.specs.Log.{readLog, encodeLog, wellFormedLog}
 use Rattle.log.proofs.Basics.{clash}
-use Rattle.log.proofs.RecordLaws.{record-ends}
+use Rattle.log.proofs.RecordLaws.{record-none, record-ends}
 use Rattle.log.proofs.GroupLaws.{body-inv, group-inv, group-none, group-within}
 use Rattle.log.proofs.LogLaws.{log-none, log-more, log-inv, log-inv-none}
 use Rattle.log.proofs.RoundTrip.{drop-take, group-same, log-written}
@@ -58,8 +58,7 @@ before-zeros (x ∷ p) m zero k e = omega arith
 before-zeros (x ∷ p) m (suc n) k e = omega (arith, before-zeros p m n k e)
 
 pub zeros-none : (prev m : ℕ) → readGroup prev (replicate m 0) ≡ none
-unfolding readRecord
-zeros-none prev m = group-none prev (replicate m 0) (rw (zeros-at m 0))
+zeros-none prev m = group-none prev (replicate m 0) (record-none (replicate m 0) (omega (arith, zeros-at m 1, zeros-at m 2)))
 
 pub log-zeros : (prev m : ℕ) → readLog prev (replicate m 0) ≡ []
 log-zeros prev m = log-none prev (replicate m 0) (zeros-none prev m)
