@@ -1,6 +1,6 @@
 -- Laws of `readBody` and `readGroup`: a record at a time, what was read taken apart (-inv) and put together (-intro), and that it lies
 -- within the list.
-use Prim.Native.Nat.{ℕ, suc, _+_, _-_, _≤_, _<_}
+use Prim.Native.Nat.{ℕ, _+_, _≤_}
 use native.Mathlib.Omega.{arith}
 use mathlib.Core.Bool.{Bool, true, false, cond, _&&_}
 use mathlib.Core.List.{List, [], _∷_}
@@ -11,10 +11,10 @@ use lib.Seq.{drop-drop}
 use lib.Dec.{eqb}
 use borrow.Author.Tests.{eq-eqb, ne-eqb, eqb-true}
 use Rattle.recovery.specs.Group.{Write, Group, committed, aborted, redoSize, groupSize}
-use Rattle.log.specs.Record.{Record, redo, commit, abort, size, readRecord}
+use Rattle.log.specs.Record.{Record, redo, commit, abort, readRecord}
 use Rattle.log.specs.Group.{groupBy, turnOf, more, last, stop, andThen, onTurn, bodyStep, readBody, committedIf, readGroup, endOf}
 use Rattle.log.specs.declared.group.GroupEnd.{GroupEnd}
-use Rattle.log.specs.declared.group.GroupEnd.the-variants.{Aborted, Committed, NoGroup}
+use Rattle.log.specs.declared.group.GroupEnd.the-variants.{Committed, NoGroup}
 use Rattle.log.proofs.Basics.{clash, and-left, and-right}
 use Rattle.log.proofs.Reader.{Shrinks, step}
 use Rattle.log.proofs.RecordLaws.{record-within}

@@ -1,15 +1,14 @@
 -- Laws of `readLog`: a group at a time.
-use Prim.Native.Nat.{ℕ, suc, _+_, _-_, _≤_, _<_}
+use Prim.Native.Nat.{ℕ, _+_, _-_, _≤_, _<_}
 use native.Mathlib.Omega.{arith}
 use mathlib.Core.List.{List, [], _∷_}
 use mathlib.Core.Option.{Option, none, some}
 use mathlib.Core.Path.{_≡_, refl, sym, ap, _∙_, subst}
 use lib.ListN.{length, drop, length-drop}
 use lib.Seq.{drop-drop}
-use Rattle.recovery.specs.Group.{Group, groupSize, groupsSize, csnAfter, lastCsn}
+use Rattle.recovery.specs.Group.{Group, groupSize, csnAfter, lastCsn}
 use Rattle.log.specs.Group.{readGroup}
 use Rattle.log.specs.Log.{onGroup, logStep, readLog, logEndOf}
-use Rattle.log.specs.declared.scan.LogEnd.{LogEnd}
 use Rattle.log.proofs.Basics.{clash}
 use Rattle.log.proofs.Reader.{Shrinks, step}
 use Rattle.log.proofs.GroupLaws.{group-within}

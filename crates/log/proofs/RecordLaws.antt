@@ -2,7 +2,7 @@
 use Prim.Native.Nat.{ℕ, suc, _+_, _-_, _≤_, _<_}
 use native.Mathlib.Decide.{decLe}
 use native.Mathlib.Omega.{arith}
-use mathlib.Core.Bool.{Bool, true, false, cond, _&&_}
+use mathlib.Core.Bool.{Bool, true, false, cond}
 use mathlib.Core.List.{List}
 use mathlib.Core.Option.{Option, none, some}
 use mathlib.Core.Path.{_≡_, refl, sym, _∙_, subst}
@@ -11,7 +11,7 @@ use lib.Seq.{length-take-le}
 use lib.Dec.{eqb, leb}
 use borrow.Author.Tests.{eqb-true, le-leb, lt-leb}
 use Rattle.log.specs.Number.{be2}
-use Rattle.log.specs.Record.{Record, redo, commit, abort, size, keep, readRedo, readCommit, readAbort, readKind, readRecord}
+use Rattle.log.specs.Record.{Record, size, keep, readRedo, readCommit, readAbort, readKind, readRecord}
 use Rattle.log.proofs.Basics.{clash, and-left, nonzero-within}
 
 pub keep-inv : (t : Bool) (x r : Record) → keep t x ≡ some r → (t ≡ true) × (x ≡ r)

@@ -1,10 +1,10 @@
 -- Soundness: what a reader accepts is the encoding of what it answers, and is well formed. So a string of bytes has one reading at most,
 -- and two meanings never share their bytes.
-use Prim.Native.Nat.{ℕ, zero, suc, _+_, _*_, _/_, _%_, _≤_, _<_}
+use Prim.Native.Nat.{ℕ, suc, _+_, _*_, _/_, _%_, _≤_, _<_}
 use native.Mathlib.Omega.{arith}
-use mathlib.Core.Bool.{Bool, true, false, not, _&&_}
+use mathlib.Core.Bool.{true, not}
 use mathlib.Core.List.{List, [], _∷_, _++_, append-assoc, append-nil}
-use mathlib.Core.Option.{Option, none, some}
+use mathlib.Core.Option.{some}
 use mathlib.Core.Path.{_≡_, refl, sym, ap, ap₂, _∙_, subst}
 use lib.ListN.{length, getD, take, drop, length-drop, take-append-drop}
 use lib.Seq.{drop-cons, drop-drop, getD-drop, length-take-le}
@@ -15,10 +15,10 @@ use Rattle.log.specs.Number.{be2, be4, bytes2, bytes4}
 use Rattle.log.specs.Record.{Record, redo, commit, abort, size, encode, wellFormed, inRange, readRedo, readCommit, readAbort, readRecord}
 use Rattle.log.specs.Group.{encodeBody, encodeGroup, wellFormedBody, wellFormedGroup, readBody, readGroup}
 use Rattle.log.specs.Log.{readLog, encodeLog, wellFormedLog}
-use Rattle.log.proofs.Basics.{clash, and-left, and-right, and-both, nonzero-within}
+use Rattle.log.proofs.Basics.{and-left, and-right, and-both, nonzero-within}
 use Rattle.log.proofs.RecordLaws.{keep-inv, record-cases, record-named}
 use Rattle.log.proofs.GroupLaws.{body-inv, group-inv}
-use Rattle.log.proofs.LogLaws.{log-inv, log-inv-none, log-none}
+use Rattle.log.proofs.LogLaws.{log-inv}
 use Rattle.log.proofs.RoundTrip.{record-written, group-written, log-written}
 
 -- ---- numbers that were read are written as the same bytes

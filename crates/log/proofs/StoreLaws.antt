@@ -1,5 +1,5 @@
 -- Laws of stores: runs of stores (`sets l i vs`, l with vs stored from i on), and the first so many stores of a list.
-use Prim.Native.Nat.{ℕ, zero, suc, _+_, _-_, _≤_, _<_, min}
+use Prim.Native.Nat.{ℕ, zero, suc, _+_, _-_, _≤_, _<_}
 use native.Mathlib.Nat.{add-zero, suc-add}
 use native.Mathlib.Numerals.{add-one, towards-suc}
 use native.Mathlib.Omega.{arith}
@@ -7,7 +7,6 @@ use mathlib.Core.List.{List, [], _∷_, _++_}
 use mathlib.Core.Path.{_≡_, refl, sym, ap, _∙_}
 use lib.ListN.{length, take, drop, getD, set, replicate, length-set, take-append-drop}
 use lib.Seq.{sets, take-suc, take-nil, length-take-le, take-set-le, drop-set-lt, drop-cons, getD-set-same}
-use Rattle.recovery.specs.Group.{Write}
 use Rattle.log.specs.Number.{bytes2}
 use Rattle.log.specs.Record.{redo, encode}
 use Rattle.log.specs.Stores.{Store, store, apply, copies, clears}

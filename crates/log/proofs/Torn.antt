@@ -3,16 +3,15 @@
 use Prim.Native.Nat.{ℕ, zero, suc, _+_, _-_, _≤_, _<_}
 use native.Mathlib.Decide.{decLe}
 use native.Mathlib.Omega.{arith}
-use mathlib.Core.Bool.{Bool, true, false}
+use mathlib.Core.Bool.{true}
 use mathlib.Core.List.{List, [], _∷_, _++_, append-nil}
 use mathlib.Core.Option.{Option, none, some}
-use mathlib.Core.Path.{_≡_, refl, sym, ap, ap₂, _∙_}
+use mathlib.Core.Path.{_≡_, refl, sym, ap, _∙_}
 use lib.ListN.{length, getD, take, drop, replicate, length-take}
 use lib.Seq.{getD-drop, take-append-le, drop-append-le, take-take}
-use lib.Dec.{leb}
 use borrow.Author.Tests.{le-leb, lt-leb}
 use Rattle.recovery.specs.Group.{Write, Group, committed, aborted, redoSize, groupSize, csnAfter, lastCsn, fitting}
-use Rattle.log.specs.Record.{Record, redo, commit, abort, size, readRecord}
+use Rattle.log.specs.Record.{Record, commit, abort, size, readRecord}
 use Rattle.log.specs.Group.{readBody, readGroup}
 use Rattle.log.specs.Log.{readLog, encodeLog, wellFormedLog}
 use Rattle.log.proofs.Basics.{clash}

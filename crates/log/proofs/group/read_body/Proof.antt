@@ -3,11 +3,10 @@ use native.Mathlib.Omega.{arith}
 use borrow.Author.Needs.{needs}
 use mathlib.Core.Path.{_≡_, refl, sym, ap, _∙_}
 use lib.ListN.{length, drop, length-drop}
-use lib.Seq.{drop-drop}
 use denote.Ref.{now}
 use mathlib.Core.List.{List}
-use mathlib.Core.Option.{some, none}
-use Rattle.log.specs.Record.{redo, commit, abort, readRecord, headOf}
+use mathlib.Core.Option.{some}
+use Rattle.log.specs.Record.{redo, commit, readRecord, headOf}
 use Rattle.recovery.specs.Group.{Write}
 use Rattle.log.proofs.Basics.{from}
 use Rattle.log.proofs.RecordLaws.{record-within}
