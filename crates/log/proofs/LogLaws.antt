@@ -1,5 +1,5 @@
 -- Laws of `readLog`: a group at a time.
-use Prim.Native.Nat.{ℕ, _+_, _-_, _≤_, _<_}
+use Prim.Native.Nat.{ℕ, _+_, _≤_}
 use native.Mathlib.Omega.{arith}
 use mathlib.Core.List.{List, [], _∷_}
 use mathlib.Core.Option.{Option, none, some}
@@ -9,7 +9,7 @@ use lib.Seq.{drop-drop}
 use Rattle.recovery.specs.Group.{Group, groupSize, csnAfter, lastCsn}
 use Rattle.log.specs.Group.{readGroup}
 use Rattle.log.specs.Log.{onGroup, logStep, readLog, logEndOf}
-use Rattle.log.proofs.Basics.{clash}
+use Rattle.log.proofs.Basics.{clash, Turned}
 use Rattle.log.proofs.Reader.{Shrinks, step}
 use Rattle.log.proofs.GroupLaws.{group-within}
 
@@ -37,14 +37,9 @@ log-more prev s g e = log-step prev s ∙ ap (onGroup readLog prev s) e
 pub log-ends : (prev at : ℕ) (s : List ℕ) → readGroup prev s ≡ none → logEndOf at prev (readLog prev s) ≡ record { end = at; csn = record { 0 = prev } }
 log-ends prev at s e = ap (logEndOf at prev) (log-none prev s e) ∙ ap (λ (k : ℕ). record { end = k; csn = record { 0 = prev } }) (omega arith)
 
--- all that a turn of the code's loop asks, over k bytes and to the commit number n
-pub record Turned (prev at : ℕ) (s : List ℕ) (k n : ℕ) : Type 0 where
-  pub within : at + k ≤ length s
-  pub less : length s - (at + k) < length s - at
-  pub same : logEndOf at prev (readLog prev (drop at s)) ≡ logEndOf (at + k) n (readLog n (drop (at + k) s))
-
+-- over a group, at a place of a list
 pub log-turn : (prev at : ℕ) (s : List ℕ) (k n : ℕ) (g : Group) → at ≤ length s → readGroup prev (drop at s) ≡ some g → k ≡ groupSize g → n ≡ csnAfter prev g
-    → Turned prev at s k n
+    → Turned s at (at + k) (logEndOf at prev (readLog prev (drop at s))) (logEndOf (at + k) n (readLog n (drop (at + k) s)))
 log-turn prev at s k n g l e h q =
     let i = group-within prev (drop at s) g e in
     let d = length-drop at s in

@@ -79,8 +79,7 @@ module _ (s : List ℕ) (b : Bytes s) where
       let i = keep-inv _ _ r e in
       let z : getD s 3 0 ≡ 3 = eqb-true _ _ (i .0) in
       let l = nonzero-within s 3 2 z in
-      let h = high2 (getD s 1 0) (getD s 2 0) (b 2) in
-      let w = low2 (getD s 1 0) (getD s 2 0) (b 2) in
+      let h = bytes2-read s 1 b in
       let f = front4 s 0 (omega arith) in
       subst (λ (r : Record). s ≡ encode r ++ drop (size r) s) (i .1) (cc)
 
@@ -90,8 +89,7 @@ module _ (s : List ℕ) (b : Bytes s) where
       let i = keep-inv _ _ r e in
       let z : getD s 7 0 ≡ 2 = eqb-true _ _ (i .0) in
       let l = nonzero-within s 7 1 z in
-      let h = high2 (getD s 1 0) (getD s 2 0) (b 2) in
-      let w = low2 (getD s 1 0) (getD s 2 0) (b 2) in
+      let h = bytes2-read s 1 b in
       let n = bytes4-read s 3 b in
       let f = front4 s 0 (omega arith) in
       let g = front4 s 4 (omega arith) in
@@ -116,10 +114,8 @@ module _ (s : List ℕ) (b : Bytes s) where
       let l = nonzero-within s (6 + n) 0 z in
       let d : length (take n (drop 6 s)) ≡ n = length-take-le n (drop 6 s) (simp length-drop (omega arith)) in
       let c = redo-rest n z l d in
-      let h = high2 (getD s 1 0) (getD s 2 0) (b 2) in
-      let w = low2 (getD s 1 0) (getD s 2 0) (b 2) in
-      let p = high2 (getD s 3 0) (getD s 4 0) (b 4) in
-      let q = low2 (getD s 3 0) (getD s 4 0) (b 4) in
+      let h = bytes2-read s 1 b in
+      let w = bytes2-read s 3 b in
       let f = front4 s 0 (omega arith) in
       let g = front2 s 4 (omega arith) in
       subst (λ (r : Record). s ≡ encode r ++ drop (size r) s) (i .1) (cc)
