@@ -38,7 +38,7 @@ order-distinct txs n d =
 abbrev open? : List ℕ → Tx → Bool
 open? f t = not (has (t .id) f)
 
-unfinished-more : (i : ℕ) (f : List ℕ) (ts : List Tx) → unfinished (i ∷ f) ts ≡ unfinished (i ∷ []) (unfinished f ts)
+pub unfinished-more : (i : ℕ) (f : List ℕ) (ts : List Tx) → unfinished (i ∷ f) ts ≡ unfinished (i ∷ []) (unfinished f ts)
 unfinished-more i f ts = sym (filter-filter (open? (i ∷ [])) (open? f) (open? (i ∷ f)) (λ t. go (has (t .id) f) (eqb (t .id) i)) ts)
   where
     go : (b c : Bool) → (not b && not (c || false)) ≡ not (c || b)

@@ -6,3 +6,8 @@ pub mod Sorting
 pub mod Transactions
 pub mod Groups
 pub mod AbortLaw
+pub mod Byte
+pub mod Holding
+pub mod TailFit
+pub mod CheckpointLaw
+pub mod GrowthLaw
