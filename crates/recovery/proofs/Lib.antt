@@ -11,3 +11,7 @@ pub mod Holding
 pub mod TailFit
 pub mod CheckpointLaw
 pub mod GrowthLaw
+pub mod Numbers
+pub mod Room
+pub mod Books
+pub mod Invariant

@@ -1,0 +1,88 @@
+-- The invariant of disk, live state and ledger, and its part that lasts when the current fails.
+use mathlib.Core.Path.{_≡_, refl, sym, ap, _∙_, subst}
+use mathlib.Core.List.{List, [], _∷_, _++_, List·Memᴰ}
+use Prim.Native.Nat.{ℕ, _≤_, _<_}
+use lib.ListN.{length, getD}
+use Rattle.recovery.specs.Group.{Group, lastCsn}
+use Rattle.recovery.specs.Lists.{All}
+use Rattle.recovery.specs.Transaction.{Tx, running, committing}
+use Rattle.recovery.specs.Replay.{replay}
+use Rattle.recovery.specs.Restart.{groupId}
+use Rattle.recovery.specs.Ledger.{Commit, Ledger}
+use Rattle.recovery.specs.Machine.{Setup, Disk, Live, System, down, up, lastAssigned}
+use Rattle.recovery.specs.Claim.{commits}
+use Rattle.recovery.proofs.Lists.{EveryPrefix, prefix-left}
+use Rattle.recovery.proofs.Transactions.{DistinctIds}
+use Rattle.recovery.proofs.Byte.{layByte}
+use Rattle.recovery.proofs.Holding.{RunningAt}
+use Rattle.recovery.proofs.TailFit.{Fit}
+use Rattle.recovery.proofs.CheckpointLaw.{Undoes}
+use Rattle.recovery.proofs.GrowthLaw.{Follows, Recovers}
+use Rattle.recovery.proofs.Numbers.{Numbers}
+use Rattle.recovery.proofs.Room.{Roomy, Room}
+use Rattle.recovery.proofs.Books.{Books}
+
+-- Without bytes: ids, commit numbers, the image's transactions and the tail. `late` are the committing ones whose groups are in the tail.
+pub record Standing (d : Disk) (l : Live) (late : List Tx) : Type 0 where
+  pub imageDistinct : DistinctIds (d .image .txs)
+  pub imageIds : All (λ t. t .id ≤ l .lastId) (d .image .txs)
+  pub groupIds : All (λ g. groupId g ≤ l .lastId) (d .after ++ l .tail)
+  pub liveDistinct : DistinctIds (l .txs)
+  pub liveIds : All (λ t. t .id ≤ l .lastId) (l .txs)
+  pub follows : Follows (d .image .txs) (d .image .csn) (d .after ++ l .tail) (running (l .txs))
+  pub onDisk : l .csn ≡ lastCsn (d .image .csn) (d .after)
+  pub fit : Fit (l .txs) (l .csn) (l .tail) late
+  pub csns : All (λ c. c .csn ≤ lastAssigned l) (committing (l .txs))
+
+-- the byte a by the commits before the image
+unfoldable pub baseAt : Setup → Disk → ℕ → ℕ
+baseAt o d a = replay (layByte a) (d .before) (getD (o .memory) a 0)
+
+-- the image recovers to the commits after it, at the byte a
+abbrev pub ImageAt : Setup → Disk → ℕ → List Group → Type 0
+ImageAt o d a P = Recovers a (baseAt o d a) (getD (d .image .memory) a 0) (d .image .txs) (d .image .csn) P
+
+-- At the byte a: the image is right for the log and for every first part of the tail; each late commit can be undone; and the running
+-- transactions hold it or not.
+pub record AtByte (o : Setup) (d : Disk) (l : Live) (late : List Tx) (a : ℕ) : Type 0 where
+  pub image : EveryPrefix (ImageAt o d a) (d .after ++ l .tail)
+  pub undoes : Undoes a (replay (layByte a) (d .after) (baseAt o d a)) (l .tail) late
+  pub live : RunningAt a (replay (layByte a) (d .after ++ l .tail) (baseAt o d a)) (getD (l .memory) a 0) (running (l .txs))
+
+pub record Up (o : Setup) (d : Disk) (l : Live) (k : Ledger) : Type 0 where
+  pub late : List Tx
+  pub standing : Standing d l late
+  pub imageLength : length (d .image .memory) ≡ o .size
+  pub liveLength : length (l .memory) ≡ o .size
+  pub bytes : (a : ℕ) → a < o .size → AtByte o d l late a
+  pub room : Room o d l
+  pub numbers : Numbers o d
+  pub books : Books d l k
+
+-- What a restart needs. It says nothing of the ledger's open transactions and queue.
+pub record Down (o : Setup) (d : Disk) (k : Ledger) : Type 0 where
+  pub imageDistinct : DistinctIds (d .image .txs)
+  pub imageLength : length (d .image .memory) ≡ o .size
+  pub bytes : (a : ℕ) → a < o .size → EveryPrefix (ImageAt o d a) (d .after)
+  pub fits : EveryPrefix (Roomy o d) (d .after)
+  pub numbers : Numbers o d
+  pub durable : k .durable ≡ commits (d .before ++ d .after)
+  pub assigned : (rest : List Commit) × (k .assigned ≡ commits (d .before ++ d .after) ++ rest)
+  pub settled : All (λ c. List·Memᴰ c (k .durable)) (k .settled)
+
+abbrev pub Inv : Setup → System → Ledger → Type 0
+Inv o (down d) k = Down o d k
+Inv o (up d l) k = Up o d l k
+
+-- the current fails
+pub crash : (o : Setup) (d : Disk) (l : Live) (k : Ledger) → Up o d l k → Down o d k
+crash o d l k u = record {
+  imageDistinct = u .standing .imageDistinct;
+  imageLength = u .imageLength;
+  bytes = λ a h. prefix-left (ImageAt o d a) (d .after) (l .tail) (u .bytes a h .image);
+  fits = prefix-left (Roomy o d) (d .after) (l .tail) (u .room .fits);
+  numbers = u .numbers;
+  durable = u .books .durable;
+  assigned = (commits (l .tail), u .books .assigned);
+  settled = u .books .settled;
+}
