@@ -15,3 +15,6 @@ pub mod Numbers
 pub mod Room
 pub mod Books
 pub mod Invariant
+pub mod BeginStep
+pub mod Held
+pub mod WriteStep

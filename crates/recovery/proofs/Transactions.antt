@@ -10,8 +10,8 @@ use lib.Dec.{eqb}
 use Rattle.recovery.specs.Lists.{All, nil, cons, filter}
 use Rattle.recovery.specs.Transaction.{Tx, running, committing, lookup, edit, remove}
 use Rattle.recovery.proofs.Bool.{eqb-same, eqb-no, clash}
-use Rattle.recovery.proofs.Lists.{all-map, filter-in, filter-out, filter-append}
-use Rattle.recovery.proofs.Distinct.{Distinct, empty, more, distinct-parts}
+use Rattle.recovery.proofs.Lists.{all-map, all-filter, filter-in, filter-out, filter-append}
+use Rattle.recovery.proofs.Distinct.{Distinct, empty, more, distinct-others, distinct-parts}
 
 abbrev pub DistinctIds : List Tx → Type 0
 DistinctIds txs = Distinct (λ t. t .id) txs
@@ -85,3 +85,11 @@ committing-append xs ys = filter-append isCommitting xs ys
 -- no id is both
 pub running-committing : {txs : List Tx} → DistinctIds txs → All (λ t. All (λ c. c .id ≢ t .id) (committing txs)) (running txs)
 running-committing d = distinct-parts isRunning isCommitting (λ x p q. clash p (rw q)) d
+
+-- a listed running transaction, among the running ones
+module _ {txs : List Tx} (r : Tx) (run : r .committing ≡ false) (f : Found (r .id) r txs) where
+  pub found-running : running txs ≡ running (f .before) ++ r ∷ running (f .after)
+  found-running = ap running (f .whole) ∙ running-in (f .before) r (f .after) run
+
+  pub found-apart : DistinctIds txs → All (λ t. t .id ≢ r .id) (running (f .before) ++ running (f .after))
+  found-apart d = subst (λ (ts : List Tx). All (λ t. t .id ≢ r .id) ts) (running-append (f .before) (f .after)) (all-filter isRunning (distinct-others (f .before) r (f .after) (rw (f .whole) at d)))
