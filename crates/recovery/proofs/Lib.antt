@@ -18,3 +18,4 @@ pub mod Invariant
 pub mod BeginStep
 pub mod Held
 pub mod WriteStep
+pub mod EndSteps
