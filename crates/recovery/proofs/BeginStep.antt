@@ -84,7 +84,7 @@ begin-keeps o d l k fits u = record {
         image = b .image;
         undoes = b .undoes;
         live = rw (runnings d l)
-            (put-off a (replay (layByte a) (d .after ++ l .tail) (baseAt o d a)) (lib.ListN.getD (l .memory) a 0) (running (l .txs)) (new d l) [] (refl, refl) (rw append-nil (b .live)));
+            (put-off a (replay (layByte a) (d .after ++ l .tail) (baseAt o (d .before) a)) (lib.ListN.getD (l .memory) a 0) (running (l .txs)) (new d l) [] (refl, refl) (rw append-nil (b .live)));
       };
   room = record { fits = u .room .fits; used = rw (runnings d l, reserved-append (running (l .txs)) (new d l ∷ [])) (omega arith) };
   numbers = u .numbers;

@@ -63,7 +63,7 @@ module _ (o : Setup) (d : Disk) (l : Live) (k : Ledger) (r : Tx) (listed : Liste
   apart = found-apart r run found (s .liveDistinct)
 
   -- at a byte, before the group
-  live-before : (a : ℕ) → AtByte o d l (u .late) a → RunningAt a (replay (layByte a) (d .after ++ l .tail) (baseAt o d a)) (getD (l .memory) a 0) (xs ++ r ∷ ys)
+  live-before : (a : ℕ) → AtByte o d l (u .late) a → RunningAt a (replay (layByte a) (d .after ++ l .tail) (baseAt o (d .before) a)) (getD (l .memory) a 0) (xs ++ r ∷ ys)
   live-before a b = rw runnings at (b .live)
 
   module _ (g : Group) (of : groupId g ≡ r .id) where
@@ -170,12 +170,12 @@ module _ (o : Setup) (d : Disk) (l : Live) (k : Ledger) (r : Tx) (listed : Liste
     liveLength = undo-length (o .size) (l .memory) (u .liveLength) (r .undo);
     bytes = λ a h.
         let b : AtByte o d l (u .late) a = u .bytes a h in
-        let x : ℕ = replay (layByte a) (d .after ++ l .tail) (baseAt o d a) in
+        let x : ℕ = replay (layByte a) (d .after ++ l .tail) (baseAt o (d .before) a) in
         record {
           image = end-image aborting refl a b
-              (growth-abort a (baseAt o d a) (getD (d .image .memory) a 0) (d .image .txs) (d .image .csn) (d .after ++ l .tail) (getD (l .memory) a 0) xs r ys (image-recovers a b) follows-before apart (s .imageDistinct) (live-before a b));
+              (growth-abort a (baseAt o (d .before) a) (getD (d .image .memory) a 0) (d .image .txs) (d .image .csn) (d .after ++ l .tail) (getD (l .memory) a 0) xs r ys (image-recovers a b) follows-before apart (s .imageDistinct) (live-before a b));
           undoes = undoes-one-abort (r .id) (b .undoes);
-          live = rw (← regroup aborting refl, replay-append (layByte a) (d .after ++ l .tail) (aborting ∷ []) (baseAt o d a), abort-runnings, undo-byte (o .size) (l .memory) (u .liveLength) a h (r .undo))
+          live = rw (← regroup aborting refl, replay-append (layByte a) (d .after ++ l .tail) (aborting ∷ []) (baseAt o (d .before) a), abort-runnings, undo-byte (o .size) (l .memory) (u .liveLength) a h (r .undo))
               (abort-byte a x (getD (l .memory) a 0) xs r ys (live-before a b));
         };
     room = record {
@@ -281,8 +281,8 @@ module _ (o : Setup) (d : Disk) (l : Live) (k : Ledger) (r : Tx) (listed : Liste
     liveLength = u .liveLength;
     bytes = λ a h.
         let b : AtByte o d l (u .late) a = u .bytes a h in
-        let base : ℕ = baseAt o d a in
-        let x : ℕ = replay (layByte a) (d .after ++ l .tail) (baseAt o d a) in
+        let base : ℕ = baseAt o (d .before) a in
+        let x : ℕ = replay (layByte a) (d .after ++ l .tail) (baseAt o (d .before) a) in
         let after : RunningAt a (act (newest a (r .redo)) x) (getD (l .memory) a 0) (xs ++ ys) × Restores x (oldest a (r .undo)) (newest a (r .redo)) =
         precommit-byte a x (getD (l .memory) a 0) xs r ys (live-before a b) in
         record {

@@ -3,16 +3,16 @@ use mathlib.Core.Path.{_≡_, refl, sym, ap, _∙_, subst}
 use mathlib.Core.Logic.{_≢_}
 use mathlib.Core.Bool.{Bool, true, false, cond, _||_, or-true}
 use mathlib.Core.List.{List, [], _∷_, _++_}
-use Prim.Native.Nat.{ℕ, zero, suc, _+_, _*_, _≤_}
+use Prim.Native.Nat.{ℕ, _+_, _-_, _*_, _≤_}
 use native.Mathlib.Omega.{arith}
-use lib.Dec.{eqb}
-use lib.ListN.{length, take}
-use Rattle.recovery.specs.Group.{Write, Group, committed, aborted, redoSize, groupSize, groupsSize, csnAfter, lastCsn}
+use lib.Dec.{eqb, leb}
+use lib.ListN.{length, drop}
+use Rattle.recovery.specs.Group.{Write, Group, committed, aborted, redoSize, groupSize, groupsSize, csnAfter, lastCsn, fitting}
 use Rattle.recovery.specs.Lists.{All, nil, cons, has}
 use Rattle.recovery.specs.Transaction.{Tx, reserved}
 use Rattle.recovery.specs.Replay.{redoAll, undoAll, undoEach, replay}
 use Rattle.recovery.specs.Restart.{groupId, finished, undoOf, unfinished, aborts, forward}
-use Rattle.recovery.proofs.Bool.{eqb-no, eqb-same, or-both}
+use Rattle.recovery.proofs.Bool.{eqb-no, eqb-same, leb-yes, or-both}
 
 -- sizes
 
@@ -54,6 +54,21 @@ module _ {M : Type 0} (lay : Write → M → M) where
   forward-append txs (committed i n ws ∷ gs) hs f m = forward-append txs gs hs (i ∷ f) (redoAll lay ws m)
   forward-append txs (aborted i ∷ gs) hs f m = forward-append txs gs hs (i ∷ f) (cond (has i f) m (undoAll lay (undoOf i txs) m))
 
+-- what fits is a first part, and all if there are stores enough
+
+pub fitting-split : (n : ℕ) (gs : List Group) → gs ≡ fitting n gs ++ drop (length (fitting n gs)) gs
+fitting-split n [] = refl
+fitting-split n (g ∷ gs) = go (leb (groupSize g) n) (fitting-split (n - groupSize g) gs)
+  where
+    go : (b : Bool) → gs ≡ fitting (n - groupSize g) gs ++ drop (length (fitting (n - groupSize g) gs)) gs
+        → g ∷ gs ≡ cond b (g ∷ fitting (n - groupSize g) gs) [] ++ drop (length (cond b (g ∷ fitting (n - groupSize g) gs) [])) (g ∷ gs)
+    go true e = ap (λ (l : List Group). g ∷ l) e
+    go false e = refl
+
+pub fitting-all : (n : ℕ) (gs : List Group) → groupsSize gs ≤ n → fitting n gs ≡ gs
+fitting-all n [] h = refl
+fitting-all n (g ∷ gs) h = rw (leb-yes (groupSize g) n (omega arith)) (ap (λ (l : List Group). g ∷ l) (fitting-all (n - groupSize g) gs (omega arith)))
+
 -- an id without a group is not finished by the groups
 pub unmarked : {i : ℕ} (f : List ℕ) {gs : List Group} → All (λ g. groupId g ≢ i) gs → has i f ≡ false → has i (finished gs f) ≡ false
 unmarked f nil h = h
@@ -61,11 +76,6 @@ unmarked {i} f (cons {x = g} n ns) h =
     unmarked (groupId g ∷ f) ns (or-both (eqb i (groupId g)) (has i f) (eqb-no i (groupId g) (λ e. n (sym e))) h)
 
 -- restart's own abort records
-
-pub take-aborts : (q : ℕ) (us : List Tx) → take q (aborts us) ≡ aborts (take q us)
-take-aborts zero us = refl
-take-aborts (suc q) [] = refl
-take-aborts (suc q) (u ∷ us) = ap (λ (l : List Group). aborted (u .id) ∷ l) (take-aborts q us)
 
 pub groupsSize-aborts : (us : List Tx) → groupsSize (aborts us) ≡ 4 * length us
 groupsSize-aborts [] = omega arith

@@ -8,7 +8,7 @@ use Rattle.recovery.specs.Lists.{All}
 use Rattle.recovery.specs.Transaction.{Tx, running, committing}
 use Rattle.recovery.specs.Replay.{replay}
 use Rattle.recovery.specs.Restart.{groupId}
-use Rattle.recovery.specs.Ledger.{Commit, Ledger}
+use Rattle.recovery.specs.Ledger.{Commit, Ledger, emptied}
 use Rattle.recovery.specs.Machine.{Setup, Disk, Live, System, down, up, lastAssigned}
 use Rattle.recovery.specs.Claim.{commits}
 use Rattle.recovery.proofs.Lists.{EveryPrefix, prefix-left}
@@ -34,20 +34,20 @@ pub record Standing (d : Disk) (l : Live) (late : List Tx) : Type 0 where
   pub fit : Fit (l .txs) (l .csn) (l .tail) late
   pub csns : All (λ c. c .csn ≤ lastAssigned l) (committing (l .txs))
 
--- the byte a by the commits before the image
-unfoldable pub baseAt : Setup → Disk → ℕ → ℕ
-baseAt o d a = replay (layByte a) (d .before) (getD (o .memory) a 0)
+-- the byte a by the commits of these groups, the first of the log
+unfoldable pub baseAt : Setup → List Group → ℕ → ℕ
+baseAt o gs a = replay (layByte a) gs (getD (o .memory) a 0)
 
 -- the image recovers to the commits after it, at the byte a
 abbrev pub ImageAt : Setup → Disk → ℕ → List Group → Type 0
-ImageAt o d a P = Recovers a (baseAt o d a) (getD (d .image .memory) a 0) (d .image .txs) (d .image .csn) P
+ImageAt o d a P = Recovers a (baseAt o (d .before) a) (getD (d .image .memory) a 0) (d .image .txs) (d .image .csn) P
 
 -- At the byte a: the image is right for the log and for every first part of the tail; each late commit can be undone; and the running
 -- transactions hold it or not.
 pub record AtByte (o : Setup) (d : Disk) (l : Live) (late : List Tx) (a : ℕ) : Type 0 where
   pub image : EveryPrefix (ImageAt o d a) (d .after ++ l .tail)
-  pub undoes : Undoes a (replay (layByte a) (d .after) (baseAt o d a)) (l .tail) late
-  pub live : RunningAt a (replay (layByte a) (d .after ++ l .tail) (baseAt o d a)) (getD (l .memory) a 0) (running (l .txs))
+  pub undoes : Undoes a (replay (layByte a) (d .after) (baseAt o (d .before) a)) (l .tail) late
+  pub live : RunningAt a (replay (layByte a) (d .after ++ l .tail) (baseAt o (d .before) a)) (getD (l .memory) a 0) (running (l .txs))
 
 pub record Up (o : Setup) (d : Disk) (l : Live) (k : Ledger) : Type 0 where
   pub late : List Tx
@@ -85,4 +85,17 @@ crash o d l k u = record {
   durable = u .books .durable;
   assigned = (commits (l .tail), u .books .assigned);
   settled = u .books .settled;
+}
+
+-- the ledger loses what is open and queued
+pub down-emptied : (o : Setup) (d : Disk) (k : Ledger) → Down o d k → Down o d (emptied k)
+down-emptied o d k w = record {
+  imageDistinct = w .imageDistinct;
+  imageLength = w .imageLength;
+  bytes = w .bytes;
+  fits = w .fits;
+  numbers = w .numbers;
+  durable = w .durable;
+  assigned = w .assigned;
+  settled = w .settled;
 }

@@ -19,3 +19,4 @@ pub mod BeginStep
 pub mod Held
 pub mod WriteStep
 pub mod EndSteps
+pub mod FlushStep

@@ -2,7 +2,7 @@
 use mathlib.Core.Path.{_≡_, refl, sym, ap, _∙_, subst}
 use mathlib.Core.Logic.{_≢_}
 use mathlib.Core.Bool.{Bool, true, false, not, cond, _||_, _&&_}
-use mathlib.Core.List.{List, [], _∷_, _++_, reverse, reverse-cons, append-nil}
+use mathlib.Core.List.{List, [], _∷_, _++_, map, reverse, reverse-cons, append-nil}
 use Prim.Native.Nat.{ℕ, zero, suc}
 use lib.Dec.{eqb}
 use lib.ListN.{take, drop}
@@ -157,3 +157,8 @@ module _ {A : Type 0} where
       each : (q : ℕ) → p (xs ++ take q (y ∷ []))
       each zero = subst p (sym (append-nil xs)) (prefix-whole p xs h)
       each (suc q) = subst (λ (l : List A). p (xs ++ (y ∷ l))) (sym (take-nil q)) k
+
+pub take-map : {A B : Type 0} (f : A → B) (q : ℕ) (xs : List A) → take q (map f xs) ≡ map f (take q xs)
+take-map f zero xs = refl
+take-map f (suc q) [] = refl
+take-map {B = B} f (suc q) (x ∷ xs) = ap (λ (l : List B). f x ∷ l) (take-map f q xs)

@@ -132,11 +132,11 @@ module _ (o : Setup) (d : Disk) (l : Live) (k : Ledger) (r : Tx) (w : Write) (li
     csns = rw committings (s .csns);
   }
 
-  quiet : (a : ℕ) → heldByOther (r .id) w (l .txs) ≡ false → RunningAt a (replay (layByte a) (d .after ++ l .tail) (baseAt o d a)) (getD (l .memory) a 0) (xs ++ r ∷ ys)
+  quiet : (a : ℕ) → heldByOther (r .id) w (l .txs) ≡ false → RunningAt a (replay (layByte a) (d .after ++ l .tail) (baseAt o (d .before) a)) (getD (l .memory) a 0) (xs ++ r ∷ ys)
       → seen a w ≢ none → All (Quiet a) (xs ++ ys)
   quiet a free live touched =
       all-map (λ t p. p .0 (p .1 .0 (p .1 .1)))
-      (all-zip (all-less xs r ys (quiet-by-undo a (replay (layByte a) (d .after ++ l .tail) (baseAt o d a)) (getD (l .memory) a 0) live))
+      (all-zip (all-less xs r ys (quiet-by-undo a (replay (layByte a) (d .after ++ l .tail) (baseAt o (d .before) a)) (getD (l .memory) a 0) live))
       (all-zip (all-less xs r ys (rw runnings at (unheld (r .id) w (l .txs) a free touched))) apart))
 
   pub write-keeps : w .addr + length (w .bytes) ≤ o .size → heldByOther (r .id) w (l .txs) ≡ false → roomUsed d l + (7 + length (w .bytes)) ≤ o .capacity
@@ -148,7 +148,7 @@ module _ (o : Setup) (d : Disk) (l : Live) (k : Ledger) (r : Tx) (w : Write) (li
     liveLength = length-sets (l .memory) (w .addr) (w .bytes) ∙ u .liveLength;
     bytes = λ a h.
         let b : AtByte o d l (u .late) a = u .bytes a h in
-        let x : ℕ = replay (layByte a) (d .after ++ l .tail) (baseAt o d a) in
+        let x : ℕ = replay (layByte a) (d .after ++ l .tail) (baseAt o (d .before) a) in
         let live : RunningAt a x (getD (l .memory) a 0) (xs ++ r ∷ ys) = rw runnings at (b .live) in
         record {
           image = b .image;
