@@ -140,11 +140,20 @@ latest-low i n xs ys b e low high = go (latest i ys) refl (sym (latest-append i 
     go none p q = q
     go (some y) p q = absurd (omega (arith, all-member high (latest-in i ys b (p ∙ q) .0)))
 
--- Agreement with the store that is up.
 -- a committing transaction's commit is the latest of its id
 abbrev pub HasLatest : List Commit → Tx → Type 0
 HasLatest cs t = (b : Commit) × (latest (t .id) cs ≡ some b) × (b .csn ≡ t .csn)
 
+-- the latest of the transaction's id, durable or queued, has its id and number, and is durable
+abbrev pub Settles : Tx → List Commit → List Commit → Type 0
+Settles t durable queued = (c : Commit) × (latest (t .id) (durable ++ queued) ≡ some c) × (c .id ≡ t .id) × (c .csn ≡ t .csn) × List·Memᴰ c durable
+
+pub settles : (n : ℕ) (t : Tx) (durable queued : List Commit) → HasLatest (durable ++ queued) t → t .csn ≤ n → All (λ c. n < c .csn) queued → Settles t durable queued
+settles n t durable queued h low high =
+    let m : List·Memᴰ (h .0) durable × (h .0 .id ≡ t .id) = latest-in (t .id) durable (h .0) (latest-low (t .id) n durable queued (h .0) (h .1) (omega (arith, h .2)) high) in
+    (h .0, h .1, m .1, h .2, m .0)
+
+-- Agreement with the store that is up.
 pub record Books (d : Disk) (l : Live) (k : Ledger) : Type 0 where
   pub durable : k .durable ≡ commits (d .before ++ d .after)
   pub assigned : k .assigned ≡ commits (d .before ++ d .after) ++ commits (l .tail)

@@ -20,3 +20,6 @@ pub mod Held
 pub mod WriteStep
 pub mod EndSteps
 pub mod FlushStep
+pub mod SettleStep
+pub mod CheckpointStep
+pub mod RestartStep
