@@ -23,3 +23,5 @@ pub mod FlushStep
 pub mod SettleStep
 pub mod CheckpointStep
 pub mod RestartStep
+pub mod Theorem
+pub mod Cases

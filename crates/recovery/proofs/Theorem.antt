@@ -1,0 +1,94 @@
+-- Demand 3 on the abstract store: after any list of calls, refused, cut or done, the claim holds of disk and ledger.
+use mathlib.Core.Path.{_≡_, refl, sym, ap, _∙_, subst}
+use mathlib.Core.Bool.{true}
+use mathlib.Core.List.{List, [], _∷_, _++_}
+use Prim.Native.Nat.{ℕ, _+_, _≤_, _<_}
+use native.Mathlib.Omega.{arith}
+use lib.ListN.{length, getD}
+use lib.Seq.{take-nil}
+use Rattle.recovery.specs.Group.{Group, groupsSize}
+use Rattle.recovery.specs.Lists.{All, nil, cons}
+use Rattle.recovery.specs.Transaction.{Tx}
+use Rattle.recovery.specs.Replay.{replay, layBytes}
+use Rattle.recovery.specs.Restart.{undoOrder, recover}
+use Rattle.recovery.specs.Ledger.{Event, Commit, Ledger, noLedger, committedIn, enter}
+use Rattle.recovery.specs.Machine.{Setup, Disk, Live, System, down, up, diskOf, startDisk, Listed, Step, stays, begins, writes, precommits, rollsBack, flushes, flushIsCut, settles, checkpoints, checkpointIsCut, restarts, restartIsCut, Run, opened, next}
+use Rattle.recovery.specs.Claim.{commits, layCommits, Claim}
+use Rattle.recovery.proofs.Lists.{EveryPrefix, prefix-whole}
+use Rattle.recovery.proofs.Distinct.{empty}
+use Rattle.recovery.proofs.Groups.{groupsSize-append, replay-append}
+use Rattle.recovery.proofs.Byte.{layByte, by-bytes}
+use Rattle.recovery.proofs.Numbers.{Consecutive, end, after-consecutive, consecutive-numbered}
+use Rattle.recovery.proofs.Room.{Roomy}
+use Rattle.recovery.proofs.Books.{Settles, replay-commits}
+use Rattle.recovery.proofs.Invariant.{Up, Down, Inv, ImageAt, baseAt, crash, down-emptied}
+use Rattle.recovery.proofs.BeginStep.{begin-keeps}
+use Rattle.recovery.proofs.WriteStep.{write-keeps}
+use Rattle.recovery.proofs.EndSteps.{precommit-keeps, abort-keeps}
+use Rattle.recovery.proofs.FlushStep.{flush-keeps, cut-flush-keeps}
+use Rattle.recovery.proofs.SettleStep.{settle-finds, settle-keeps}
+use Rattle.recovery.proofs.CheckpointStep.{checkpoint-keeps}
+use Rattle.recovery.proofs.RestartStep.{restart-keeps}
+
+module _ (o : Setup) where
+  -- the disk alone
+  lasts : (s : System) (k : Ledger) → Inv o s k → Down o (diskOf s) k
+  lasts (down d) k v = v
+  lasts (up d l) k v = crash o d l k v
+
+  -- each call keeps the invariant
+  pub keeps : (s t : System) (e : Event) (k : Ledger) → Step o s e t → Inv o s k → Inv o t (enter e k)
+  keeps s t e k (stays s′) v = v
+  keeps s t e k (begins d l room) v = begin-keeps o d l k room v
+  keeps s t e k (writes d l r w listed run within free room) v = write-keeps o d l k r w listed run v within free room
+  keeps s t e k (precommits d l r listed run) v = precommit-keeps o d l k r listed run v
+  keeps s t e k (rollsBack d l r listed run) v = abort-keeps o d l k r listed run v
+  keeps s t e k (flushes d l q allowed enough) v = flush-keeps o d l k q allowed v enough
+  keeps s t e k (flushIsCut d l q allowed few) v = cut-flush-keeps o d l k q allowed v
+  keeps s t e k (settles d l r listed committing on-disk) v = settle-keeps o d l k r listed committing on-disk v
+  keeps s t e k (checkpoints d l) v = checkpoint-keeps o d l k v
+  keeps s t e k (checkpointIsCut d l) v = down-emptied o d k (crash o d l k v)
+  keeps s t e k (restarts s′ lastId image-ids group-ids) v = restart-keeps o (diskOf s′) k lastId image-ids group-ids (lasts s′ k v)
+  keeps s t e k (restartIsCut s′) v = down-emptied o (diskOf s′) k (lasts s′ k v)
+
+  start : Down o (startDisk o) noLedger
+  unfolding undoOrder baseAt
+  start = record {
+    imageDistinct = empty;
+    imageLength = o .whole;
+    bytes = λ a h q. subst (λ (gs : List Group). ImageAt o (startDisk o) a gs) (sym (take-nil q)) refl;
+    fits = λ q. subst (λ (gs : List Group). Roomy o (startDisk o) gs) (sym (take-nil q)) (omega arith);
+    numbers = record { log = end; image = refl };
+    durable = refl;
+    assigned = ([], refl);
+    settled = nil;
+  }
+
+  pub holds : {s : System} {k : Ledger} → Run o s k → Inv o s k
+  holds opened = start
+  holds (next {s} {t} {l} {e} r p) = keeps s t e l p (holds r)
+
+  pub claimed : (d : Disk) (k : Ledger) → Down o d k → Claim o d k
+  unfolding baseAt
+  claimed d k w = record {
+    restores =
+        by-bytes (o .size) (d .image .txs) (d .image .csn) (d .after) (d .before ++ d .after) (d .image .memory) (o .memory) (w .imageLength) (o .whole)
+        (λ a h. prefix-whole (ImageAt o d a) (d .after) (w .bytes a h) ∙ sym (replay-append (layByte a) (d .before) (d .after) (getD (o .memory) a 0)))
+        ∙ (replay-commits (d .before ++ d .after) (o .memory) ∙ ap (λ (cs : List Commit). layCommits cs (o .memory)) (sym (w .durable)));
+    logged = sym (w .durable);
+    numbered = rw (w .durable) (consecutive-numbered (w .numbers .log));
+    first = (w .assigned .0, rw (w .durable) (w .assigned .1));
+    settled = w .settled;
+    fits = rw (groupsSize-append (d .before) (d .after)) (prefix-whole (Roomy o d) (d .after) (w .fits));
+  }
+
+  pub theorem : {s : System} {k : Ledger} → Run o s k → Claim o (diskOf s) k
+  theorem {s} {k} r = claimed (diskOf s) k (lasts s k (holds r))
+
+  -- at a settle the latest of the id, durable or queued, is the transaction's own commit, and is durable
+  pub settled-found : (d : Disk) (l : Live) (k : Ledger) (r : Tx) → Run o (up d l) k → Listed r (l .txs) → r .committing ≡ true → r .csn ≤ l .csn → Settles r (k .durable) (committedIn (k .queue))
+  settled-found d l k r run listed committing on-disk = settle-finds o d l k r listed committing on-disk (holds run)
+
+  -- the reader of the next restart, which starts with the image's number, accepts the numbers of the groups after the image
+  pub groups-go-on : {s : System} {k : Ledger} → Run o s k → Consecutive (diskOf s .image .csn) (diskOf s .after)
+  groups-go-on {s} {k} r = after-consecutive o (diskOf s) (lasts s k (holds r) .numbers)
