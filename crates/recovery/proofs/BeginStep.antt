@@ -1,9 +1,10 @@
 -- Begin keeps the invariant: the new id is above all that image, groups and list have, and the new transaction holds nothing.
-use mathlib.Core.Path.{_≡_, refl, sym, ap, _∙_, subst}
+use mathlib.Core.Path.{_≡_, refl, sym, ap, _∙_}
 use mathlib.Core.Logic.{_≢_}
 use mathlib.Core.List.{List, [], _∷_, _++_, map-append, append-nil}
 use Prim.Native.Nat.{ℕ, suc, _+_, _≤_}
 use native.Mathlib.Omega.{arith}
+use lib.ListN.{getD}
 use Rattle.recovery.specs.Group.{Group, committed, aborted}
 use Rattle.recovery.specs.Lists.{All, nil, cons}
 use Rattle.recovery.specs.Transaction.{Tx, running, committing}
@@ -13,13 +14,14 @@ use Rattle.recovery.specs.Ledger.{Ledger, OpenTx, enterBegun}
 use Rattle.recovery.specs.Machine.{Setup, Disk, Live, roomUsed, newTx, afterBegin}
 use Rattle.recovery.proofs.Lists.{all-map, all-zip, all-append, all-right, all-filter}
 use Rattle.recovery.proofs.Distinct.{distinct-more}
-use Rattle.recovery.proofs.Transactions.{running-append, committing-append}
-use Rattle.recovery.proofs.Groups.{unmarked, reserved-append}
+use Rattle.recovery.proofs.Transactions.{running-append, committing-append, isCommitting}
+use Rattle.recovery.proofs.Groups.{reserved-append}
+use Rattle.recovery.proofs.Finished.{unmarked}
 use Rattle.recovery.proofs.Byte.{layByte}
-use Rattle.recovery.proofs.Holding.{put-off}
+use Rattle.recovery.proofs.LiveByte.{put-off}
 use Rattle.recovery.proofs.TailFit.{Foreign}
 use Rattle.recovery.proofs.GrowthLaw.{Linked, here, there}
-use Rattle.recovery.proofs.Books.{openOf, opens}
+use Rattle.recovery.proofs.Ledger.{openOf}
 use Rattle.recovery.proofs.Invariant.{Standing, AtByte, Up, baseAt}
 
 linked-append : {t : Tx} {rs : List Tx} (ss : List Tx) → Linked t rs → Linked t (rs ++ ss)
@@ -55,7 +57,7 @@ module _ (d : Disk) (l : Live) where
         follows = record {
           committings = s .follows .committings;
           runnings = rw runnings (all-map (λ t h. linked-append (new ∷ []) h) (s .follows .runnings));
-          lives = rw runnings (all-append (s .follows .lives) (cons {x = new} (unmarked [] (new-group (s .groupIds)) refl, all-filter (λ t. t .committing) (new-tx (s .imageIds))) nil));
+          lives = rw runnings (all-append (s .follows .lives) (cons {x = new} (unmarked [] (new-group (s .groupIds)) refl, all-filter isCommitting (new-tx (s .imageIds))) nil));
         };
         onDisk = s .onDisk;
         fit = record {
@@ -84,16 +86,16 @@ begin-keeps o d l k fits u = record {
         image = b .image;
         undoes = b .undoes;
         live = rw (runnings d l)
-            (put-off a (replay (layByte a) (d .after ++ l .tail) (baseAt o (d .before) a)) (lib.ListN.getD (l .memory) a 0) (running (l .txs)) (new d l) [] (refl, refl) (rw append-nil (b .live)));
+            (put-off a (replay (layByte a) (d .after ++ l .tail) (baseAt o (d .before) a)) (getD (l .memory) a 0) (running (l .txs)) (new d l) [] (refl, refl) (rw append-nil (b .live)));
       };
   room = record { fits = u .room .fits; used = rw (runnings d l, reserved-append (running (l .txs)) (new d l ∷ [])) (omega arith) };
   numbers = u .numbers;
-  books = record {
-    durable = u .books .durable;
-    assigned = u .books .assigned;
-    queue = u .books .queue;
-    active = ap (λ (ss : List OpenTx). ss ++ (openOf (new d l) ∷ [])) (u .books .active) ∙ rw (runnings d l) (sym (map-append openOf (running (l .txs)) (new d l ∷ [])));
-    settled = u .books .settled;
-    latests = rw (committings d l) (u .books .latests);
+  ledger = record {
+    durable = u .ledger .durable;
+    assigned = u .ledger .assigned;
+    queue = u .ledger .queue;
+    active = ap (λ (ss : List OpenTx). ss ++ (openOf (new d l) ∷ [])) (u .ledger .active) ∙ rw (runnings d l) (sym (map-append openOf (running (l .txs)) (new d l ∷ [])));
+    settled = u .ledger .settled;
+    latests = rw (committings d l) (u .ledger .latests);
   };
 }

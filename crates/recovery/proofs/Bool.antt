@@ -1,5 +1,5 @@
 -- Tests on numbers and Booleans, as equations.
-use mathlib.Core.Path.{_≡_, refl, sym, ap, _∙_, subst}
+use mathlib.Core.Path.{_≡_, refl, sym, _∙_, subst}
 use mathlib.Core.Logic.{_≢_, _⊎_, inl, inr}
 use mathlib.Core.Bool.{Bool, true, false, not, _||_, _&&_, true≢false, false≢true}
 use Prim.Native.Nat.{ℕ, suc, _≤_, _<_}

@@ -1,7 +1,7 @@
--- The marked cases of recovery, M3, M4 and M5, from the image on: one table, one computed proof, over memories of 4,096 bytes.
-use mathlib.Core.Path.{_≡_, refl, sym, ap, _∙_}
+-- Worked cases of recovery, M3 to M5 from the image on and four more: one table with one computed proof.
+use mathlib.Core.Path.{_≡_, refl}
 use mathlib.Core.Bool.{Bool, true, false}
-use mathlib.Core.List.{List, [], _∷_, _++_}
+use mathlib.Core.List.{List, [], _∷_}
 use Prim.Native.Nat.{ℕ}
 use lib.Dec.{T, eqb, eqb→eq}
 use lib.ListN.{set, replicate}
@@ -11,6 +11,7 @@ use Rattle.recovery.specs.Transaction.{Tx}
 use Rattle.recovery.specs.Replay.{layBytes}
 use Rattle.recovery.specs.Restart.{undoOrder, recover}
 
+-- an image's transactions and memory, number on disk 0; the groups after it; and the memory wanted
 pub record Row : Type 0 where
   pub txs : List Tx
   pub groups : List Group
@@ -20,21 +21,36 @@ pub record Row : Type 0 where
 abbrev zeros : List ℕ
 zeros = replicate 4096 0
 
+-- the byte b at address 10
 abbrev byte10 : ℕ → Write
 byte10 b = record { addr = 10; bytes = b ∷ [] }
 
--- a transaction that wrote over the byte b at 10
-abbrev wroteOver : ℕ → Bool → ℕ → ℕ → Tx
-wroteOver id committing csn b = record { id = id; committing = committing; csn = csn; undo = byte10 b ∷ []; redo = [] }
+abbrev memory10 : ℕ → List ℕ
+memory10 b = set zeros 10 b
+
+-- a transaction that wrote at address 10, over these old bytes, oldest first
+abbrev ran : ℕ → List Write → Tx
+ran id old = record { id = id; committing = false; csn = 0; undo = old; redo = [] }
+
+abbrev precommitted : ℕ → ℕ → List Write → Tx
+precommitted id csn old = record { id = id; committing = true; csn = csn; undo = old; redo = [] }
 
 unfoldable pub rows : List Row
 rows =
     -- M3: id 1 writes 5 over 0, checkpoint, abort; id 2 writes 7 there and commits
-    record { txs = wroteOver 1 false 0 0 ∷ []; groups = aborted 1 ∷ committed 2 1 (byte10 7 ∷ []) ∷ []; memory = set zeros 10 5; wanted = set zeros 10 7 }
+    record { txs = ran 1 (byte10 0 ∷ []) ∷ []; groups = aborted 1 ∷ committed 2 1 (byte10 7 ∷ []) ∷ []; memory = memory10 5; wanted = memory10 7 }
     -- M4: id 1 writes 5, precommit, checkpoint, no flush
-    ∷ record { txs = wroteOver 1 true 1 0 ∷ []; groups = []; memory = set zeros 10 5; wanted = zeros }
+    ∷ record { txs = precommitted 1 1 (byte10 0 ∷ []) ∷ []; groups = []; memory = memory10 5; wanted = zeros }
     -- M5: id 1 writes 5, precommit; id 2 writes 6 there, precommit, checkpoint
-    ∷ record { txs = wroteOver 1 true 1 0 ∷ wroteOver 2 true 2 5 ∷ []; groups = []; memory = set zeros 10 6; wanted = zeros }
+    ∷ record { txs = precommitted 1 1 (byte10 0 ∷ []) ∷ precommitted 2 2 (byte10 5 ∷ []) ∷ []; groups = []; memory = memory10 6; wanted = zeros }
+    -- M5 with its first commit on disk
+    ∷ record { txs = precommitted 1 1 (byte10 0 ∷ []) ∷ precommitted 2 2 (byte10 5 ∷ []) ∷ []; groups = committed 1 1 (byte10 5 ∷ []) ∷ []; memory = memory10 6; wanted = memory10 5 }
+    -- a transaction that wrote twice is undone newest first
+    ∷ record { txs = ran 1 (byte10 3 ∷ byte10 4 ∷ []) ∷ []; groups = []; memory = memory10 5; wanted = memory10 3 }
+    -- an abort of an id that is finished does nothing
+    ∷ record { txs = ran 1 (byte10 0 ∷ []) ∷ []; groups = committed 1 1 (byte10 5 ∷ []) ∷ aborted 1 ∷ []; memory = memory10 5; wanted = memory10 5 }
+    -- running ones are undone in image order; on demand 3's lists they never meet in a byte
+    ∷ record { txs = ran 1 (byte10 3 ∷ []) ∷ ran 2 (byte10 4 ∷ []) ∷ []; groups = []; memory = memory10 5; wanted = memory10 4 }
     ∷ []
 
 -- an equality test that computes, and what it says
@@ -55,21 +71,22 @@ eqList→eq (x ∷ xs) (y ∷ ys) t = go (eqb x y) refl t (λ u. eqList→eq xs 
     go true e u f = let same : x ≡ y = eqb→eq x y (rw e tt) in let rest : xs ≡ ys = f u in cc
     go false e u f = absurd u
 
-abbrev result : Row → List ℕ
+abbrev pub result : Row → List ℕ
 result r = recover layBytes (r .txs) 0 (r .groups) (r .memory)
 
 abbrev every : List Row → Bool
 every [] = true
 every (r ∷ rs) = elim (eqList (result r) (r .wanted)) [ true ↦ every rs | false ↦ false ]
 
-every→all : (rs : List Row) → T (every rs) → All (λ r. recover layBytes (r .txs) 0 (r .groups) (r .memory) ≡ r .wanted) rs
+every→all : (rs : List Row) → T (every rs) → All (λ r. result r ≡ r .wanted) rs
 every→all [] t = nil
 every→all (r ∷ rs) t = go (eqList (result r) (r .wanted)) refl t (λ u. every→all rs u)
   where
-    go : (b : Bool) → eqList (result r) (r .wanted) ≡ b → T (elim b [ true ↦ every rs | false ↦ false ]) → (T (every rs) → All (λ q. result q ≡ q .wanted) rs) → All (λ q. result q ≡ q .wanted) (r ∷ rs)
+    go : (b : Bool) → eqList (result r) (r .wanted) ≡ b → T (elim b [ true ↦ every rs | false ↦ false ]) → (T (every rs) → All (λ q. result q ≡ q .wanted) rs)
+        → All (λ q. result q ≡ q .wanted) (r ∷ rs)
     go true e u f = cons (eqList→eq (result r) (r .wanted) (rw e tt)) (f u)
     go false e u f = absurd u
 
-pub cases : All (λ r. recover layBytes (r .txs) 0 (r .groups) (r .memory) ≡ r .wanted) rows
+pub cases : All (λ r. result r ≡ r .wanted) rows
 unfolding rows undoOrder
 cases = every→all rows tt

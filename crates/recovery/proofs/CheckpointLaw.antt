@@ -7,15 +7,15 @@ use mathlib.Core.Option.{Option, none, some}
 use mathlib.Core.List.{List, [], _∷_, _++_, reverse, reverse-cons}
 use Prim.Native.Nat.{ℕ}
 use Rattle.recovery.specs.Group.{Write, Group, committed, aborted}
-use Rattle.recovery.specs.Lists.{All, nil, cons, has}
+use Rattle.recovery.specs.Lists.{All, cons, has}
 use Rattle.recovery.specs.Transaction.{Tx, running}
 use Rattle.recovery.specs.Replay.{redoAll, undoAll, undoEach, replay}
-use Rattle.recovery.specs.Restart.{undoRecords, undoOf, undone, forward, recover}
+use Rattle.recovery.specs.Restart.{forward, recover}
 use Rattle.recovery.proofs.Lists.{all-left}
 use Rattle.recovery.proofs.Transactions.{lookup-none}
 use Rattle.recovery.proofs.Groups.{replay-append, undoEach-append}
 use Rattle.recovery.proofs.Byte.{act, act-first, first, oldest, newest, undo-oldest, redo-newest, layByte}
-use Rattle.recovery.proofs.Holding.{Restores, neither, both, RunningAt, undo-running}
+use Rattle.recovery.proofs.LiveByte.{Restores, neither, both, RunningAt, undo-running}
 use Rattle.recovery.proofs.TailFit.{Foreign, Fit, late, undone-late}
 
 -- The commits of the groups are those of the transactions, each of which would undo its commit at the byte a, whose value before is x.

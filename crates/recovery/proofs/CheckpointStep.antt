@@ -1,24 +1,22 @@
 -- Checkpoint keeps the invariant: by the checkpoint law the new image is right for every first part of the tail.
-use mathlib.Core.Path.{_≡_, refl, sym, ap, _∙_, subst}
+use mathlib.Core.Path.{_≡_, refl, sym, _∙_, subst}
 use mathlib.Core.Logic.{inr}
-use mathlib.Core.Bool.{not}
 use mathlib.Core.List.{List, [], _∷_, _++_, append-nil}
-use Prim.Native.Nat.{ℕ, _+_, _≤_}
-use native.Mathlib.Omega.{arith}
+use Prim.Native.Nat.{ℕ}
 use lib.ListN.{getD, take, drop, take-append-drop}
-use Rattle.recovery.specs.Group.{Group, groupsSize, lastCsn}
-use Rattle.recovery.specs.Lists.{All, nil, cons, has}
-use Rattle.recovery.specs.Transaction.{Tx, running, committing}
+use Rattle.recovery.specs.Group.{Group}
+use Rattle.recovery.specs.Lists.{All, nil, cons}
+use Rattle.recovery.specs.Transaction.{Tx, running}
 use Rattle.recovery.specs.Replay.{replay}
 use Rattle.recovery.specs.Restart.{finished}
-use Rattle.recovery.specs.Ledger.{Commit, Ledger}
+use Rattle.recovery.specs.Ledger.{Ledger}
 use Rattle.recovery.specs.Machine.{Setup, Disk, Live, afterCheckpoint}
-use Rattle.recovery.specs.Claim.{commits}
 use Rattle.recovery.proofs.Lists.{all-map, all-zip, all-right, all-filter}
-use Rattle.recovery.proofs.Transactions.{running-committing}
-use Rattle.recovery.proofs.Groups.{replay-append, unmarked}
+use Rattle.recovery.proofs.Transactions.{running-committing, isUnfinished}
+use Rattle.recovery.proofs.Groups.{replay-append}
+use Rattle.recovery.proofs.Finished.{unmarked}
 use Rattle.recovery.proofs.Byte.{layByte}
-use Rattle.recovery.proofs.Holding.{RunningAt}
+use Rattle.recovery.proofs.LiveByte.{RunningAt}
 use Rattle.recovery.proofs.TailFit.{Fit}
 use Rattle.recovery.proofs.CheckpointLaw.{Undoes, checkpoint-law}
 use Rattle.recovery.proofs.GrowthLaw.{Linked, here, there}
@@ -47,7 +45,7 @@ module _ (o : Setup) (d : Disk) (l : Live) (k : Ledger) (u : Up o d l k) where
     liveIds = s .liveIds;
     follows = record {
       committings = all-map (λ c h. inr h) (s .csns);
-      runnings = all-filter (λ t. not (has (t .id) (finished (l .tail) []))) (linked-self (running (l .txs)));
+      runnings = all-filter (isUnfinished (finished (l .tail) [])) (linked-self (running (l .txs)));
       lives = all-zip (all-map (λ t h. unmarked [] h refl) (s .fit .free)) (running-committing (s .liveDistinct));
     };
     onDisk = refl;
@@ -89,12 +87,12 @@ module _ (o : Setup) (d : Disk) (l : Live) (k : Ledger) (u : Up o d l k) where
       used = rw append-nil (u .room .used);
     };
     numbers = record { log = rw append-nil (u .numbers .log); image = s .onDisk ∙ sym (last-on-disk o d (u .numbers)) };
-    books = record {
-      durable = rw append-nil (u .books .durable);
-      assigned = rw append-nil (u .books .assigned);
-      queue = u .books .queue;
-      active = u .books .active;
-      settled = u .books .settled;
-      latests = rw append-nil (u .books .latests);
+    ledger = record {
+      durable = rw append-nil (u .ledger .durable);
+      assigned = rw append-nil (u .ledger .assigned);
+      queue = u .ledger .queue;
+      active = u .ledger .active;
+      settled = u .ledger .settled;
+      latests = rw append-nil (u .ledger .latests);
     };
   }

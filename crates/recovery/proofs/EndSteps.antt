@@ -2,33 +2,32 @@
 -- in common, then each.
 use mathlib.Core.Path.{_≡_, refl, sym, ap, _∙_, subst}
 use mathlib.Core.Logic.{_≢_}
-use mathlib.Core.Bool.{Bool, true, false}
+use mathlib.Core.Bool.{Bool, false}
 use mathlib.Core.List.{List, [], _∷_, _++_, map-append, reverse, reverse-append, append-assoc, append-nil}
 use Prim.Native.Nat.{ℕ, suc, _+_, _≤_, _<_}
 use native.Mathlib.Omega.{arith}
-use lib.Dec.{ltb}
-use lib.ListN.{length, getD}
-use Rattle.recovery.specs.Group.{Group, committed, aborted, redoSize, groupSize, groupsSize, csnAfter, lastCsn}
+use lib.ListN.{getD}
+use Rattle.recovery.specs.Group.{Write, Group, committed, aborted, groupSize, groupsSize, csnAfter, lastCsn}
 use Rattle.recovery.specs.Lists.{All, nil, cons}
 use Rattle.recovery.specs.Transaction.{Tx, running, committing, reserved}
-use Rattle.recovery.specs.Replay.{undoAll, replay, layBytes}
+use Rattle.recovery.specs.Replay.{replay}
 use Rattle.recovery.specs.Restart.{groupId, above, sortDesc}
-use Rattle.recovery.specs.Ledger.{Ledger, OpenTx, Commit, Entry, writesOf, others, latest, enterPrecommitted, enterRolledBack}
+use Rattle.recovery.specs.Ledger.{Ledger, OpenTx, Commit, Entry, writesOf, others, enterPrecommitted, enterRolledBack}
 use Rattle.recovery.specs.Machine.{Setup, Disk, Live, Listed, lastAssigned, inCommit, afterPrecommit, afterAbort}
 use Rattle.recovery.specs.Claim.{commits}
 use Rattle.recovery.proofs.Bool.{ltb-yes}
 use Rattle.recovery.proofs.Lists.{all-map, all-zip, all-append, all-here, all-less, all-more, all-edit, all-filter, filter-in, filter-append, EveryPrefix, prefix-whole, prefix-snoc}
 use Rattle.recovery.proofs.Distinct.{Distinct, distinct-more, distinct-others, distinct-less, distinct-edit}
 use Rattle.recovery.proofs.Sorting.{sort-top}
-use Rattle.recovery.proofs.Transactions.{Found, find, DistinctIds, found-running, found-apart, running-out, running-append, committing-in, committing-out, committing-append}
+use Rattle.recovery.proofs.Transactions.{Found, find, DistinctIds, found-running, found-apart, running-out, running-append, committing-in, committing-out, committing-append, isCommitting, isAbove}
 use Rattle.recovery.proofs.Groups.{groupsSize-append, reserved-append, lastCsn-append, replay-append}
 use Rattle.recovery.proofs.Byte.{act, oldest, newest, redo-newest, layByte, undo-byte, undo-length}
-use Rattle.recovery.proofs.Holding.{RunningAt, Restores, precommit-byte, abort-byte}
+use Rattle.recovery.proofs.LiveByte.{RunningAt, Restores, precommit-byte, abort-byte}
 use Rattle.recovery.proofs.TailFit.{Ungrouped, foreign-map, tied-grows, tied-one-commit, tied-one-abort}
 use Rattle.recovery.proofs.CheckpointLaw.{undoes-one-commit, undoes-one-abort}
 use Rattle.recovery.proofs.GrowthLaw.{Follows, follows-next, growth-commit, growth-abort}
 use Rattle.recovery.proofs.Room.{Roomy, roomy-now}
-use Rattle.recovery.proofs.Books.{entryOf, opens, HasLatest, commits-append, others-one, writes-one, latest-own, latest-other}
+use Rattle.recovery.proofs.Ledger.{entryOf, opens, HasLatest, commits-append, others-one, writes-one, latest-own, latest-other}
 use Rattle.recovery.proofs.Invariant.{Standing, AtByte, Up, baseAt, ImageAt}
 
 module _ (o : Setup) (d : Disk) (l : Live) (k : Ledger) (r : Tx) (listed : Listed r (l .txs)) (run : r .committing ≡ false) (u : Up o d l k) where
@@ -57,7 +56,7 @@ module _ (o : Setup) (d : Disk) (l : Live) (k : Ledger) (r : Tx) (listed : Liste
   committings = ap committing (found .whole) ∙ committing-out (found .before) r (found .after) run
 
   committings-apart : All (λ t. t .id ≢ r .id) (committing (found .before) ++ committing (found .after))
-  committings-apart = subst (λ (ts : List Tx). All (λ t. t .id ≢ r .id) ts) (committing-append (found .before) (found .after)) (all-filter (λ t. t .committing) unlisted)
+  committings-apart = subst (λ (ts : List Tx). All (λ t. t .id ≢ r .id) ts) (committing-append (found .before) (found .after)) (all-filter isCommitting unlisted)
 
   apart : All (λ t. t .id ≢ r .id) (xs ++ ys)
   apart = found-apart r run found (s .liveDistinct)
@@ -120,7 +119,7 @@ module _ (o : Setup) (d : Disk) (l : Live) (k : Ledger) (r : Tx) (listed : Liste
 
   -- the open transactions with r among them, and without it
   actives : k .active ≡ opens (xs ++ r ∷ ys)
-  actives = u .books .active ∙ ap opens runnings
+  actives = u .ledger .active ∙ ap opens runnings
 
   actives-less : others (r .id) (k .active) ≡ opens (xs ++ ys)
   actives-less = ap (λ (ss : List OpenTx). others (r .id) ss) actives ∙ others-one r xs ys apart
@@ -183,13 +182,13 @@ module _ (o : Setup) (d : Disk) (l : Live) (k : Ledger) (r : Tx) (listed : Liste
       used = rw abort-runnings (end-used aborting refl (omega arith));
     };
     numbers = u .numbers;
-    books = record {
-      durable = u .books .durable;
-      assigned = rw abort-commits (u .books .assigned);
-      queue = ap (λ (es : List Entry). es ++ (entryOf aborting ∷ [])) (u .books .queue) ∙ sym (map-append entryOf (l .tail) (aborting ∷ []));
+    ledger = record {
+      durable = u .ledger .durable;
+      assigned = rw abort-commits (u .ledger .assigned);
+      queue = ap (λ (es : List Entry). es ++ (entryOf aborting ∷ [])) (u .ledger .queue) ∙ sym (map-append entryOf (l .tail) (aborting ∷ []));
       active = rw abort-runnings actives-less;
-      settled = u .books .settled;
-      latests = rw (abort-committings, abort-commits) (u .books .latests);
+      settled = u .ledger .settled;
+      latests = rw (abort-committings, abort-commits) (u .ledger .latests);
     };
   }
 
@@ -222,7 +221,7 @@ module _ (o : Setup) (d : Disk) (l : Live) (k : Ledger) (r : Tx) (listed : Liste
   -- the new number is the highest
   precommit-sorted : sortDesc (above (l .csn) (committing (afterPrecommit r l .txs))) ≡ reverse (u .late ++ (c ∷ []))
   precommit-sorted =
-      let high : Tx → Bool = λ t. ltb (l .csn) (t .csn) in
+      let high : Tx → Bool = isAbove (l .csn) in
       let cs : List Tx = committing (found .before) in
       let ds : List Tx = committing (found .after) in
       let low : All (λ t. t .csn < n) (above (l .csn) cs ++ above (l .csn) ds) =
@@ -257,7 +256,7 @@ module _ (o : Setup) (d : Disk) (l : Live) (k : Ledger) (r : Tx) (listed : Liste
   }
 
   precommit-entry : record { id = r .id; csn = n; writes = writesOf (r .id) (k .active) } ≡ entry
-  precommit-entry = ap (λ (ws : List Rattle.recovery.specs.Group.Write). record { id = r .id; csn = n; writes = ws }) (ap (λ (ss : List OpenTx). writesOf (r .id) ss) actives ∙ writes-one r xs ys apart)
+  precommit-entry = ap (λ (ws : List Write). record { id = r .id; csn = n; writes = ws }) (ap (λ (ss : List OpenTx). writesOf (r .id) ss) actives ∙ writes-one r xs ys apart)
 
   -- all commits assigned so far, and the new one
   abbrev all : List Commit
@@ -271,7 +270,7 @@ module _ (o : Setup) (d : Disk) (l : Live) (k : Ledger) (r : Tx) (listed : Liste
   precommit-latests : All (HasLatest (all ++ (entry ∷ []))) (committing (found .before) ++ c ∷ committing (found .after))
   precommit-latests =
       all-more (committing (found .before)) c (committing (found .after)) (entry, latest-own all entry, refl)
-      (all-map (λ t p. (p .1 .0, latest-other (t .id) all entry (λ e. p .0 (sym e)) ∙ p .1 .1, p .1 .2)) (all-zip committings-apart (rw committings at (u .books .latests))))
+      (all-map (λ t p. (p .1 .0, latest-other (t .id) all entry (λ e. p .0 (sym e)) ∙ p .1 .1, p .1 .2)) (all-zip committings-apart (rw committings at (u .ledger .latests))))
 
   pub precommit-keeps : Up o d (afterPrecommit r l) (enterPrecommitted (r .id) (suc (lastAssigned l)) k)
   precommit-keeps = record {
@@ -298,12 +297,12 @@ module _ (o : Setup) (d : Disk) (l : Live) (k : Ledger) (r : Tx) (listed : Liste
       used = rw precommit-runnings (end-used committing-group refl (omega arith));
     };
     numbers = u .numbers;
-    books = record {
-      durable = u .books .durable;
-      assigned = rw (precommit-entry, precommit-commits) (ap (λ (cs : List Commit). cs ++ (entry ∷ [])) (u .books .assigned));
-      queue = rw precommit-entry (ap (λ (es : List Entry). es ++ (entryOf committing-group ∷ [])) (u .books .queue) ∙ sym (map-append entryOf (l .tail) (committing-group ∷ [])));
+    ledger = record {
+      durable = u .ledger .durable;
+      assigned = rw (precommit-entry, precommit-commits) (ap (λ (cs : List Commit). cs ++ (entry ∷ [])) (u .ledger .assigned));
+      queue = rw precommit-entry (ap (λ (es : List Entry). es ++ (entryOf committing-group ∷ [])) (u .ledger .queue) ∙ sym (map-append entryOf (l .tail) (committing-group ∷ [])));
       active = rw precommit-runnings actives-less;
-      settled = u .books .settled;
+      settled = u .ledger .settled;
       latests = rw (precommit-committings, precommit-commits) precommit-latests;
     };
   }

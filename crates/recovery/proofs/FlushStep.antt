@@ -1,24 +1,22 @@
 -- Flush, done or cut, keeps the invariant: the groups stored go from the tail to the log, and the image was right for every first part of
 -- the tail.
-use mathlib.Core.Path.{_≡_, refl, sym, ap, _∙_, subst}
-use mathlib.Core.List.{List, [], _∷_, _++_, map-append, append-assoc, append-nil, Memᴰ·append-left}
-use Prim.Native.Nat.{ℕ, _+_, _≤_}
+use mathlib.Core.Path.{_≡_, sym, ap, _∙_, subst}
+use mathlib.Core.List.{List, _++_, map-append, append-assoc, Memᴰ·append-left}
+use Prim.Native.Nat.{ℕ, _≤_}
 use native.Mathlib.Omega.{arith}
 use lib.ListN.{length, take, drop, take-append-drop}
 use lib.Seq.{drop-append-seam}
 use Rattle.recovery.specs.Group.{Group, groupsSize, lastCsn, fitting}
-use Rattle.recovery.specs.Lists.{All}
-use Rattle.recovery.specs.Transaction.{Tx, running, committing}
-use Rattle.recovery.specs.Ledger.{Commit, Entry, Ledger, fittingEntries, leave, emptied, enterFlushed}
+use Rattle.recovery.specs.Ledger.{Entry, Ledger, fittingEntries, leave, emptied, enterFlushed}
 use Rattle.recovery.specs.Machine.{Setup, Disk, Live, storing, afterFlush}
 use Rattle.recovery.specs.Claim.{commits}
 use Rattle.recovery.proofs.Lists.{all-map, take-map}
 use Rattle.recovery.proofs.Groups.{groupsSize-append, lastCsn-append, replay-append, fitting-split, fitting-all}
 use Rattle.recovery.proofs.Byte.{layByte}
 use Rattle.recovery.proofs.TailFit.{Fit, late, fit-late, tied-early}
-use Rattle.recovery.proofs.CheckpointLaw.{Undoes, undoes-late}
-use Rattle.recovery.proofs.Numbers.{Numbers, consecutive-append, consecutive-tied, last-on-disk}
-use Rattle.recovery.proofs.Books.{Books, entryOf, entries, commits-append, commits-entries, fitting-entries}
+use Rattle.recovery.proofs.CheckpointLaw.{undoes-late}
+use Rattle.recovery.proofs.Numbers.{Consecutive, consecutive-append, consecutive-tied, last-on-disk}
+use Rattle.recovery.proofs.Ledger.{Agrees, entryOf, entries, commits-append, commits-entries, fitting-entries}
 use Rattle.recovery.proofs.Invariant.{Standing, AtByte, Up, Down, baseAt, crash, down-emptied}
 
 -- the live state after the first groups P of a tail P ++ U went to the log
@@ -62,14 +60,14 @@ module _ (o : Setup) (d : Disk) (l : Live) (k : Ledger) (P U : List Group) (spli
   same-commits : commits (d .before ++ d .after) ++ commits (l .tail) ≡ commits (d .before ++ (d .after ++ P)) ++ commits U
   same-commits = rw (split, commits-append P U, stored-commits) (sym (append-assoc (commits (d .before ++ d .after)) (commits P) (commits U)))
 
-  stored-books : Books (storing P d) (storedLive P U l) (leave (entries P) k)
-  stored-books = record {
-    durable = rw (u .books .durable, commits-entries P, stored-commits);
-    assigned = u .books .assigned ∙ same-commits;
-    queue = ap (λ (es : List Entry). drop (length (entries P)) es) (u .books .queue ∙ (ap entries split ∙ map-append entryOf P U)) ∙ drop-append-seam (entries P) (entries U);
-    active = u .books .active;
-    settled = all-map (λ c m. Memᴰ·append-left _ m) (u .books .settled);
-    latests = rw same-commits at (u .books .latests);
+  stored-ledger : Agrees (storing P d) (storedLive P U l) (leave (entries P) k)
+  stored-ledger = record {
+    durable = rw (u .ledger .durable, commits-entries P, stored-commits);
+    assigned = u .ledger .assigned ∙ same-commits;
+    queue = ap (λ (es : List Entry). drop (length (entries P)) es) (u .ledger .queue ∙ (ap entries split ∙ map-append entryOf P U)) ∙ drop-append-seam (entries P) (entries U);
+    active = u .ledger .active;
+    settled = all-map (λ c m. Memᴰ·append-left _ m) (u .ledger .settled);
+    latests = rw same-commits at (u .ledger .latests);
   }
 
   stored-keeps : Up o (storing P d) (storedLive P U l) (leave (entries P) k)
@@ -92,17 +90,17 @@ module _ (o : Setup) (d : Disk) (l : Live) (k : Ledger) (P U : List Group) (spli
     numbers = record {
       log = rw stored-log
           (consecutive-append (u .numbers .log)
-          (subst (λ (n : ℕ). Rattle.recovery.proofs.Numbers.Consecutive n P) (s .onDisk ∙ sym (last-on-disk o d (u .numbers))) (consecutive-tied (tied-early P U (fit-split .tied)))));
+          (subst (λ (n : ℕ). Consecutive n P) (s .onDisk ∙ sym (last-on-disk o d (u .numbers))) (consecutive-tied (tied-early P U (fit-split .tied)))));
       image = u .numbers .image;
     };
-    books = stored-books;
+    ledger = stored-ledger;
   }
 
 module _ (o : Setup) (d : Disk) (l : Live) (k : Ledger) (q allowed : ℕ) (u : Up o d l k) where
   -- what leaves the ledger's queue is what leaves the tail
   leaving : fittingEntries allowed (take q (k .queue)) ≡ entries (fitting allowed (take q (l .tail)))
   leaving =
-      ap (λ (es : List Entry). fittingEntries allowed (take q es)) (u .books .queue)
+      ap (λ (es : List Entry). fittingEntries allowed (take q es)) (u .ledger .queue)
       ∙ (ap (λ (es : List Entry). fittingEntries allowed es) (take-map entryOf q (l .tail)) ∙ fitting-entries allowed (take q (l .tail)))
 
   pub flush-keeps : groupsSize (take q (l .tail)) ≤ allowed → Up o (storing (take q (l .tail)) d) (afterFlush q l) (enterFlushed q allowed k)

@@ -1,9 +1,9 @@
 -- The growth law: an image on disk stays right as one more group arrives. An image's running transaction that has no group yet is still
 -- running, with at least its bytes; an image's committing one is finished, or its number is at most the last one in the log.
-use mathlib.Core.Path.{_≡_, refl, sym, ap, _∙_, subst}
+use mathlib.Core.Path.{_≡_, refl, sym, ap, _∙_}
 use mathlib.Core.Logic.{_≢_, _⊎_, inl, inr}
-use mathlib.Core.Bool.{Bool, true, false, not, cond, _||_, or-true, true≢false}
-use mathlib.Core.Option.{Option, none, some}
+use mathlib.Core.Bool.{Bool, true, false, not, cond, or-true}
+use mathlib.Core.Option.{Option, none}
 use mathlib.Core.List.{List, [], _∷_, _++_, append-nil}
 use Prim.Native.Nat.{ℕ, _≤_}
 use native.Mathlib.Omega.{arith}
@@ -14,14 +14,14 @@ use Rattle.recovery.specs.Transaction.{Tx, running, committing}
 use Rattle.recovery.specs.Replay.{undoAll, undoEach, replay}
 use Rattle.recovery.specs.Restart.{groupId, finished, undoRecords, undoOf, unfinished, sortDesc, above, undoOrder, undone, forward, recover}
 use Rattle.recovery.proofs.Bool.{clash, eqb-yes, eqb-ne, eqb-no, eqb-same, or-both, is-ltb}
-use Rattle.recovery.proofs.Lists.{all-map, all-zip, all-append, all-left, all-right, all-here, all-less, all-filter, all-unfilter, all-passing, filter-all, filter-none, filter-append, filter-out}
-use Rattle.recovery.proofs.Distinct.{Distinct, empty, more, distinct-filter, distinct-others}
+use Rattle.recovery.proofs.Lists.{all-map, all-zip, all-left, all-right, all-here, all-less, all-filter, all-unfilter, all-passing, filter-none, filter-append}
+use Rattle.recovery.proofs.Distinct.{distinct-filter}
 use Rattle.recovery.proofs.Sorting.{sort-all}
-use Rattle.recovery.proofs.Transactions.{DistinctIds, lookup-none, lookup-own}
-use Rattle.recovery.proofs.Groups.{lastCsn-append, finished-append, replay-append, undoEach-append, forward-append}
+use Rattle.recovery.proofs.Transactions.{DistinctIds, lookup-none, lookup-own, isRunning, isCommitting, isAbove, isUnfinished}
+use Rattle.recovery.proofs.Groups.{lastCsn-append, replay-append, undoEach-append, forward-append}
+use Rattle.recovery.proofs.Finished.{finished-append, unfinished-more, leave-none, leave-one}
 use Rattle.recovery.proofs.Byte.{act, oldest, newest, undo-oldest, redo-newest, layByte}
-use Rattle.recovery.proofs.Holding.{Quiet, RunningAt, Side, off, on, side}
-use Rattle.recovery.proofs.AbortLaw.{unfinished-more}
+use Rattle.recovery.proofs.LiveByte.{Quiet, RunningAt, Side, off, on, side}
 
 -- an image's running transaction and the live one that it has become
 
@@ -57,9 +57,6 @@ pub record Follows (itxs : List Tx) (d : ℕ) (G : List Group) (rs : List Tx) : 
   pub runnings : All (λ t. Linked t rs) (unfinished (finished G []) (running itxs))
   pub lives : All (λ r. (has (r .id) (finished G []) ≡ false) × All (λ c. c .id ≢ r .id) (committing itxs)) rs
 
-abbrev open? : List ℕ → Tx → Bool
-open? f t = not (has (t .id) f)
-
 -- step 4 has the running ones to undo, and no more
 pub undone-running : (itxs : List Tx) (d : ℕ) (G : List Group) (rs : List Tx) → Follows itxs d G rs → undone itxs d G ≡ unfinished (finished G []) (running itxs)
 unfolding undoOrder
@@ -67,10 +64,10 @@ undone-running itxs d G rs w =
     let f : List ℕ = finished G [] in
     let n : ℕ = lastCsn d G in
     let no-more : unfinished f (sortDesc (above n (committing itxs))) ≡ [] =
-    filter-none (open? f) (sort-all (all-passing (λ c. ltb n (c .csn)) (all-map (λ c h l. one f n c h l) (w .committings)))) in
-    filter-append (open? f) (running itxs) (sortDesc (above n (committing itxs))) ∙ rw no-more (append-nil (unfinished f (running itxs)))
+    filter-none (isUnfinished f) (sort-all (all-passing (isAbove n) (all-map (λ c h l. one f n c h l) (w .committings)))) in
+    filter-append (isUnfinished f) (running itxs) (sortDesc (above n (committing itxs))) ∙ rw no-more (append-nil (unfinished f (running itxs)))
   where
-    one : (f : List ℕ) (n : ℕ) (c : Tx) → (has (c .id) f ≡ true) ⊎ (c .csn ≤ n) → ltb n (c .csn) ≡ true → open? f c ≡ false
+    one : (f : List ℕ) (n : ℕ) (c : Tx) → (has (c .id) f ≡ true) ⊎ (c .csn ≤ n) → ltb n (c .csn) ≡ true → isUnfinished f c ≡ false
     one f n c (inl h) l = rw h
     one f n c (inr h) l = absurd (omega (arith, is-ltb n (c .csn) l))
 
@@ -100,7 +97,7 @@ module _ (itxs : List Tx) (d : ℕ) (G : List Group) (xs : List Tx) (r : Tx) (ys
     pub follows-next : lastCsn d G ≤ csnAfter (lastCsn d G) g → Follows itxs d (G ++ (g ∷ [])) (xs ++ ys)
     follows-next le = record {
       committings = rw (now-finished, lastCsn-append d G (g ∷ [])) (all-map old (w .committings));
-      runnings = rw now-left (all-passing (open? (r .id ∷ [])) (all-map (λ t p e. other t e p) tri));
+      runnings = rw now-left (all-passing (isUnfinished (r .id ∷ [])) (all-map (λ t p e. other t e p) tri));
       lives = rw now-finished (all-map (λ t p. (or-both (eqb (t .id) (r .id)) (has (t .id) f) (eqb-no (t .id) (r .id) (p .0)) (p .1 .0), p .1 .1)) (all-zip apart (all-less xs r ys (w .lives))));
     }
       where
@@ -108,7 +105,7 @@ module _ (itxs : List Tx) (d : ℕ) (G : List Group) (xs : List Tx) (r : Tx) (ys
         old c (inl h) = inl (rw h (or-true (eqb (c .id) (r .id))))
         old c (inr h) = inr (omega arith)
 
-        other : (t : Tx) → open? (r .id ∷ []) t ≡ true → ((t .id ≡ r .id) × Over t r) ⊎ ((t .id ≢ r .id) × Linked t (xs ++ ys)) → Linked t (xs ++ ys)
+        other : (t : Tx) → isUnfinished (r .id ∷ []) t ≡ true → ((t .id ≡ r .id) × Over t r) ⊎ ((t .id ≢ r .id) × Linked t (xs ++ ys)) → Linked t (xs ++ ys)
         other t e (inl p) = absurd (clash e (rw (p .0, eqb-same (r .id))))
         other t e (inr p) = p .1
 
@@ -136,14 +133,6 @@ position i (t ∷ L) = go (eqb (t .id) i) refl (position i L)
     go false e (nowhere h) = nowhere (cons (eqb-ne (t .id) i e) h)
     go false e (between ps u qs w n) = between (t ∷ ps) u qs (ap (λ (l : List Tx). t ∷ l) w) n
 
-leave-none : (i : ℕ) {L : List Tx} → All (λ t. t .id ≢ i) L → unfinished (i ∷ []) L ≡ L
-leave-none i h = filter-all (open? (i ∷ [])) (all-map (λ t n. rw (eqb-no (t .id) i n)) h)
-
-leave-one : (ps : List Tx) (t : Tx) (qs : List Tx) → DistinctIds (ps ++ t ∷ qs) → unfinished (t .id ∷ []) (ps ++ t ∷ qs) ≡ ps ++ qs
-leave-one ps t qs d =
-    filter-out (open? (t .id ∷ [])) ps t qs (rw (eqb-same (t .id)))
-    ∙ (sym (filter-append (open? (t .id ∷ [])) ps qs) ∙ leave-none (t .id) (distinct-others ps t qs d))
-
 module _ (a x mem v : ℕ) (xs : List Tx) (r : Tx) (ys L : List Tx) (at : RunningAt a x mem (xs ++ r ∷ ys)) (distinct : DistinctIds L)
     (links : All (λ t. ((t .id ≡ r .id) × Over t r) ⊎ ((t .id ≢ r .id) × Linked t (xs ++ ys))) L) (e : undoEach (layByte a) L v ≡ x) where
   abbrev rest : List Tx
@@ -151,9 +140,9 @@ module _ (a x mem v : ℕ) (xs : List Tx) (r : Tx) (ys L : List Tx) (at : Runnin
 
   -- where the other live ones are quiet, so is what is left
   rest-still : All (Quiet a) (xs ++ ys) → All (Still a) rest
-  rest-still q = all-passing (open? (r .id ∷ [])) (all-map (λ t p o. go t o p) links)
+  rest-still q = all-passing (isUnfinished (r .id ∷ [])) (all-map (λ t p o. go t o p) links)
     where
-      go : (t : Tx) → open? (r .id ∷ []) t ≡ true → ((t .id ≡ r .id) × Over t r) ⊎ ((t .id ≢ r .id) × Linked t (xs ++ ys)) → Still a t
+      go : (t : Tx) → isUnfinished (r .id ∷ []) t ≡ true → ((t .id ≡ r .id) × Over t r) ⊎ ((t .id ≢ r .id) × Linked t (xs ++ ys)) → Still a t
       go t o (inl p) = absurd (clash o (rw (p .0, eqb-same (r .id))))
       go t o (inr p) = linked-quiet q (p .1)
 
@@ -176,7 +165,7 @@ module _ (a x mem v : ℕ) (xs : List Tx) (r : Tx) (ys L : List Tx) (at : Runnin
           ∙ (undoEach-append (layByte a) ps qs v ∙ (ap (λ (n : ℕ). undoEach (layByte a) qs n) (sym z)
           ∙ (sym (undoEach-append (layByte a) ps (t ∷ qs) v) ∙ (ap (λ (l : List Tx). undoEach (layByte a) l v) (sym w) ∙ e))))
 
-  pub grow-commit : undoEach (layByte a) rest (act (newest a (r .redo)) v) ≡ act (newest a (r .redo)) x
+  grow-commit : undoEach (layByte a) rest (act (newest a (r .redo)) v) ≡ act (newest a (r .redo)) x
   grow-commit = go (side a x mem xs r ys at)
     where
       go : Side a x mem r (xs ++ ys) → undoEach (layByte a) rest (act (newest a (r .redo)) v) ≡ act (newest a (r .redo)) x
@@ -184,7 +173,7 @@ module _ (a x mem v : ℕ) (xs : List Tx) (r : Tx) (ys L : List Tx) (at : Runnin
       go (on o n q) = rw n (undo-still mem (rest-still q))
 
   -- u: the image's undo records of r's id
-  pub grow-abort : (u : List Write) → All (λ t. t .id ≡ r .id → t .undo ≡ u) L → (All (λ t. t .id ≢ r .id) L → u ≡ []) → undoEach (layByte a) rest (act (oldest a u) v) ≡ x
+  grow-abort : (u : List Write) → All (λ t. t .id ≡ r .id → t .undo ≡ u) L → (All (λ t. t .id ≢ r .id) L → u ≡ []) → undoEach (layByte a) rest (act (oldest a u) v) ≡ x
   grow-abort u own gone = go (position (r .id) L) (side a x mem xs r ys at)
     where
       go : Position (r .id) L → Side a x mem r (xs ++ ys) → undoEach (layByte a) rest (act (oldest a u) v) ≡ x
@@ -220,7 +209,7 @@ module _ (a base imem : ℕ) (itxs : List Tx) (d : ℕ) where
     start = ap (λ (l : List Tx). undoEach (layByte a) l v) (sym (undone-running itxs d G (xs ++ r ∷ ys) w)) ∙ recovers
 
     distinct-now : DistinctIds unfinishedNow
-    distinct-now = distinct-filter (open? (finished G [])) (distinct-filter (λ t. not (t .committing)) distinct)
+    distinct-now = distinct-filter (isUnfinished (finished G [])) (distinct-filter isRunning distinct)
 
     undone-next : (g : Group) → groupId g ≡ r .id → lastCsn d G ≤ csnAfter (lastCsn d G) g → undone itxs d (G ++ (g ∷ [])) ≡ unfinished (r .id ∷ []) unfinishedNow
     undone-next g of le =
@@ -238,15 +227,15 @@ module _ (a base imem : ℕ) (itxs : List Tx) (d : ℕ) where
         let u : List Write = undoOf (r .id) itxs in
         let live : (has (r .id) (finished G []) ≡ false) × All (λ c. c .id ≢ r .id) (committing itxs) = all-here xs r ys (w .lives) in
         let own : All (λ t. t .id ≡ r .id → t .undo ≡ u) unfinishedNow =
-        all-filter (open? (finished G [])) (all-filter (λ t. not (t .committing)) (all-map (λ t e i. sym (ap undoRecords (rw i at e))) (lookup-own distinct))) in
+        all-filter (isUnfinished (finished G [])) (all-filter isRunning (all-map (λ t e i. sym (ap undoRecords (rw i at e))) (lookup-own distinct))) in
         let step : forward (layByte a) itxs (G ++ (g ∷ [])) [] imem ≡ undoAll (layByte a) u v =
         forward-append (layByte a) itxs G (g ∷ []) [] imem ∙ ap (λ (b : Bool). cond b v (undoAll (layByte a) u v)) (live .0) in
         rw (undone-next g refl (omega arith), step, replay-append (layByte a) G (g ∷ []) base, undo-oldest a u v)
         (grow-abort a (replay (layByte a) G base) mem v xs r ys unfinishedNow at distinct-now (tri itxs d G xs r ys w apart) start u own
-        (λ h. ap undoRecords (lookup-none (gone (live .0) (all-unfilter (λ t. not (t .committing)) itxs (all-unfilter (open? (finished G [])) (running itxs) h)) (all-unfilter (λ t. t .committing) itxs (live .1))))))
+        (λ h. ap undoRecords (lookup-none (gone (live .0) (all-unfilter isRunning itxs (all-unfilter (isUnfinished (finished G [])) (running itxs) h)) (all-unfilter isCommitting itxs (live .1))))))
       where
         -- an id that is not finished, and neither committing nor left among the running ones, is not in the image
-        gone : has (r .id) (finished G []) ≡ false → {txs : List Tx} → All (λ t. not (t .committing) ≡ true → open? (finished G []) t ≡ true → t .id ≢ r .id) txs
+        gone : has (r .id) (finished G []) ≡ false → {txs : List Tx} → All (λ t. not (t .committing) ≡ true → isUnfinished (finished G []) t ≡ true → t .id ≢ r .id) txs
             → All (λ t. t .committing ≡ true → t .id ≢ r .id) txs → All (λ t. t .id ≢ r .id) txs
         gone n nil nil = nil
         gone n (cons {x = t} h hs) (cons k ks) = cons (λ i. go i (t .committing) refl) (gone n hs ks)

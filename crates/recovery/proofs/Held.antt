@@ -1,9 +1,9 @@
 -- Number 9: where no byte of the range is held by another, no other running transaction has a record over one of them.
-use mathlib.Core.Path.{_≡_, refl, sym, ap, _∙_, subst}
+use mathlib.Core.Path.{_≡_, refl, sym, ap}
 use mathlib.Core.Logic.{_≢_, _⊎_, inl, inr}
 use mathlib.Core.Bool.{Bool, true, false, not, _&&_}
-use mathlib.Core.Option.{Option, none, some}
-use mathlib.Core.List.{List, [], _∷_, _++_}
+use mathlib.Core.Option.{none}
+use mathlib.Core.List.{List, [], _∷_}
 use Prim.Native.Nat.{ℕ, suc, _+_, _≤_, _<_}
 use native.Mathlib.Omega.{arith}
 use lib.Dec.{eqb, leb, ltb}
@@ -11,9 +11,10 @@ use lib.ListN.{length}
 use Rattle.recovery.specs.Group.{Write}
 use Rattle.recovery.specs.Lists.{All, nil, cons, any}
 use Rattle.recovery.specs.Transaction.{Tx, running, overlap, heldByOther}
-use Rattle.recovery.proofs.Bool.{clash, eqb-yes, eqb-no, is-leb, not-leb, is-ltb, not-ltb, and-cases}
+use Rattle.recovery.proofs.Bool.{clash, eqb-no, is-leb, not-leb, is-ltb, not-ltb, and-cases}
 use Rattle.recovery.proofs.Lists.{all-map, all-passing, none-any}
-use Rattle.recovery.proofs.Byte.{first, seen, seenAt, oldest}
+use Rattle.recovery.proofs.Transactions.{isRunning}
+use Rattle.recovery.proofs.Byte.{seen, seenAt, oldest}
 
 seen-out : (a i : ℕ) (bs : List ℕ) → (a < i) ⊎ (i + length bs ≤ a) → seenAt a i bs ≡ none
 seen-out a i [] h = refl
@@ -41,7 +42,7 @@ apart-oldest a w s nil = refl
 apart-oldest a w s (cons {x = u} h hs) = rw (apart-byte a u w h s) (apart-oldest a w s hs)
 
 pub unheld : (i : ℕ) (w : Write) (txs : List Tx) (a : ℕ) → heldByOther i w txs ≡ false → seen a w ≢ none → All (λ t. t .id ≢ i → oldest a (t .undo) ≡ none) (running txs)
-unheld i w txs a h s = all-passing (λ t. not (t .committing)) (all-map (λ t e run n. go t n run (and-cases (not (eqb i (t .id))) (not (t .committing) && over t) e)) (none-any byOther txs h))
+unheld i w txs a h s = all-passing isRunning (all-map (λ t e run n. go t n run (and-cases (not (eqb i (t .id))) (not (t .committing) && over t) e)) (none-any byOther txs h))
   where
     over : Tx → Bool
     over t = any (λ u. overlap u w) (t .undo)

@@ -1,6 +1,6 @@
 -- The invariant of disk, live state and ledger, and its part that lasts when the current fails.
-use mathlib.Core.Path.{_≡_, refl, sym, ap, _∙_, subst}
-use mathlib.Core.List.{List, [], _∷_, _++_, List·Memᴰ}
+use mathlib.Core.Path.{_≡_}
+use mathlib.Core.List.{List, _++_, List·Memᴰ}
 use Prim.Native.Nat.{ℕ, _≤_, _<_}
 use lib.ListN.{length, getD}
 use Rattle.recovery.specs.Group.{Group, lastCsn}
@@ -14,13 +14,13 @@ use Rattle.recovery.specs.Claim.{commits}
 use Rattle.recovery.proofs.Lists.{EveryPrefix, prefix-left}
 use Rattle.recovery.proofs.Transactions.{DistinctIds}
 use Rattle.recovery.proofs.Byte.{layByte}
-use Rattle.recovery.proofs.Holding.{RunningAt}
+use Rattle.recovery.proofs.LiveByte.{RunningAt}
 use Rattle.recovery.proofs.TailFit.{Fit}
 use Rattle.recovery.proofs.CheckpointLaw.{Undoes}
 use Rattle.recovery.proofs.GrowthLaw.{Follows, Recovers}
 use Rattle.recovery.proofs.Numbers.{Numbers}
 use Rattle.recovery.proofs.Room.{Roomy, Room}
-use Rattle.recovery.proofs.Books.{Books}
+use Rattle.recovery.proofs.Ledger.{Agrees}
 
 -- Without bytes: ids, commit numbers, the image's transactions and the tail. `late` are the committing ones whose groups are in the tail.
 pub record Standing (d : Disk) (l : Live) (late : List Tx) : Type 0 where
@@ -57,7 +57,7 @@ pub record Up (o : Setup) (d : Disk) (l : Live) (k : Ledger) : Type 0 where
   pub bytes : (a : ℕ) → a < o .size → AtByte o d l late a
   pub room : Room o d l
   pub numbers : Numbers o d
-  pub books : Books d l k
+  pub ledger : Agrees d l k
 
 -- What a restart needs. It says nothing of the ledger's open transactions and queue.
 pub record Down (o : Setup) (d : Disk) (k : Ledger) : Type 0 where
@@ -82,9 +82,9 @@ crash o d l k u = record {
   bytes = λ a h. prefix-left (ImageAt o d a) (d .after) (l .tail) (u .bytes a h .image);
   fits = prefix-left (Roomy o d) (d .after) (l .tail) (u .room .fits);
   numbers = u .numbers;
-  durable = u .books .durable;
-  assigned = (commits (l .tail), u .books .assigned);
-  settled = u .books .settled;
+  durable = u .ledger .durable;
+  assigned = (commits (l .tail), u .ledger .assigned);
+  settled = u .ledger .settled;
 }
 
 -- the ledger loses what is open and queued

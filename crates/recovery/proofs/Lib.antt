@@ -5,15 +5,16 @@ pub mod Distinct
 pub mod Sorting
 pub mod Transactions
 pub mod Groups
+pub mod Finished
 pub mod AbortLaw
 pub mod Byte
-pub mod Holding
+pub mod LiveByte
 pub mod TailFit
 pub mod CheckpointLaw
 pub mod GrowthLaw
 pub mod Numbers
 pub mod Room
-pub mod Books
+pub mod Ledger
 pub mod Invariant
 pub mod BeginStep
 pub mod Held
@@ -25,3 +26,4 @@ pub mod CheckpointStep
 pub mod RestartStep
 pub mod Theorem
 pub mod Cases
+pub mod Example

@@ -1,14 +1,12 @@
 -- Lists: a property of every element, `any`, `filter`, and properties of every first part.
 use mathlib.Core.Path.{_≡_, refl, sym, ap, _∙_, subst}
-use mathlib.Core.Logic.{_≢_}
-use mathlib.Core.Bool.{Bool, true, false, not, cond, _||_, _&&_}
+use mathlib.Core.Bool.{Bool, true, false, cond, _&&_}
 use mathlib.Core.List.{List, [], _∷_, _++_, map, reverse, reverse-cons, append-nil}
 use Prim.Native.Nat.{ℕ, zero, suc}
-use lib.Dec.{eqb}
-use lib.ListN.{take, drop}
+use lib.ListN.{take}
 use lib.Seq.{take-nil}
-use Rattle.recovery.specs.Lists.{All, nil, cons, any, filter, has}
-use Rattle.recovery.proofs.Bool.{clash, eqb-no, eqb-ne, or-left, or-right, or-both}
+use Rattle.recovery.specs.Lists.{All, nil, cons, any, filter}
+use Rattle.recovery.proofs.Bool.{clash, or-left, or-right}
 
 module _ {A : Type 0} where
   -- every element
@@ -55,10 +53,6 @@ module _ {A : Type 0} where
   all-edit xs r r′ ys f h = all-more xs r′ ys (f (all-here xs r ys h)) (all-less xs r ys h)
 
   -- any
-
-  pub any-none : (p : A → Bool) {xs : List A} → All (λ x. p x ≡ false) xs → any p xs ≡ false
-  any-none p nil = refl
-  any-none p (cons {x} {xs} h hs) = or-both (p x) (any p xs) h (any-none p hs)
 
   pub none-any : (p : A → Bool) (xs : List A) → any p xs ≡ false → All (λ x. p x ≡ false) xs
   none-any p [] h = nil
@@ -122,14 +116,6 @@ module _ {A : Type 0} where
       go : (b : Bool) → p x ≡ b → All q (filter p xs) → All q (cond b (x ∷ filter p xs) (filter p xs))
       go true e k = cons (h e) k
       go false e k = k
-
--- membership of a number
-
-pub absent : {i : ℕ} {js : List ℕ} → All (λ j. i ≢ j) js → has i js ≡ false
-absent {i} h = any-none (λ j. eqb i j) (all-map (λ j n. eqb-no i j n) h)
-
-pub not-in : (i : ℕ) (js : List ℕ) → has i js ≡ false → All (λ j. i ≢ j) js
-not-in i js h = all-map (λ j e. eqb-ne i j e) (none-any (λ j. eqb i j) js h)
 
 -- every first part of a list has a property
 

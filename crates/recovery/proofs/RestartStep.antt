@@ -1,31 +1,29 @@
 -- Restart, from what the disk has, makes the invariant hold: by the abort law its own abort records change nothing.
 use mathlib.Core.Path.{_≡_, refl, sym, ap, _∙_, subst}
-use mathlib.Core.Logic.{_≢_}
 use mathlib.Core.Bool.{not}
 use mathlib.Core.List.{List, [], _∷_, _++_, append-nil}
-use Prim.Native.Nat.{ℕ, _+_, _*_, _≤_}
+use Prim.Native.Nat.{ℕ, _<_, _≤_}
 use native.Mathlib.Omega.{arith}
 use lib.ListN.{length, getD, take, drop, take-append-drop, length-append}
-use Rattle.recovery.specs.Group.{Group, aborted, groupsSize, lastCsn}
-use Rattle.recovery.specs.Lists.{All, nil, cons, has}
+use Rattle.recovery.specs.Group.{Group, aborted, lastCsn}
+use Rattle.recovery.specs.Lists.{All, nil}
 use Rattle.recovery.specs.Transaction.{Tx, running}
 use Rattle.recovery.specs.Replay.{replay}
-use Rattle.recovery.specs.Restart.{groupId, finished, unfinished, undoOrder, undone, aborts, recover}
+use Rattle.recovery.specs.Restart.{groupId, finished, unfinished, undone, aborts}
 use Rattle.recovery.specs.Ledger.{Commit, Ledger, enterRestarted}
 use Rattle.recovery.specs.Machine.{Setup, Disk, Live, undoneBy, afterRestart}
 use Rattle.recovery.specs.Claim.{commits}
 use Rattle.recovery.proofs.Lists.{all-map, all-append, all-filter, filter-none, EveryPrefix, prefix-whole, prefix-append, take-map}
 use Rattle.recovery.proofs.Distinct.{Distinct, empty, more, distinct-filter}
-use Rattle.recovery.proofs.Transactions.{DistinctIds}
+use Rattle.recovery.proofs.Transactions.{DistinctIds, isUnfinished}
 use Rattle.recovery.proofs.Groups.{groupsSize-append, groupsSize-aborts, lastCsn-append, lastCsn-aborts, replay-append, replay-aborts, all-aborts}
+use Rattle.recovery.proofs.AbortLaw.{order-all, order-distinct, undone-after, abort-law, running-finished, committing-finished}
 use Rattle.recovery.proofs.Byte.{layByte, recover-byte, recover-length}
-use Rattle.recovery.proofs.Holding.{nobody}
+use Rattle.recovery.proofs.LiveByte.{nobody}
 use Rattle.recovery.proofs.TailFit.{Tied, tied-nil, tied-abort}
 use Rattle.recovery.proofs.CheckpointLaw.{Undoes, undoes-nil, undoes-abort}
-use Rattle.recovery.proofs.AbortLaw.{order-all, order-distinct, undone-after, abort-law, running-finished, committing-finished}
-use Rattle.recovery.proofs.GrowthLaw.{Linked, Follows}
 use Rattle.recovery.proofs.Room.{Roomy}
-use Rattle.recovery.proofs.Books.{commits-aborts, entries-aborts}
+use Rattle.recovery.proofs.Ledger.{commits-aborts, entries-aborts}
 use Rattle.recovery.proofs.Invariant.{Standing, AtByte, Up, Down, ImageAt, baseAt}
 
 -- a tail of aborts
@@ -63,12 +61,12 @@ module _ (o : Setup) (d : Disk) (k : Ledger) (lastId : ℕ) (image-ids : All (λ
   split q = sym (take-append-drop q us)
 
   none-left : unfinished (finished (d .after ++ aborts us) []) (running txs) ≡ []
-  none-left = filter-none (λ t. not (has (t .id) (finished (d .after ++ aborts us) []))) (all-map (λ t h. ap not h) (running-finished txs csn (d .after)))
+  none-left = filter-none (isUnfinished (finished (d .after ++ aborts us) [])) (all-map (λ t h. ap not h) (running-finished txs csn (d .after)))
 
   restart-standing : Standing d l []
   restart-standing =
-      let undone-ids : All (λ t. t .id ≤ lastId) us = all-filter (λ t. not (has (t .id) (finished (d .after) []))) (order-all txs (lastCsn csn (d .after)) image-ids) in
-      let undone-distinct : DistinctIds us = distinct-filter (λ t. not (has (t .id) (finished (d .after) []))) (order-distinct txs (lastCsn csn (d .after)) (w .imageDistinct)) in
+      let undone-ids : All (λ t. t .id ≤ lastId) us = all-filter (isUnfinished (finished (d .after) [])) (order-all txs (lastCsn csn (d .after)) image-ids) in
+      let undone-distinct : DistinctIds us = distinct-filter (isUnfinished (finished (d .after) [])) (order-distinct txs (lastCsn csn (d .after)) (w .imageDistinct)) in
       record {
         imageDistinct = w .imageDistinct;
         imageIds = image-ids;
@@ -94,7 +92,7 @@ module _ (o : Setup) (d : Disk) (k : Ledger) (lastId : ℕ) (image-ids : All (λ
   same-replay : (a : ℕ) (vs : List Tx) (base : ℕ) → replay (layByte a) (d .after ++ aborts vs) base ≡ replay (layByte a) (d .after) base
   same-replay a vs base = replay-append (layByte a) (d .after) (aborts vs) base ∙ replay-aborts (layByte a) vs (replay (layByte a) (d .after) base)
 
-  restart-byte : (a : ℕ) → lib.ListN.length (d .image .memory) ≡ o .size → Prim.Native.Nat._<_ a (o .size) → EveryPrefix (ImageAt o d a) (d .after) → AtByte o d l [] a
+  restart-byte : (a : ℕ) → length (d .image .memory) ≡ o .size → a < o .size → EveryPrefix (ImageAt o d a) (d .after) → AtByte o d l [] a
   restart-byte a len h good =
       let base : ℕ = baseAt o (d .before) a in
       let m : ℕ = getD (d .image .memory) a 0 in
@@ -126,7 +124,7 @@ module _ (o : Setup) (d : Disk) (k : Ledger) (lastId : ℕ) (image-ids : All (λ
       used = rw (groupsSize-append (d .before) (d .after), groupsSize-aborts us) (omega (arith, prefix-whole (Roomy o d) (d .after) (w .fits)));
     };
     numbers = w .numbers;
-    books = record {
+    ledger = record {
       durable = w .durable;
       assigned = w .durable ∙ sym (ap (λ (cs : List Commit). commits (d .before ++ d .after) ++ cs) (commits-aborts us) ∙ append-nil (commits (d .before ++ d .after)));
       queue = entries-aborts us;

@@ -1,20 +1,19 @@
 -- Log room: what restart would undo has room for its abort records, since each such transaction still reserves 8 bytes or has a group in
 -- the tail.
-use mathlib.Core.Path.{_≡_, refl, sym, ap, _∙_, subst}
+use mathlib.Core.Path.{_≡_, refl, sym, ap, _∙_}
 use mathlib.Core.Logic.{_≢_, _⊎_, inl, inr}
-use mathlib.Core.Bool.{Bool, true, false, not}
 use mathlib.Core.List.{List, [], _∷_, _++_, reverse}
-use Prim.Native.Nat.{ℕ, suc, _+_, _*_, _≤_}
+use Prim.Native.Nat.{ℕ, _+_, _*_, _≤_}
 use native.Mathlib.Omega.{arith}
 use lib.ListN.{length, length-append, length-reverse}
-use Rattle.recovery.specs.Group.{Group, groupsSize, lastCsn}
-use Rattle.recovery.specs.Lists.{All, nil, cons, has}
+use Rattle.recovery.specs.Group.{Group, groupsSize}
+use Rattle.recovery.specs.Lists.{All, nil, cons}
 use Rattle.recovery.specs.Transaction.{Tx, running, reserved}
 use Rattle.recovery.specs.Restart.{finished, unfinished, undone}
 use Rattle.recovery.specs.Machine.{Setup, Disk, Live, roomUsed}
 use Rattle.recovery.proofs.Lists.{all-map, all-zip, EveryPrefix}
 use Rattle.recovery.proofs.Distinct.{empty, more, distinct-filter}
-use Rattle.recovery.proofs.Transactions.{DistinctIds}
+use Rattle.recovery.proofs.Transactions.{DistinctIds, isRunning, isUnfinished}
 use Rattle.recovery.proofs.Groups.{groupsSize-append}
 use Rattle.recovery.proofs.TailFit.{Tied, tied-nil, tied-abort, tied-commit, Fit, late, tied-late, undone-late}
 use Rattle.recovery.proofs.GrowthLaw.{Over, Linked, here, there, linked-split, Follows, undone-running}
@@ -57,7 +56,7 @@ pub roomy-now : (o : Setup) (d : Disk) (G : List Group) (rs : List Tx) → Disti
     → groupsSize (d .before) + groupsSize G + reserved rs ≤ o .capacity → Roomy o d G
 roomy-now o d G rs distinct w used =
     let ls : List Tx = unfinished (finished G []) (running (d .image .txs)) in
-    let few : length ls ≤ length rs = linked-length (distinct-filter (λ t. not (has (t .id) (finished G []))) (distinct-filter (λ t. not (t .committing)) distinct)) (w .runnings) in
+    let few : length ls ≤ length rs = linked-length (distinct-filter (isUnfinished (finished G [])) (distinct-filter isRunning distinct)) (w .runnings) in
     rw (undone-running (d .image .txs) (d .image .csn) G rs w) (omega (arith, reserved-many rs))
 
 -- an image taken now, and the groups P of the tail after it: the late commits have groups of 8 bytes at least in the rest

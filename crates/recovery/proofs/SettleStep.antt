@@ -1,24 +1,21 @@
 -- Settle keeps the invariant: the transaction's commit is found in the ledger, among the durable ones, and restart would not undo it.
-use mathlib.Core.Path.{_≡_, refl, sym, ap, _∙_, subst}
-use mathlib.Core.Bool.{Bool, true, false}
-use mathlib.Core.Option.{Option, none, some}
-use mathlib.Core.List.{List, [], _∷_, _++_, List·Memᴰ}
-use Prim.Native.Nat.{ℕ, _≤_}
-use native.Mathlib.Omega.{arith}
-use lib.Dec.{ltb}
-use Rattle.recovery.specs.Lists.{All, nil, cons}
-use Rattle.recovery.specs.Transaction.{Tx, running, committing, remove}
+use mathlib.Core.Path.{_≡_, sym, ap, _∙_}
+use mathlib.Core.Bool.{true}
+use mathlib.Core.List.{List, _∷_, _++_}
+use Prim.Native.Nat.{_≤_}
+use Rattle.recovery.specs.Lists.{nil, cons}
+use Rattle.recovery.specs.Transaction.{Tx, running, committing}
 use Rattle.recovery.specs.Restart.{above, sortDesc}
-use Rattle.recovery.specs.Ledger.{Commit, Entry, Ledger, committedIn, latest, toList, enterSettled}
+use Rattle.recovery.specs.Ledger.{Ledger, committedIn, enterSettled}
 use Rattle.recovery.specs.Machine.{Setup, Disk, Live, Listed, afterSettle}
 use Rattle.recovery.specs.Claim.{commits}
 use Rattle.recovery.proofs.Bool.{ltb-no}
 use Rattle.recovery.proofs.Lists.{all-map, all-append, all-here, all-less, filter-out, filter-append}
 use Rattle.recovery.proofs.Distinct.{distinct-less}
-use Rattle.recovery.proofs.Transactions.{Found, find, running-out, running-append, committing-in, committing-append}
+use Rattle.recovery.proofs.Transactions.{Found, find, running-out, running-append, committing-in, committing-append, isAbove}
 use Rattle.recovery.proofs.TailFit.{foreign-map}
 use Rattle.recovery.proofs.Numbers.{consecutive-tied, consecutive-high}
-use Rattle.recovery.proofs.Books.{Settles, settles, commits-entries}
+use Rattle.recovery.proofs.Ledger.{Settles, settles, commits-entries}
 use Rattle.recovery.proofs.Invariant.{Standing, AtByte, Up}
 
 module _ (o : Setup) (d : Disk) (l : Live) (k : Ledger) (r : Tx) (listed : Listed r (l .txs)) (committed : r .committing ≡ true) (on-disk : r .csn ≤ l .csn) (u : Up o d l k) where
@@ -46,9 +43,8 @@ module _ (o : Setup) (d : Disk) (l : Live) (k : Ledger) (r : Tx) (listed : Liste
   -- its number is not above the one on disk
   aboves : above (l .csn) (committing (afterSettle r l .txs)) ≡ above (l .csn) (committing (l .txs))
   aboves =
-      let high : Tx → Bool = λ t. ltb (l .csn) (t .csn) in
       ap (λ (ts : List Tx). above (l .csn) ts) committings′
-      ∙ (filter-append high cs ds ∙ sym (ap (λ (ts : List Tx). above (l .csn) ts) committings ∙ filter-out high cs r ds (ltb-no (l .csn) (r .csn) on-disk)))
+      ∙ (filter-append (isAbove (l .csn)) cs ds ∙ sym (ap (λ (ts : List Tx). above (l .csn) ts) committings ∙ filter-out (isAbove (l .csn)) cs r ds (ltb-no (l .csn) (r .csn) on-disk)))
 
   settle-standing : Standing d (afterSettle r l) (u .late)
   settle-standing = record {
@@ -72,9 +68,9 @@ module _ (o : Setup) (d : Disk) (l : Live) (k : Ledger) (r : Tx) (listed : Liste
   -- settle's transaction is found in the ledger
   pub settle-finds : Settles r (k .durable) (committedIn (k .queue))
   settle-finds =
-      let queued : committedIn (k .queue) ≡ commits (l .tail) = ap committedIn (u .books .queue) ∙ commits-entries (l .tail) in
-      rw (u .books .durable, queued)
-      (settles (l .csn) r (commits (d .before ++ d .after)) (commits (l .tail)) (all-here cs r ds (rw committings at (u .books .latests))) on-disk (consecutive-high (consecutive-tied (s .fit .tied))))
+      let queued : committedIn (k .queue) ≡ commits (l .tail) = ap committedIn (u .ledger .queue) ∙ commits-entries (l .tail) in
+      rw (u .ledger .durable, queued)
+      (settles (l .csn) r (commits (d .before ++ d .after)) (commits (l .tail)) (all-here cs r ds (rw committings at (u .ledger .latests))) on-disk (consecutive-high (consecutive-tied (s .fit .tied))))
 
   pub settle-keeps : Up o d (afterSettle r l) (enterSettled (r .id) k)
   settle-keeps =
@@ -89,12 +85,12 @@ module _ (o : Setup) (d : Disk) (l : Live) (k : Ledger) (r : Tx) (listed : Liste
             record { image = b .image; undoes = b .undoes; live = rw runnings (b .live) };
         room = record { fits = u .room .fits; used = rw runnings (u .room .used) };
         numbers = u .numbers;
-        books = record {
-          durable = u .books .durable;
-          assigned = u .books .assigned;
-          queue = u .books .queue;
-          active = rw runnings (u .books .active);
-          settled = all-append (u .books .settled) (rw (f .1) (cons {x = f .0} (f .4) nil));
-          latests = rw committings′ (all-less cs r ds (rw committings at (u .books .latests)));
+        ledger = record {
+          durable = u .ledger .durable;
+          assigned = u .ledger .assigned;
+          queue = u .ledger .queue;
+          active = rw runnings (u .ledger .active);
+          settled = all-append (u .ledger .settled) (rw (f .1) (cons {x = f .0} (f .4) nil));
+          latests = rw committings′ (all-less cs r ds (rw committings at (u .ledger .latests)));
         };
       }

@@ -1,19 +1,20 @@
 -- The tail against the listed transactions: which committing transactions its commits are of, and so what step 4 would undo of an image
 -- taken now, after any first part of the tail.
-use mathlib.Core.Path.{_≡_, refl, sym, ap, _∙_, subst}
+use mathlib.Core.Path.{_≡_, refl, sym, ap, _∙_}
 use mathlib.Core.Logic.{_≢_}
-use mathlib.Core.Bool.{Bool, true, false, not}
+use mathlib.Core.Bool.{true, not}
 use mathlib.Core.List.{List, [], _∷_, _++_, reverse, reverse-append, append-nil}
 use Prim.Native.Nat.{ℕ, suc, _≤_, _<_}
 use native.Mathlib.Omega.{arith}
 use Rattle.recovery.specs.Group.{Write, Group, committed, aborted, lastCsn}
-use Rattle.recovery.specs.Lists.{All, nil, cons, has}
+use Rattle.recovery.specs.Lists.{All, nil, cons}
 use Rattle.recovery.specs.Transaction.{Tx, running, committing}
 use Rattle.recovery.specs.Restart.{groupId, finished, unfinished, sortDesc, above, undoOrder, undone}
-use Rattle.recovery.proofs.Lists.{all-map, all-append, all-left, all-right, all-reverse, filter-all, filter-append}
+use Rattle.recovery.proofs.Lists.{all-map, all-left, all-right, all-reverse, filter-all, filter-append}
 use Rattle.recovery.proofs.Distinct.{Distinct, distinct-right, distinct-apart}
 use Rattle.recovery.proofs.Sorting.{above-high, above-low, above-above, above-sort}
-use Rattle.recovery.proofs.Groups.{unmarked}
+use Rattle.recovery.proofs.Transactions.{isAbove, isUnfinished}
+use Rattle.recovery.proofs.Finished.{unmarked}
 
 -- The commits of the groups are those of the transactions, in order, and their numbers go on from d.
 pub data Tied : ℕ → List Group → List Tx → Type 0 where
@@ -118,7 +119,7 @@ module _ (txs : List Tx) (d : ℕ) (P U : List Group) (cs : List Tx) (fit : Fit 
       let high : above n ls ≡ ls = above-high n (all-reverse (tied-high (tied-late P (fit .tied)))) in
       let low : above n es ≡ [] = above-low n (all-reverse (tied-low (tied-early P U (fit .tied)))) in
       ap sortDesc (sym (above-above d n (committing txs) grown)) ∙ (sym (above-sort n (above d (committing txs)))
-      ∙ (ap (λ (l : List Tx). above n l) split ∙ (filter-append (λ t. lib.Dec.ltb n (t .csn)) ls es ∙ rw (high, low) (append-nil ls))))
+      ∙ (ap (λ (l : List Tx). above n l) split ∙ (filter-append (isAbove n) ls es ∙ rw (high, low) (append-nil ls))))
 
   -- what a flush of P leaves
   pub fit-late : Fit txs (lastCsn d P) U (late P cs)
@@ -136,9 +137,8 @@ module _ (txs : List Tx) (d : ℕ) (P U : List Group) (cs : List Tx) (fit : Fit 
   undone-late =
       let f : List ℕ = finished P [] in
       let ls : List Tx = reverse (late P cs) in
-      let keep : Tx → Bool = λ t. not (has (t .id) f) in
-      let one : (t : Tx) → Ungrouped P t → keep t ≡ true = λ t h. ap not (unmarked [] h refl) in
+      let one : (t : Tx) → Ungrouped P t → isUnfinished f t ≡ true = λ t h. ap not (unmarked [] h refl) in
       let kept-late : unfinished f ls ≡ ls =
-      filter-all keep (all-reverse (all-map one (tied-ids (λ i. All (λ g. groupId g ≢ i) P) (tied-late P (fit .tied)) (distinct-apart P (fit .once))))) in
-      let kept-running : unfinished f (running txs) ≡ running txs = filter-all keep (all-map (λ t h. one t (all-left P U h)) (fit .free)) in
-      ap (λ (l : List Tx). unfinished f (running txs ++ l)) sorted-late ∙ (filter-append keep (running txs) ls ∙ rw (kept-late, kept-running))
+      filter-all (isUnfinished f) (all-reverse (all-map one (tied-ids (λ i. All (λ g. groupId g ≢ i) P) (tied-late P (fit .tied)) (distinct-apart P (fit .once))))) in
+      let kept-running : unfinished f (running txs) ≡ running txs = filter-all (isUnfinished f) (all-map (λ t h. one t (all-left P U h)) (fit .free)) in
+      ap (λ (l : List Tx). unfinished f (running txs ++ l)) sorted-late ∙ (filter-append (isUnfinished f) (running txs) ls ∙ rw (kept-late, kept-running))

@@ -1,27 +1,26 @@
 -- Demand 3 on the abstract store: after any list of calls, refused, cut or done, the claim holds of disk and ledger.
 use mathlib.Core.Path.{_≡_, refl, sym, ap, _∙_, subst}
 use mathlib.Core.Bool.{true}
-use mathlib.Core.List.{List, [], _∷_, _++_}
-use Prim.Native.Nat.{ℕ, _+_, _≤_, _<_}
+use mathlib.Core.List.{List, [], _++_}
+use Prim.Native.Nat.{_≤_}
 use native.Mathlib.Omega.{arith}
-use lib.ListN.{length, getD}
+use lib.ListN.{getD}
 use lib.Seq.{take-nil}
-use Rattle.recovery.specs.Group.{Group, groupsSize}
-use Rattle.recovery.specs.Lists.{All, nil, cons}
+use Rattle.recovery.specs.Group.{Group}
+use Rattle.recovery.specs.Lists.{nil}
 use Rattle.recovery.specs.Transaction.{Tx}
-use Rattle.recovery.specs.Replay.{replay, layBytes}
-use Rattle.recovery.specs.Restart.{undoOrder, recover}
+use Rattle.recovery.specs.Restart.{undoOrder}
 use Rattle.recovery.specs.Ledger.{Event, Commit, Ledger, noLedger, committedIn, enter}
 use Rattle.recovery.specs.Machine.{Setup, Disk, Live, System, down, up, diskOf, startDisk, Listed, Step, stays, begins, writes, precommits, rollsBack, flushes, flushIsCut, settles, checkpoints, checkpointIsCut, restarts, restartIsCut, Run, opened, next}
-use Rattle.recovery.specs.Claim.{commits, layCommits, Claim}
-use Rattle.recovery.proofs.Lists.{EveryPrefix, prefix-whole}
+use Rattle.recovery.specs.Claim.{layCommits, Claim}
+use Rattle.recovery.proofs.Lists.{prefix-whole}
 use Rattle.recovery.proofs.Distinct.{empty}
 use Rattle.recovery.proofs.Groups.{groupsSize-append, replay-append}
 use Rattle.recovery.proofs.Byte.{layByte, by-bytes}
-use Rattle.recovery.proofs.Numbers.{Consecutive, end, after-consecutive, consecutive-numbered}
+use Rattle.recovery.proofs.Numbers.{Consecutive, consecutive-nil, after-consecutive, consecutive-numbered}
 use Rattle.recovery.proofs.Room.{Roomy}
-use Rattle.recovery.proofs.Books.{Settles, replay-commits}
-use Rattle.recovery.proofs.Invariant.{Up, Down, Inv, ImageAt, baseAt, crash, down-emptied}
+use Rattle.recovery.proofs.Ledger.{Settles, replay-commits}
+use Rattle.recovery.proofs.Invariant.{Down, Inv, ImageAt, baseAt, crash, down-emptied}
 use Rattle.recovery.proofs.BeginStep.{begin-keeps}
 use Rattle.recovery.proofs.WriteStep.{write-keeps}
 use Rattle.recovery.proofs.EndSteps.{precommit-keeps, abort-keeps}
@@ -58,7 +57,7 @@ module _ (o : Setup) where
     imageLength = o .whole;
     bytes = λ a h q. subst (λ (gs : List Group). ImageAt o (startDisk o) a gs) (sym (take-nil q)) refl;
     fits = λ q. subst (λ (gs : List Group). Roomy o (startDisk o) gs) (sym (take-nil q)) (omega arith);
-    numbers = record { log = end; image = refl };
+    numbers = record { log = consecutive-nil; image = refl };
     durable = refl;
     assigned = ([], refl);
     settled = nil;

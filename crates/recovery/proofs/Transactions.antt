@@ -3,15 +3,28 @@ use mathlib.Core.Path.{_≡_, refl, sym, ap, _∙_, subst}
 use mathlib.Core.Logic.{_≢_}
 use mathlib.Core.Bool.{Bool, true, false, not, cond}
 use mathlib.Core.List.{List, [], _∷_, _++_}
-use mathlib.Core.Option.{Option, none, some}
+use mathlib.Core.Option.{none, some}
 use Prim.Native.Nat.{ℕ}
 use native.Mathlib.Omega.{arith}
-use lib.Dec.{eqb}
-use Rattle.recovery.specs.Lists.{All, nil, cons, filter}
+use lib.Dec.{eqb, ltb}
+use Rattle.recovery.specs.Lists.{All, nil, cons, has}
 use Rattle.recovery.specs.Transaction.{Tx, running, committing, lookup, edit, remove}
 use Rattle.recovery.proofs.Bool.{eqb-same, eqb-no, clash}
-use Rattle.recovery.proofs.Lists.{all-map, all-filter, filter-in, filter-out, filter-append}
+use Rattle.recovery.proofs.Lists.{all-filter, filter-in, filter-out, filter-append}
 use Rattle.recovery.proofs.Distinct.{Distinct, empty, more, distinct-others, distinct-parts}
+
+-- the tests by which transactions are picked out
+abbrev pub isRunning : Tx → Bool
+isRunning t = not (t .committing)
+
+abbrev pub isCommitting : Tx → Bool
+isCommitting t = t .committing
+
+abbrev pub isAbove : ℕ → Tx → Bool
+isAbove n t = ltb n (t .csn)
+
+abbrev pub isUnfinished : List ℕ → Tx → Bool
+isUnfinished f t = not (has (t .id) f)
 
 abbrev pub DistinctIds : List Tx → Type 0
 DistinctIds txs = Distinct (λ t. t .id) txs
@@ -56,12 +69,6 @@ lookup-own (more {x} {xs} h d) = cons {x = x} (rw (eqb-same (x .id))) (past h (l
     past (cons {x = u} n ns) (cons k ks) = cons {x = u} (rw (eqb-no (u .id) (x .id) n) k) (past ns ks)
 
 -- running and committing
-
-abbrev isRunning : Tx → Bool
-isRunning t = not (t .committing)
-
-abbrev isCommitting : Tx → Bool
-isCommitting t = t .committing
 
 module _ (xs : List Tx) (r : Tx) (ys : List Tx) where
   pub running-in : r .committing ≡ false → running (xs ++ r ∷ ys) ≡ running xs ++ r ∷ running ys

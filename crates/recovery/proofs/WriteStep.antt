@@ -1,5 +1,5 @@
 -- Write keeps the invariant: the undo record has the old bytes, and no other running transaction has a record over a byte of the range.
-use mathlib.Core.Path.{_≡_, refl, sym, ap, _∙_, subst}
+use mathlib.Core.Path.{_≡_, refl, sym, ap, _∙_}
 use mathlib.Core.Logic.{_≢_}
 use mathlib.Core.Bool.{Bool, true, false}
 use mathlib.Core.Option.{Option, none, some}
@@ -9,8 +9,8 @@ use native.Mathlib.Omega.{arith}
 use lib.Dec.{eqb}
 use lib.ListN.{length, getD, take, drop, length-drop}
 use lib.Seq.{length-sets, getD-take, getD-drop, length-take-le}
-use Rattle.recovery.specs.Group.{Write, redoSize}
-use Rattle.recovery.specs.Lists.{All, nil, cons}
+use Rattle.recovery.specs.Group.{Write}
+use Rattle.recovery.specs.Lists.{All}
 use Rattle.recovery.specs.Transaction.{Tx, running, committing, heldByOther, reserved}
 use Rattle.recovery.specs.Replay.{replay, layBytes}
 use Rattle.recovery.specs.Ledger.{Ledger, OpenTx, addWrite, enterWrote}
@@ -21,12 +21,12 @@ use Rattle.recovery.proofs.Distinct.{distinct-edit}
 use Rattle.recovery.proofs.Transactions.{Found, find, running-in, committing-out, found-running, found-apart}
 use Rattle.recovery.proofs.Groups.{redoSize-append, reserved-append}
 use Rattle.recovery.proofs.Byte.{act, seen, seenAt, oldest, layByte, laid-byte, oldest-append}
-use Rattle.recovery.proofs.Holding.{Quiet, RunningAt, Touch, miss, hit, some-none, quiet-by-undo, write-byte}
-use Rattle.recovery.proofs.Held.{unheld}
+use Rattle.recovery.proofs.LiveByte.{Quiet, RunningAt, Touch, miss, hit, some-none, quiet-by-undo, write-byte}
 use Rattle.recovery.proofs.TailFit.{foreign-map}
 use Rattle.recovery.proofs.GrowthLaw.{Over, Linked, here, there}
-use Rattle.recovery.proofs.Books.{opens, add-one}
+use Rattle.recovery.proofs.Ledger.{opens, add-one}
 use Rattle.recovery.proofs.Invariant.{Standing, AtByte, Up, baseAt}
+use Rattle.recovery.proofs.Held.{unheld}
 
 linked-edit : {t : Tx} (xs : List Tx) (r r′ : Tx) (ys : List Tx) → r′ .id ≡ r .id → (Over t r → Over t r′) → Linked t (xs ++ r ∷ ys) → Linked t (xs ++ r′ ∷ ys)
 linked-edit [] r r′ ys e f (here p o) = here (p ∙ sym e) (f o)
@@ -162,12 +162,12 @@ module _ (o : Setup) (d : Disk) (l : Live) (k : Ledger) (r : Tx) (w : Write) (li
       used = rw (runnings′, reserved-append xs (r′ ∷ ys), redoSize-append (r .redo) (w ∷ [])) (omega (arith, ap reserved runnings ∙ reserved-append xs (r ∷ ys)));
     };
     numbers = u .numbers;
-    books = record {
-      durable = u .books .durable;
-      assigned = u .books .assigned;
-      queue = u .books .queue;
-      active = ap (λ (ss : List OpenTx). map (addWrite (r .id) w) ss) (u .books .active ∙ ap opens runnings) ∙ (add-one r old w xs ys apart ∙ ap opens (sym runnings′));
-      settled = u .books .settled;
-      latests = rw committings (u .books .latests);
+    ledger = record {
+      durable = u .ledger .durable;
+      assigned = u .ledger .assigned;
+      queue = u .ledger .queue;
+      active = ap (λ (ss : List OpenTx). map (addWrite (r .id) w) ss) (u .ledger .active ∙ ap opens runnings) ∙ (add-one r old w xs ys apart ∙ ap opens (sym runnings′));
+      settled = u .ledger .settled;
+      latests = rw committings (u .ledger .latests);
     };
   }

@@ -1,9 +1,9 @@
 -- The abstract store: disk and live state without bytes, what each call does to them, and the calls as steps.
 use Prim.Native.Nat.{ℕ, suc, _+_, _≤_, _<_}
 use mathlib.Core.Path.{_≡_}
-use mathlib.Core.Bool.{Bool, true, false}
+use mathlib.Core.Bool.{true, false}
 use mathlib.Core.List.{List, [], _∷_, _++_}
-use mathlib.Core.Option.{Option, none, some}
+use mathlib.Core.Option.{some}
 use lib.ListN.{length, take, drop, replicate, length-replicate}
 use Rattle.recovery.specs.Group.{Write, Group, committed, aborted, groupsSize, lastCsn, fitting}
 use Rattle.recovery.specs.Lists.{All}

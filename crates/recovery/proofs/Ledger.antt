@@ -1,23 +1,23 @@
 -- The ledger against the store: the laws of its entries, open transactions and latest commits.
 use mathlib.Core.Path.{_≡_, refl, sym, ap, _∙_, subst}
 use mathlib.Core.Logic.{_≢_}
-use mathlib.Core.Bool.{Bool, true, false, not, cond}
-use mathlib.Core.List.{List, [], _∷_, _++_, map, map-append, append-assoc, append-nil, List·Memᴰ, List·Memᴰ·head, List·Memᴰ·tail, Memᴰ·append-left}
+use mathlib.Core.Bool.{Bool, true, false, cond}
+use mathlib.Core.List.{List, [], _∷_, _++_, map, List·Memᴰ, List·Memᴰ·head, List·Memᴰ·tail}
 use mathlib.Core.Option.{Option, none, some}
-use Prim.Native.Nat.{ℕ, zero, suc, _+_, _-_, _≤_, _<_}
+use Prim.Native.Nat.{ℕ, _-_, _≤_, _<_}
 use native.Mathlib.Omega.{arith}
 use lib.Dec.{eqb, leb}
-use lib.ListN.{length, take, drop, replicate}
-use Rattle.recovery.specs.Group.{Write, Group, committed, aborted, groupSize, groupsSize, fitting}
-use Rattle.recovery.specs.Lists.{All, nil, cons, filter}
+use lib.ListN.{length, replicate}
+use Rattle.recovery.specs.Group.{Write, Group, committed, aborted, groupSize, fitting}
+use Rattle.recovery.specs.Lists.{All, nil, cons}
 use Rattle.recovery.specs.Transaction.{Tx, running, committing}
 use Rattle.recovery.specs.Replay.{redoAll, replay, layBytes}
 use Rattle.recovery.specs.Restart.{aborts}
 use Rattle.recovery.specs.Ledger.{OpenTx, Commit, Entry, commit, abort, Ledger, entrySize, fittingEntries, committedIn, writesOf, others, addWrite, orElse, latest}
 use Rattle.recovery.specs.Machine.{Disk, Live, withWrite}
 use Rattle.recovery.specs.Claim.{commits, layCommits}
-use Rattle.recovery.proofs.Bool.{eqb-same, eqb-no, eqb-yes, leb-yes}
-use Rattle.recovery.proofs.Holding.{some-none}
+use Rattle.recovery.proofs.Bool.{eqb-same, eqb-no, eqb-yes}
+use Rattle.recovery.proofs.LiveByte.{some-none}
 
 -- the tail as the ledger's queue, running transactions as its open ones
 
@@ -154,7 +154,7 @@ settles n t durable queued h low high =
     (h .0, h .1, m .1, h .2, m .0)
 
 -- Agreement with the store that is up.
-pub record Books (d : Disk) (l : Live) (k : Ledger) : Type 0 where
+pub record Agrees (d : Disk) (l : Live) (k : Ledger) : Type 0 where
   pub durable : k .durable ≡ commits (d .before ++ d .after)
   pub assigned : k .assigned ≡ commits (d .before ++ d .after) ++ commits (l .tail)
   pub queue : k .queue ≡ entries (l .tail)
