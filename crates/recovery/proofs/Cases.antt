@@ -1,4 +1,4 @@
--- Worked cases of recovery, M3 to M5 from the image on and four more: one table with one computed proof.
+-- Worked cases of recovery, M3 to M5 from the image on and four more: one table with one computed proof. And cases of number 9.
 use mathlib.Core.Path.{_≡_, refl}
 use mathlib.Core.Bool.{Bool, true, false}
 use mathlib.Core.List.{List, [], _∷_}
@@ -7,7 +7,7 @@ use lib.Dec.{T, eqb, eqb→eq}
 use lib.ListN.{set, replicate}
 use Rattle.recovery.specs.Group.{Write, Group, committed, aborted}
 use Rattle.recovery.specs.Lists.{All, nil, cons}
-use Rattle.recovery.specs.Transaction.{Tx}
+use Rattle.recovery.specs.Transaction.{Tx, heldByOther}
 use Rattle.recovery.specs.Replay.{layBytes}
 use Rattle.recovery.specs.Restart.{undoOrder, recover}
 
@@ -90,3 +90,14 @@ every→all (r ∷ rs) t = go (eqList (result r) (r .wanted)) refl t (λ u. ever
 pub cases : All (λ r. result r ≡ r .wanted) rows
 unfolding rows undoOrder
 cases = every→all rows tt
+
+-- Number 9: id 1 holds 10 and 11; id 3, which is committing, holds nothing.
+abbrev range : ℕ → List ℕ → Write
+range addr bytes = record { addr = addr; bytes = bytes }
+
+abbrev heldBy : ℕ → Write → Bool
+heldBy id w = heldByOther id w (ran 1 (range 10 (0 ∷ 0 ∷ []) ∷ []) ∷ precommitted 3 1 (range 20 (0 ∷ []) ∷ []) ∷ [])
+
+pub held-cases : (heldBy 2 (range 8 (1 ∷ 1 ∷ [])) ≡ false) × (heldBy 2 (range 9 (1 ∷ 1 ∷ [])) ≡ true) × (heldBy 2 (range 11 (1 ∷ 1 ∷ [])) ≡ true)
+    × (heldBy 2 (range 12 (1 ∷ 1 ∷ [])) ≡ false) × (heldBy 1 (range 10 (1 ∷ [])) ≡ false) × (heldBy 2 (range 20 (1 ∷ [])) ≡ false)
+held-cases = (refl, refl, refl, refl, refl, refl)

@@ -1,4 +1,6 @@
 -- The laws of recovery.
+pub mod Cases
+pub mod LedgerCases
 pub mod Bool
 pub mod Lists
 pub mod Distinct
@@ -25,5 +27,4 @@ pub mod SettleStep
 pub mod CheckpointStep
 pub mod RestartStep
 pub mod Theorem
-pub mod Cases
 pub mod Example
