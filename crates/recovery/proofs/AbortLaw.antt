@@ -11,8 +11,8 @@ use Rattle.recovery.specs.Lists.{All, nil, cons, has}
 use Rattle.recovery.specs.Transaction.{Tx, running, committing}
 use Rattle.recovery.specs.Replay.{undoAll, undoEach}
 use Rattle.recovery.specs.Restart.{finished, undoRecords, undoOf, unfinished, sortDesc, above, undoOrder, undone, aborts, forward, recover}
-use Rattle.recovery.proofs.Bool.{eqb-no, not-ltb, or-both}
-use Rattle.recovery.proofs.Lists.{all-map, all-append, all-left, all-right, all-filter, all-unfilter, all-passing}
+use Rattle.recovery.proofs.Bool.{eqb-no, not-ltb, not-true, or-both}
+use Rattle.recovery.proofs.Lists.{all-map, all-append, all-left, all-right, all-filter, all-unfilter, all-passed}
 use Rattle.recovery.proofs.Distinct.{more, distinct-append, distinct-filter, distinct-left}
 use Rattle.recovery.proofs.Sorting.{sort-all, unsort-all, sort-distinct}
 use Rattle.recovery.proofs.Transactions.{DistinctIds, lookup-own, running-committing, isRunning, isCommitting, isAbove, isUnfinished}
@@ -66,21 +66,13 @@ abort-law {M = M} lay txs d gs vs ws m distinct split =
     let f : List ℕ = finished gs [] in
     let own : All (λ t. undoOf (t .id) txs ≡ t .undo) (undone txs d gs) =
     all-filter (isUnfinished f) (order-all txs (lastCsn d gs) (all-map (λ t e. ap undoRecords e) (lookup-own distinct))) in
-    let new : All (λ t. has (t .id) f ≡ false) (undone txs d gs) = all-passing (isUnfinished f) (all-any (undoOrder txs (lastCsn d gs))) in
+    let new : All (λ t. has (t .id) f ≡ false) (undone txs d gs) = all-map (λ t e. not-true (has (t .id) f) e) (all-passed (isUnfinished f) (undoOrder txs (lastCsn d gs))) in
     let run : forward lay txs (gs ++ aborts vs) [] m ≡ undoEach lay vs (forward lay txs gs [] m) =
     forward-append lay txs gs (aborts vs) [] m
     ∙ forward-aborts lay txs vs f (forward lay txs gs [] m) (distinct-left vs ws (undone-distinct txs d gs vs ws distinct split)) (all-left vs ws (rw split at new)) (all-left vs ws (rw split at own)) in
     ap (λ (x : M). undoEach lay (undone txs d (gs ++ aborts vs)) x) run
     ∙ (ap (λ (l : List Tx). undoEach lay l (undoEach lay vs (forward lay txs gs [] m))) (undone-after txs d gs vs ws distinct split)
     ∙ (sym (undoEach-append lay vs ws (forward lay txs gs [] m)) ∙ ap (λ (l : List Tx). undoEach lay l (forward lay txs gs [] m)) (sym split)))
-  where
-    not-false : (b : Bool) → not b ≡ true → b ≡ false
-    not-false true e = sym e
-    not-false false e = refl
-
-    all-any : (l : List Tx) → All (λ t. isUnfinished (finished gs []) t ≡ true → has (t .id) (finished gs []) ≡ false) l
-    all-any [] = nil
-    all-any (t ∷ l) = cons (λ e. not-false (has (t .id) (finished gs [])) e) (all-any l)
 
 -- after all of them nothing of the image is unfinished, but for committing ones whose commits are in the log
 

@@ -11,7 +11,7 @@ use Rattle.recovery.specs.Transaction.{Tx, running, committing}
 use Rattle.recovery.specs.Replay.{replay}
 use Rattle.recovery.specs.Restart.{groupId}
 use Rattle.recovery.specs.Ledger.{Ledger, OpenTx, enterBegun}
-use Rattle.recovery.specs.Machine.{Setup, Disk, Live, roomUsed, newTx, afterBegin}
+use Rattle.recovery.specs.Machine.{Opening, Disk, Live, roomUsed, newTx, afterBegin}
 use Rattle.recovery.proofs.Lists.{all-map, all-zip, all-append, all-right, all-filter}
 use Rattle.recovery.proofs.Distinct.{distinct-more}
 use Rattle.recovery.proofs.Transactions.{running-append, committing-append, isCommitting}
@@ -74,7 +74,7 @@ module _ (d : Disk) (l : Live) where
       foreign (committed i n ws) le h = tt
       foreign (aborted i) le h = all-append h (cons {x = new} (λ e. omega arith) nil)
 
-pub begin-keeps : (o : Setup) (d : Disk) (l : Live) (k : Ledger) → roomUsed d l + 8 ≤ o .capacity → Up o d l k → Up o d (afterBegin l) (enterBegun (suc (l .lastId)) k)
+pub begin-keeps : (o : Opening) (d : Disk) (l : Live) (k : Ledger) → roomUsed d l + 8 ≤ o .capacity → Up o d l k → Up o d (afterBegin l) (enterBegun (suc (l .lastId)) k)
 begin-keeps o d l k fits u = record {
   late = u .late;
   standing = begin-standing d l (u .standing);

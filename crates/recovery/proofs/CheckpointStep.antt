@@ -10,7 +10,7 @@ use Rattle.recovery.specs.Transaction.{Tx, running}
 use Rattle.recovery.specs.Replay.{replay}
 use Rattle.recovery.specs.Restart.{finished}
 use Rattle.recovery.specs.Ledger.{Ledger}
-use Rattle.recovery.specs.Machine.{Setup, Disk, Live, afterCheckpoint}
+use Rattle.recovery.specs.Machine.{Opening, Disk, Live, afterCheckpoint}
 use Rattle.recovery.proofs.Lists.{all-map, all-zip, all-right, all-filter}
 use Rattle.recovery.proofs.Transactions.{running-committing, isUnfinished}
 use Rattle.recovery.proofs.Groups.{replay-append}
@@ -29,7 +29,7 @@ linked-self : (rs : List Tx) → All (λ t. Linked t rs) rs
 linked-self [] = nil
 linked-self (r ∷ rs) = cons (here refl (λ a e. e)) (all-map (λ t l. there l) (linked-self rs))
 
-module _ (o : Setup) (d : Disk) (l : Live) (k : Ledger) (u : Up o d l k) where
+module _ (o : Opening) (d : Disk) (l : Live) (k : Ledger) (u : Up o d l k) where
   abbrev s : Standing d l (u .late)
   s = u .standing
 

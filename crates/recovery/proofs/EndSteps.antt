@@ -13,7 +13,7 @@ use Rattle.recovery.specs.Transaction.{Tx, running, committing, reserved
 use Rattle.recovery.specs.Replay.{replay}
 use Rattle.recovery.specs.Restart.{groupId, above, sortDesc}
 use Rattle.recovery.specs.Ledger.{Ledger, OpenTx, Commit, Entry, writesOf, others, enterPrecommitted, enterRolledBack}
-use Rattle.recovery.specs.Machine.{Setup, Disk, Live, Listed, lastAssigned, inCommit, afterPrecommit, afterAbort}
+use Rattle.recovery.specs.Machine.{Opening, Disk, Live, Listed, lastAssigned, inCommit, afterPrecommit, afterAbort}
 use Rattle.recovery.specs.Claim.{commits}
 use Rattle.recovery.proofs.Bool.{ltb-yes}
 use Rattle.recovery.proofs.Lists.{all-map, all-zip, all-append, all-here, all-less, all-more, all-edit, all-filter, filter-in, filter-append, EveryPrefix, prefix-whole, prefix-snoc}
@@ -30,7 +30,7 @@ use Rattle.recovery.proofs.Room.{Roomy, roomy-now}
 use Rattle.recovery.proofs.Ledger.{entryOf, opens, HasLatest, commits-append, others-one, writes-one, latest-own, latest-other}
 use Rattle.recovery.proofs.Invariant.{Standing, AtByte, Up, baseAt, ImageAt}
 
-module _ (o : Setup) (d : Disk) (l : Live) (k : Ledger) (r : Tx) (listed : Listed r (l .txs)) (run : r .committing ≡ false) (u : Up o d l k) where
+module _ (o : Opening) (d : Disk) (l : Live) (k : Ledger) (r : Tx) (listed : Listed r (l .txs)) (run : r .committing ≡ false) (u : Up o d l k) where
   found : Found (r .id) r (l .txs)
   found = find (r .id) r (l .txs) listed
 

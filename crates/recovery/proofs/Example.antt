@@ -8,11 +8,11 @@ use Rattle.recovery.specs.Group.{Write}
 use Rattle.recovery.specs.Lists.{nil}
 use Rattle.recovery.specs.Restart.{undoOrder}
 use Rattle.recovery.specs.Ledger.{Commit, Ledger}
-use Rattle.recovery.specs.Machine.{Setup, fresh, System, diskOf, recovered, newTx, withWrite, inCommit, begins, writes, precommits, rollsBack, flushes, flushIsCut, settles, checkpoints, restarts, Run, opened, next}
+use Rattle.recovery.specs.Machine.{Opening, fresh, System, diskOf, recovered, newTx, withWrite, inCommit, begins, writes, precommits, rollsBack, flushes, flushIsCut, settles, checkpoints, restarts, Run, opened, next}
 use Rattle.recovery.specs.Claim.{layCommits}
 use Rattle.recovery.proofs.Theorem.{theorem}
 
-abbrev store : Setup
+abbrev store : Opening
 store = fresh 4096 16384
 
 abbrev byte10 : ℕ → Write

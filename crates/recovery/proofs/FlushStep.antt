@@ -8,7 +8,7 @@ use lib.ListN.{length, take, drop, take-append-drop}
 use lib.Seq.{drop-append-seam}
 use Rattle.recovery.specs.Group.{Group, groupsSize, lastCsn, fitting}
 use Rattle.recovery.specs.Ledger.{Entry, Ledger, fittingEntries, leave, emptied, enterFlushed}
-use Rattle.recovery.specs.Machine.{Setup, Disk, Live, storing, afterFlush}
+use Rattle.recovery.specs.Machine.{Opening, Disk, Live, storing, afterFlush}
 use Rattle.recovery.specs.Claim.{commits}
 use Rattle.recovery.proofs.Lists.{all-map, take-map}
 use Rattle.recovery.proofs.Groups.{groupsSize-append, lastCsn-append, replay-append, fitting-split, fitting-all}
@@ -23,7 +23,7 @@ use Rattle.recovery.proofs.Invariant.{Standing, AtByte, Up, Down, baseA
 abbrev storedLive : List Group → List Group → Live → Live
 storedLive P U l = record { txs = l .txs; memory = l .memory; tail = U; csn = lastCsn (l .csn) P; lastId = l .lastId }
 
-module _ (o : Setup) (d : Disk) (l : Live) (k : Ledger) (P U : List Group) (split : l .tail ≡ P ++ U) (u : Up o d l k) where
+module _ (o : Opening) (d : Disk) (l : Live) (k : Ledger) (P U : List Group) (split : l .tail ≡ P ++ U) (u : Up o d l k) where
   abbrev s : Standing d l (u .late)
   s = u .standing
 
@@ -96,7 +96,7 @@ module _ (o : Setup) (d : Disk) (l : Live) (k : Ledger) (P U : List Group) (spli
     ledger = stored-ledger;
   }
 
-module _ (o : Setup) (d : Disk) (l : Live) (k : Ledger) (q allowed : ℕ) (u : Up o d l k) where
+module _ (o : Opening) (d : Disk) (l : Live) (k : Ledger) (q allowed : ℕ) (u : Up o d l k) where
   -- what leaves the ledger's queue is what leaves the tail
   leaving : fittingEntries allowed (take q (k .queue)) ≡ entries (fitting allowed (take q (l .tail)))
   leaving =

@@ -1,4 +1,4 @@
--- Groups one after the other: sizes, numbers, finished ids, and the memories that they lead to; and the abort records that restart adds.
+-- Groups one after the other: sizes, numbers, the memories that they lead to, what fits; and the abort records that restart adds.
 use mathlib.Core.Path.{_≡_, refl, ap}
 use mathlib.Core.Bool.{Bool, true, false, cond}
 use mathlib.Core.List.{List, [], _∷_, _++_}

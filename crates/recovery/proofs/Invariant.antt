@@ -9,7 +9,7 @@ use Rattle.recovery.specs.Transaction.{Tx, running, committing}
 use Rattle.recovery.specs.Replay.{replay}
 use Rattle.recovery.specs.Restart.{groupId}
 use Rattle.recovery.specs.Ledger.{Commit, Ledger, emptied}
-use Rattle.recovery.specs.Machine.{Setup, Disk, Live, System, down, up, lastAssigned}
+use Rattle.recovery.specs.Machine.{Opening, Disk, Live, System, down, up, lastAssigned}
 use Rattle.recovery.specs.Claim.{commits}
 use Rattle.recovery.proofs.Lists.{EveryPrefix, prefix-left}
 use Rattle.recovery.proofs.Transactions.{DistinctIds}
@@ -35,21 +35,21 @@ pub record Standing (d : Disk) (l : Live) (late : List Tx) : Type 0 where
   pub csns : All (λ c. c .csn ≤ lastAssigned l) (committing (l .txs))
 
 -- the byte a by the commits of these groups, the first of the log
-unfoldable pub baseAt : Setup → List Group → ℕ → ℕ
+unfoldable pub baseAt : Opening → List Group → ℕ → ℕ
 baseAt o gs a = replay (layByte a) gs (getD (o .memory) a 0)
 
 -- the image recovers to the commits after it, at the byte a
-abbrev pub ImageAt : Setup → Disk → ℕ → List Group → Type 0
+abbrev pub ImageAt : Opening → Disk → ℕ → List Group → Type 0
 ImageAt o d a P = Recovers a (baseAt o (d .before) a) (getD (d .image .memory) a 0) (d .image .txs) (d .image .csn) P
 
 -- At the byte a: the image is right for the log and for every first part of the tail; each late commit can be undone; and the running
 -- transactions hold it or not.
-pub record AtByte (o : Setup) (d : Disk) (l : Live) (late : List Tx) (a : ℕ) : Type 0 where
+pub record AtByte (o : Opening) (d : Disk) (l : Live) (late : List Tx) (a : ℕ) : Type 0 where
   pub image : EveryPrefix (ImageAt o d a) (d .after ++ l .tail)
   pub undoes : Undoes a (replay (layByte a) (d .after) (baseAt o (d .before) a)) (l .tail) late
   pub live : RunningAt a (replay (layByte a) (d .after ++ l .tail) (baseAt o (d .before) a)) (getD (l .memory) a 0) (running (l .txs))
 
-pub record Up (o : Setup) (d : Disk) (l : Live) (k : Ledger) : Type 0 where
+pub record Up (o : Opening) (d : Disk) (l : Live) (k : Ledger) : Type 0 where
   pub late : List Tx
   pub standing : Standing d l late
   pub imageLength : length (d .image .memory) ≡ o .size
@@ -60,7 +60,7 @@ pub record Up (o : Setup) (d : Disk) (l : Live) (k : Ledger) : Type 0 where
   pub ledger : Agrees d l k
 
 -- What a restart needs. It says nothing of the ledger's open transactions and queue.
-pub record Down (o : Setup) (d : Disk) (k : Ledger) : Type 0 where
+pub record Down (o : Opening) (d : Disk) (k : Ledger) : Type 0 where
   pub imageDistinct : DistinctIds (d .image .txs)
   pub imageLength : length (d .image .memory) ≡ o .size
   pub bytes : (a : ℕ) → a < o .size → EveryPrefix (ImageAt o d a) (d .after)
@@ -70,12 +70,12 @@ pub record Down (o : Setup) (d : Disk) (k : Ledger) : Type 0 where
   pub assigned : (rest : List Commit) × (k .assigned ≡ commits (d .before ++ d .after) ++ rest)
   pub settled : All (λ c. List·Memᴰ c (k .durable)) (k .settled)
 
-abbrev pub Inv : Setup → System → Ledger → Type 0
+abbrev pub Inv : Opening → System → Ledger → Type 0
 Inv o (down d) k = Down o d k
 Inv o (up d l) k = Up o d l k
 
 -- the current fails
-pub crash : (o : Setup) (d : Disk) (l : Live) (k : Ledger) → Up o d l k → Down o d k
+pub crash : (o : Opening) (d : Disk) (l : Live) (k : Ledger) → Up o d l k → Down o d k
 crash o d l k u = record {
   imageDistinct = u .standing .imageDistinct;
   imageLength = u .imageLength;
@@ -88,7 +88,7 @@ crash o d l k u = record {
 }
 
 -- the ledger loses what is open and queued
-pub down-emptied : (o : Setup) (d : Disk) (k : Ledger) → Down o d k → Down o d (emptied k)
+pub down-emptied : (o : Opening) (d : Disk) (k : Ledger) → Down o d k → Down o d (emptied k)
 down-emptied o d k w = record {
   imageDistinct = w .imageDistinct;
   imageLength = w .imageLength;

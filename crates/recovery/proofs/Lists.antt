@@ -92,14 +92,6 @@ module _ {A : Type 0} where
       go true e false g ih = rw (e, g, ← f x, e, g) ih
       go false e c g ih = rw (e, ← f x, e) ih
 
-  pub all-filter : {q : A → Type 0} (p : A → Bool) {xs : List A} → All q xs → All q (filter p xs)
-  all-filter p nil = nil
-  all-filter {q} p (cons {x} {xs} h hs) = go (p x) (all-filter p hs)
-    where
-      go : (b : Bool) → All q (filter p xs) → All q (cond b (x ∷ filter p xs) (filter p xs))
-      go true k = cons h k
-      go false k = k
-
   pub all-unfilter : {q : A → Type 0} (p : A → Bool) (xs : List A) → All q (filter p xs) → All (λ x. p x ≡ true → q x) xs
   all-unfilter p [] h = nil
   all-unfilter {q} p (x ∷ xs) h = go (p x) refl h (λ k. all-unfilter p xs k)
@@ -116,6 +108,16 @@ module _ {A : Type 0} where
       go : (b : Bool) → p x ≡ b → All q (filter p xs) → All q (cond b (x ∷ filter p xs) (filter p xs))
       go true e k = cons (h e) k
       go false e k = k
+
+  pub all-filter : {q : A → Type 0} (p : A → Bool) {xs : List A} → All q xs → All q (filter p xs)
+  all-filter p h = all-passing p (all-map (λ x k _. k) h)
+
+  pub all-passed : (p : A → Bool) (xs : List A) → All (λ x. p x ≡ true) (filter p xs)
+  all-passed p xs = all-passing p (each xs)
+    where
+      each : (ys : List A) → All (λ x. p x ≡ true → p x ≡ true) ys
+      each [] = nil
+      each (y ∷ ys) = cons (λ e. e) (each ys)
 
 -- every first part of a list has a property
 

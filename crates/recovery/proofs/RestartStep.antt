@@ -11,7 +11,7 @@ use Rattle.recovery.specs.Transaction.{Tx, running}
 use Rattle.recovery.specs.Replay.{replay}
 use Rattle.recovery.specs.Restart.{groupId, finished, unfinished, undone, aborts}
 use Rattle.recovery.specs.Ledger.{Commit, Ledger, enterRestarted}
-use Rattle.recovery.specs.Machine.{Setup, Disk, Live, undoneBy, afterRestart}
+use Rattle.recovery.specs.Machine.{Opening, Disk, Live, undoneBy, afterRestart}
 use Rattle.recovery.specs.Claim.{commits}
 use Rattle.recovery.proofs.Lists.{all-map, all-append, all-filter, filter-none, EveryPrefix, prefix-whole, prefix-append, take-map}
 use Rattle.recovery.proofs.Distinct.{Distinct, empty, more, distinct-filter}
@@ -40,7 +40,7 @@ distinct-aborts : {us : List Tx} → DistinctIds us → Distinct groupId (aborts
 distinct-aborts empty = empty
 distinct-aborts (more h d) = more (all-aborts h) (distinct-aborts d)
 
-module _ (o : Setup) (d : Disk) (k : Ledger) (lastId : ℕ) (image-ids : All (λ t. t .id ≤ lastId) (d .image .txs)) (group-ids : All (λ g. groupId g ≤ lastId) (d .after)) (w : Down o d k) where
+module _ (o : Opening) (d : Disk) (k : Ledger) (lastId : ℕ) (image-ids : All (λ t. t .id ≤ lastId) (d .image .txs)) (group-ids : All (λ g. groupId g ≤ lastId) (d .after)) (w : Down o d k) where
   abbrev txs : List Tx
   txs = d .image .txs
 

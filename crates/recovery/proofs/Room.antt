@@ -10,7 +10,7 @@ use Rattle.recovery.specs.Group.{Group, groupsSize}
 use Rattle.recovery.specs.Lists.{All, nil, cons}
 use Rattle.recovery.specs.Transaction.{Tx, running, reserved}
 use Rattle.recovery.specs.Restart.{finished, unfinished, undone}
-use Rattle.recovery.specs.Machine.{Setup, Disk, Live, roomUsed}
+use Rattle.recovery.specs.Machine.{Opening, Disk, Live, roomUsed}
 use Rattle.recovery.proofs.Lists.{all-map, all-zip, EveryPrefix}
 use Rattle.recovery.proofs.Distinct.{empty, more, distinct-filter}
 use Rattle.recovery.proofs.Transactions.{DistinctIds, isRunning, isUnfinished}
@@ -44,15 +44,15 @@ linked-length (more {x = t} {xs = L} n d) (cons l ls) =
     other u r xs ys i m (inr k) = k
 
 -- there is room for the abort records of a restart from this image and these groups after it
-abbrev pub Roomy : Setup → Disk → List Group → Type 0
+abbrev pub Roomy : Opening → Disk → List Group → Type 0
 Roomy o d P = groupsSize (d .before) + groupsSize P + 4 * length (undone (d .image .txs) (d .image .csn) P) ≤ o .capacity
 
-pub record Room (o : Setup) (d : Disk) (l : Live) : Type 0 where
+pub record Room (o : Opening) (d : Disk) (l : Live) : Type 0 where
   pub fits : EveryPrefix (Roomy o d) (d .after ++ l .tail)
   pub used : roomUsed d l ≤ o .capacity
 
 -- log and tail whole: what the image has left to undo is still running
-pub roomy-now : (o : Setup) (d : Disk) (G : List Group) (rs : List Tx) → DistinctIds (d .image .txs) → Follows (d .image .txs) (d .image .csn) G rs
+pub roomy-now : (o : Opening) (d : Disk) (G : List Group) (rs : List Tx) → DistinctIds (d .image .txs) → Follows (d .image .txs) (d .image .csn) G rs
     → groupsSize (d .before) + groupsSize G + reserved rs ≤ o .capacity → Roomy o d G
 roomy-now o d G rs distinct w used =
     let ls : List Tx = unfinished (finished G []) (running (d .image .txs)) in
@@ -60,7 +60,7 @@ roomy-now o d G rs distinct w used =
     rw (undone-running (d .image .txs) (d .image .csn) G rs w) (omega (arith, reserved-many rs))
 
 -- an image taken now, and the groups P of the tail after it: the late commits have groups of 8 bytes at least in the rest
-pub roomy-image : (o : Setup) (l : Live) (log P U : List Group) (cs : List Tx) → Fit (l .txs) (l .csn) (P ++ U) cs
+pub roomy-image : (o : Opening) (l : Live) (log P U : List Group) (cs : List Tx) → Fit (l .txs) (l .csn) (P ++ U) cs
     → groupsSize log + groupsSize (P ++ U) + reserved (running (l .txs)) ≤ o .capacity → groupsSize log + groupsSize P + 4 * length (undone (l .txs) (l .csn) P) ≤ o .capacity
 roomy-image o l log P U cs fit used =
     let sized : 8 * length (late P cs) ≤ groupsSize U = late-size (tied-late P (fit .tied)) in

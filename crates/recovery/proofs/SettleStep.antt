@@ -7,7 +7,7 @@ use Rattle.recovery.specs.Lists.{nil, cons}
 use Rattle.recovery.specs.Transaction.{Tx, running, committing}
 use Rattle.recovery.specs.Restart.{above, sortDesc}
 use Rattle.recovery.specs.Ledger.{Ledger, committedIn, enterSettled}
-use Rattle.recovery.specs.Machine.{Setup, Disk, Live, Listed, afterSettle}
+use Rattle.recovery.specs.Machine.{Opening, Disk, Live, Listed, afterSettle}
 use Rattle.recovery.specs.Claim.{commits}
 use Rattle.recovery.proofs.Bool.{ltb-no}
 use Rattle.recovery.proofs.Lists.{all-map, all-append, all-here, all-less, filter-out, filter-append}
@@ -18,7 +18,7 @@ use Rattle.recovery.proofs.Numbers.{consecutive-tied, consecutive-high}
 use Rattle.recovery.proofs.Ledger.{Settles, settles, commits-entries}
 use Rattle.recovery.proofs.Invariant.{Standing, AtByte, Up}
 
-module _ (o : Setup) (d : Disk) (l : Live) (k : Ledger) (r : Tx) (listed : Listed r (l .txs)) (committed : r .committing ≡ true) (on-disk : r .csn ≤ l .csn) (u : Up o d l k) where
+module _ (o : Opening) (d : Disk) (l : Live) (k : Ledger) (r : Tx) (listed : Listed r (l .txs)) (committed : r .committing ≡ true) (on-disk : r .csn ≤ l .csn) (u : Up o d l k) where
   found : Found (r .id) r (l .txs)
   found = find (r .id) r (l .txs) listed
 

@@ -11,7 +11,7 @@ use Rattle.recovery.specs.Lists.{nil}
 use Rattle.recovery.specs.Transaction.{Tx}
 use Rattle.recovery.specs.Restart.{undoOrder}
 use Rattle.recovery.specs.Ledger.{Event, Commit, Ledger, noLedger, committedIn, enter}
-use Rattle.recovery.specs.Machine.{Setup, Disk, Live, System, down, up, diskOf, startDisk, Listed, Step, stays, begins, writes, precommits, rollsBack, flushes, flushIsCut, settles, checkpoints, checkpointIsCut, restarts, restartIsCut, Run, opened, next}
+use Rattle.recovery.specs.Machine.{Opening, Disk, Live, System, down, up, diskOf, openingDisk, Listed, Step, stays, begins, writes, precommits, rollsBack, flushes, flushIsCut, settles, checkpoints, checkpointIsCut, restarts, restartIsCut, Run, opened, next}
 use Rattle.recovery.specs.Claim.{layCommits, Claim}
 use Rattle.recovery.proofs.Lists.{prefix-whole}
 use Rattle.recovery.proofs.Distinct.{empty}
@@ -29,7 +29,7 @@ use Rattle.recovery.proofs.SettleStep.{settle-finds, settle-keeps}
 use Rattle.recovery.proofs.CheckpointStep.{checkpoint-keeps}
 use Rattle.recovery.proofs.RestartStep.{restart-keeps}
 
-module _ (o : Setup) where
+module _ (o : Opening) where
   -- the disk alone
   lasts : (s : System) (k : Ledger) → Inv o s k → Down o (diskOf s) k
   lasts (down d) k v = v
@@ -50,13 +50,13 @@ module _ (o : Setup) where
   keeps s t e k (restarts s′ lastId image-ids group-ids) v = restart-keeps o (diskOf s′) k lastId image-ids group-ids (lasts s′ k v)
   keeps s t e k (restartIsCut s′) v = down-emptied o (diskOf s′) k (lasts s′ k v)
 
-  start : Down o (startDisk o) noLedger
+  start : Down o (openingDisk o) noLedger
   unfolding undoOrder baseAt
   start = record {
     imageDistinct = empty;
     imageLength = o .whole;
-    bytes = λ a h q. subst (λ (gs : List Group). ImageAt o (startDisk o) a gs) (sym (take-nil q)) refl;
-    fits = λ q. subst (λ (gs : List Group). Roomy o (startDisk o) gs) (sym (take-nil q)) (omega arith);
+    bytes = λ a h q. subst (λ (gs : List Group). ImageAt o (openingDisk o) a gs) (sym (take-nil q)) refl;
+    fits = λ q. subst (λ (gs : List Group). Roomy o (openingDisk o) gs) (sym (take-nil q)) (omega arith);
     numbers = record { log = consecutive-nil; image = refl };
     durable = refl;
     assigned = ([], refl);
@@ -65,7 +65,7 @@ module _ (o : Setup) where
 
   pub holds : {s : System} {k : Ledger} → Run o s k → Inv o s k
   holds opened = start
-  holds (next {s} {t} {l} {e} r p) = keeps s t e l p (holds r)
+  holds (next {s} {t} {k} {e} r p) = keeps s t e k p (holds r)
 
   pub claimed : (d : Disk) (k : Ledger) → Down o d k → Claim o d k
   unfolding baseAt

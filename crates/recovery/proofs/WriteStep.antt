@@ -14,7 +14,7 @@ use Rattle.recovery.specs.Lists.{All}
 use Rattle.recovery.specs.Transaction.{Tx, running, committing, heldByOther, reserved}
 use Rattle.recovery.specs.Replay.{replay, layBytes}
 use Rattle.recovery.specs.Ledger.{Ledger, OpenTx, addWrite, enterWrote}
-use Rattle.recovery.specs.Machine.{Setup, Disk, Live, Listed, roomUsed, oldBytes, withWrite, afterWrite}
+use Rattle.recovery.specs.Machine.{Opening, Disk, Live, Listed, roomUsed, oldBytes, withWrite, afterWrite}
 use Rattle.recovery.proofs.Bool.{eqb-yes}
 use Rattle.recovery.proofs.Lists.{all-map, all-zip, all-less, all-edit}
 use Rattle.recovery.proofs.Distinct.{distinct-edit}
@@ -75,7 +75,7 @@ touch a m w others ha hw q = go (whereabouts a (w .addr) (oldBytes w m .bytes) (
     go (out p r) = miss p r (new none r)
     go (at j e l p r) = hit (p ∙ ap some (old j e l)) (r ∙ ap some (sym (new (some (getD (w .bytes) j 0)) r))) (q (some-none r))
 
-module _ (o : Setup) (d : Disk) (l : Live) (k : Ledger) (r : Tx) (w : Write) (listed : Listed r (l .txs)) (run : r .committing ≡ false) (u : Up o d l k) where
+module _ (o : Opening) (d : Disk) (l : Live) (k : Ledger) (r : Tx) (w : Write) (listed : Listed r (l .txs)) (run : r .committing ≡ false) (u : Up o d l k) where
   f : Found (r .id) r (l .txs)
   f = find (r .id) r (l .txs) listed
 

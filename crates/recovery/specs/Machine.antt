@@ -12,9 +12,9 @@ use Rattle.recovery.specs.Replay.{undoAll, layBytes}
 use Rattle.recovery.specs.Restart.{groupId, undone, aborts, recover}
 use Rattle.recovery.specs.Ledger.{Event, unchanged, begun, wrote, precommitted, rolledBack, flushed, settled, restarted, cut, Ledger, noLedger, enter}
 
--- What a history starts from: the length of memory, the bytes that the log can take, and an image's memory and last commit
+-- What a history opens from: the length of memory, the bytes that the log can take, and an image's memory and last commit
 -- number, with no transaction.
-pub record Setup : Type 0 where
+pub record Opening : Type 0 where
   pub size : ℕ
   pub capacity : ℕ
   pub memory : List ℕ
@@ -22,7 +22,7 @@ pub record Setup : Type 0 where
   pub whole : length memory ≡ size
 
 -- a fresh disk: zeros, and commit numbers from 1 on
-abbrev pub fresh : ℕ → ℕ → Setup
+abbrev pub fresh : ℕ → ℕ → Opening
 fresh size capacity = record { size = size; capacity = capacity; memory = replicate size 0; csn = 0; whole = length-replicate size 0 }
 
 -- what recovery needs of a checkpoint image; csn: the last commit number on disk
@@ -54,8 +54,8 @@ abbrev pub diskOf : System → Disk
 diskOf (down d) = d
 diskOf (up d l) = d
 
-abbrev pub startDisk : Setup → Disk
-startDisk o = record { image = record { txs = []; memory = o .memory; csn = o .csn }; before = []; after = [] }
+abbrev pub openingDisk : Opening → Disk
+openingDisk o = record { image = record { txs = []; memory = o .memory; csn = o .csn }; before = []; after = [] }
 
 -- r is what the list has under its id
 abbrev pub Listed : Tx → List Tx → Type 0
@@ -131,7 +131,7 @@ afterRestart d lastId = record { txs = []; memory = recovered d; tail = aborts (
 
 -- One call: the system before, what the ledger is told, the system after. A premise is what keeps the call from being refused, so
 -- far as recovery depends on it.
-module _ (o : Setup) where
+module _ (o : Opening) where
   pub data Step : System → Event → System → Type 0 where
     -- a refused call, a read or its sister
     stays : (s : System) → Step s unchanged s
@@ -157,5 +157,5 @@ module _ (o : Setup) where
 
   -- any list of calls, with the ledger that is fed them
   pub data Run : System → Ledger → Type 0 where
-    opened : Run (down (startDisk o)) noLedger
-    next : {s t : System} {l : Ledger} {e : Event} → Run s l → Step s e t → Run t (enter e l)
+    opened : Run (down (openingDisk o)) noLedger
+    next : {s t : System} {k : Ledger} {e : Event} → Run s k → Step s e t → Run t (enter e k)
