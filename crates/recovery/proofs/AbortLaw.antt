@@ -14,8 +14,8 @@ use Rattle.recovery.specs.Restart.{finished, undoRecords, undoOf, unfini
 use Rattle.recovery.proofs.Bool.{eqb-no, not-ltb, not-true, or-both}
 use Rattle.recovery.proofs.Lists.{all-map, all-append, all-left, all-right, all-filter, all-unfilter, all-passed}
 use Rattle.recovery.proofs.Distinct.{more, distinct-append, distinct-filter, distinct-left}
-use Rattle.recovery.proofs.Sorting.{sort-all, unsort-all, sort-distinct}
 use Rattle.recovery.proofs.Transactions.{DistinctIds, lookup-own, running-committing, isRunning, isCommitting, isAbove, isUnfinished}
+use Rattle.recovery.proofs.Sorting.{sort-all, unsort-all, sort-distinct}
 use Rattle.recovery.proofs.Groups.{lastCsn-append, undoEach-append, forward-append, lastCsn-aborts}
 use Rattle.recovery.proofs.Finished.{finished-append, unfinished-more, leave-one, still-finished, aborts-finish}
 

@@ -20,7 +20,7 @@ use Rattle.recovery.proofs.Finished.{unmarked}
 use Rattle.recovery.proofs.Byte.{layByte}
 use Rattle.recovery.proofs.LiveByte.{put-off}
 use Rattle.recovery.proofs.TailFit.{Foreign}
-use Rattle.recovery.proofs.GrowthLaw.{Linked, here, there}
+use Rattle.recovery.proofs.Follows.{Linked, here, there}
 use Rattle.recovery.proofs.Ledger.{openOf}
 use Rattle.recovery.proofs.Invariant.{Standing, AtByte, Up, baseAt}
 

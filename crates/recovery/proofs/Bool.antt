@@ -1,7 +1,8 @@
--- Tests on numbers and Booleans, as equations.
+-- Tests on numbers and Booleans, as equations; and no option is both something and nothing.
 use mathlib.Core.Path.{_≡_, refl, sym, _∙_, subst}
 use mathlib.Core.Logic.{_≢_, _⊎_, inl, inr}
 use mathlib.Core.Bool.{Bool, true, false, not, _||_, _&&_, true≢false, false≢true}
+use mathlib.Core.Option.{Option, none, some}
 use Prim.Native.Nat.{ℕ, suc, _≤_, _<_}
 use native.Mathlib.Omega.{arith}
 use lib.Dec.{T, eqb, leb, ltb, eqb→eq, eqb-refl, le→leb, leb→le, nleb→lt}
@@ -81,3 +82,6 @@ or-both a b p q = rw p q
 pub and-cases : (a b : Bool) → (a && b) ≡ false → (a ≡ false) ⊎ (b ≡ false)
 and-cases true b e = inr e
 and-cases false b e = inl refl
+
+pub some-none : {A : Type 0} {o : Option A} {x : A} → o ≡ some x → o ≡ none → ⊥
+some-none e f = let z : _≡_ {A = ℕ} 0 1 = cc in omega arith

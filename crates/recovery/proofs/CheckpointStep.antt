@@ -19,7 +19,7 @@ use Rattle.recovery.proofs.Byte.{layByte}
 use Rattle.recovery.proofs.LiveByte.{RunningAt}
 use Rattle.recovery.proofs.TailFit.{Fit}
 use Rattle.recovery.proofs.CheckpointLaw.{Undoes, checkpoint-law}
-use Rattle.recovery.proofs.GrowthLaw.{Linked, here, there}
+use Rattle.recovery.proofs.Follows.{Linked, here, there}
 use Rattle.recovery.proofs.Numbers.{last-on-disk}
 use Rattle.recovery.proofs.Room.{roomy-image}
 use Rattle.recovery.proofs.Invariant.{Standing, AtByte, Up, baseAt}

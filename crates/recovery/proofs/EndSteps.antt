@@ -18,14 +18,15 @@ use Rattle.recovery.specs.Claim.{commits}
 use Rattle.recovery.proofs.Bool.{ltb-yes}
 use Rattle.recovery.proofs.Lists.{all-map, all-zip, all-append, all-here, all-less, all-more, all-edit, all-filter, filter-in, filter-append, EveryPrefix, prefix-whole, prefix-snoc}
 use Rattle.recovery.proofs.Distinct.{Distinct, distinct-more, distinct-others, distinct-less, distinct-edit}
-use Rattle.recovery.proofs.Sorting.{sort-top}
 use Rattle.recovery.proofs.Transactions.{Found, find, DistinctIds, found-running, found-apart, running-out, running-append, committing-in, committing-out, committing-append, isCommitting, isAbove}
+use Rattle.recovery.proofs.Sorting.{sort-top}
 use Rattle.recovery.proofs.Groups.{groupsSize-append, reserved-append, lastCsn-append, replay-append}
 use Rattle.recovery.proofs.Byte.{act, oldest, newest, redo-newest, layByte, undo-byte, undo-length}
 use Rattle.recovery.proofs.LiveByte.{RunningAt, Restores, precommit-byte, abort-byte}
 use Rattle.recovery.proofs.TailFit.{Ungrouped, foreign-map, tied-grows, tied-one-commit, tied-one-abort}
 use Rattle.recovery.proofs.CheckpointLaw.{undoes-one-commit, undoes-one-abort}
-use Rattle.recovery.proofs.GrowthLaw.{Follows, follows-next, growth-commit, growth-abort}
+use Rattle.recovery.proofs.Follows.{Follows, follows-next}
+use Rattle.recovery.proofs.GrowthLaw.{growth-commit, growth-abort}
 use Rattle.recovery.proofs.Room.{Roomy, roomy-now}
 use Rattle.recovery.proofs.Ledger.{entryOf, opens, HasLatest, commits-append, others-one, writes-one, latest-own, latest-other}
 use Rattle.recovery.proofs.Invariant.{Standing, AtByte, Up, baseAt, ImageAt}

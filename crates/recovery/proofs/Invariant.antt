@@ -17,7 +17,8 @@ use Rattle.recovery.proofs.Byte.{layByte}
 use Rattle.recovery.proofs.LiveByte.{RunningAt}
 use Rattle.recovery.proofs.TailFit.{Fit}
 use Rattle.recovery.proofs.CheckpointLaw.{Undoes}
-use Rattle.recovery.proofs.GrowthLaw.{Follows, Recovers}
+use Rattle.recovery.proofs.Follows.{Follows}
+use Rattle.recovery.proofs.GrowthLaw.{Recovers}
 use Rattle.recovery.proofs.Numbers.{Numbers}
 use Rattle.recovery.proofs.Room.{Roomy, Room}
 use Rattle.recovery.proofs.Ledger.{Agrees}

@@ -16,8 +16,7 @@ use Rattle.recovery.specs.Restart.{aborts}
 use Rattle.recovery.specs.Ledger.{OpenTx, Commit, Entry, commit, abort, Ledger, entrySize, fittingEntries, committedIn, writesOf, others, addWrite, orElse, latest}
 use Rattle.recovery.specs.Machine.{Disk, Live, withWrite}
 use Rattle.recovery.specs.Claim.{commits, layCommits}
-use Rattle.recovery.proofs.Bool.{eqb-same, eqb-no, eqb-yes}
-use Rattle.recovery.proofs.LiveByte.{some-none}
+use Rattle.recovery.proofs.Bool.{eqb-same, eqb-no, eqb-yes, some-none}
 
 -- the tail as the ledger's queue, running transactions as its open ones
 

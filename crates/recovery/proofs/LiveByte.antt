@@ -4,19 +4,24 @@ use mathlib.Core.Logic.{_⊎_, inl, inr}
 use mathlib.Core.Option.{Option, none, some}
 use mathlib.Core.List.{List, [], _∷_, _++_}
 use Prim.Native.Nat.{ℕ}
-use native.Mathlib.Omega.{arith}
 use Rattle.recovery.specs.Group.{Write}
 use Rattle.recovery.specs.Lists.{All, nil, cons}
 use Rattle.recovery.specs.Transaction.{Tx}
 use Rattle.recovery.specs.Replay.{undoAll, undoEach}
 use Rattle.recovery.specs.Machine.{withWrite}
+use Rattle.recovery.proofs.Bool.{some-none}
 use Rattle.recovery.proofs.Lists.{all-map, all-here, all-less, all-more}
 use Rattle.recovery.proofs.Byte.{act, first, seen, layByte, oldest, newest, undo-oldest, oldest-append, newest-append}
 
-pub some-none : {A : Type 0} {o : Option A} {x : A} → o ≡ some x → o ≡ none → ⊥
-some-none e f = let z : _≡_ {A = ℕ} 0 1 = cc in omega arith
+-- the transaction has no undo record over the byte
+abbrev pub Still : ℕ → Tx → Type 0
+Still a t = oldest a (t .undo) ≡ none
 
--- the transaction has no record over the byte
+pub undo-still : {a : ℕ} {ts : List Tx} (v : ℕ) → All (Still a) ts → undoEach (layByte a) ts v ≡ v
+undo-still v nil = refl
+undo-still {a} v (cons {x = t} q qs) = undo-still (undoAll (layByte a) (t .undo) v) qs ∙ (undo-oldest a (t .undo) v ∙ ap (λ (o : Option ℕ). act o v) q)
+
+-- it has no record over the byte
 abbrev pub Quiet : ℕ → Tx → Type 0
 Quiet a r = (oldest a (r .undo) ≡ none) × (newest a (r .redo) ≡ none)
 
@@ -72,18 +77,12 @@ module _ (a x mem : ℕ) where
   undo-running (nobody e) = inr (λ v. refl, e)
   undo-running (passes {r} {rs} k h) = further (undo-running h)
     where
-      leaves : (v : ℕ) → undoAll (layByte a) (r .undo) v ≡ v
-      leaves v = undo-oldest a (r .undo) v ∙ ap (λ (o : Option ℕ). act o v) (k .0)
-
       further : ((v : ℕ) → undoEach (layByte a) rs v ≡ x) ⊎ (((v : ℕ) → undoEach (layByte a) rs v ≡ v) × (mem ≡ x))
           → ((v : ℕ) → undoEach (layByte a) (r ∷ rs) v ≡ x) ⊎ (((v : ℕ) → undoEach (layByte a) (r ∷ rs) v ≡ v) × (mem ≡ x))
       further (inl f) = inl (λ v. f (undoAll (layByte a) (r .undo) v))
-      further (inr p) = inr (λ v. p .0 (undoAll (layByte a) (r .undo) v) ∙ leaves v, p .1)
-  undo-running (holds {r} o n k) = inl (λ v. still k (undoAll (layByte a) (r .undo) v) ∙ (undo-oldest a (r .undo) v ∙ ap (λ (q : Option ℕ). act q v) o))
-    where
-      still : {ts : List Tx} → All (Quiet a) ts → (v : ℕ) → undoEach (layByte a) ts v ≡ v
-      still nil v = refl
-      still (cons {x = t} q qs) v = still qs (undoAll (layByte a) (t .undo) v) ∙ (undo-oldest a (t .undo) v ∙ ap (λ (o : Option ℕ). act o v) (q .0))
+      further (inr p) = inr (λ v. p .0 (undoAll (layByte a) (r .undo) v) ∙ undo-still v (cons {x = r} (k .0) nil), p .1)
+  undo-running (holds {r} o n k) =
+      inl (λ v. undo-still (undoAll (layByte a) (r .undo) v) (all-map (λ t q. q .0) k) ∙ (undo-oldest a (r .undo) v ∙ ap (λ (q : Option ℕ). act q v) o))
 
 -- A redo and an undo value at a byte, whose value before was x: both leave it, or the undo puts x back.
 pub data Restores (x : ℕ) : Option ℕ → Option ℕ → Type 0 where

@@ -16,7 +16,7 @@ use Rattle.recovery.proofs.Distinct.{empty, more, distinct-filter}
 use Rattle.recovery.proofs.Transactions.{DistinctIds, isRunning, isUnfinished}
 use Rattle.recovery.proofs.Groups.{groupsSize-append}
 use Rattle.recovery.proofs.TailFit.{Tied, tied-nil, tied-abort, tied-commit, Fit, late, tied-late, undone-late}
-use Rattle.recovery.proofs.GrowthLaw.{Over, Linked, here, there, linked-split, Follows, undone-running}
+use Rattle.recovery.proofs.Follows.{Over, Linked, here, there, linked-split, Follows, undone-running}
 
 reserved-many : (rs : List Tx) → 8 * length rs ≤ reserved rs
 reserved-many [] = omega arith

@@ -12,8 +12,8 @@ use Rattle.recovery.specs.Transaction.{Tx, running, committing}
 use Rattle.recovery.specs.Restart.{groupId, finished, unfinished, sortDesc, above, undoOrder, undone}
 use Rattle.recovery.proofs.Lists.{all-map, all-left, all-right, all-reverse, filter-all, filter-append}
 use Rattle.recovery.proofs.Distinct.{Distinct, distinct-right, distinct-apart}
-use Rattle.recovery.proofs.Sorting.{above-high, above-low, above-above, above-sort}
 use Rattle.recovery.proofs.Transactions.{isAbove, isUnfinished}
+use Rattle.recovery.proofs.Sorting.{above-high, above-low, above-above, above-sort}
 use Rattle.recovery.proofs.Finished.{unmarked}
 
 -- The commits of the groups are those of the transactions, in order, and their numbers go on from d.

@@ -1,4 +1,5 @@
--- Demand 3 on the abstract store: after any list of calls, refused, cut or done, the claim holds of disk and ledger.
+-- Demand 3 on the abstract store: after any list of calls, refused, cut or done, the claim holds of disk and ledger. A call added later
+-- adds a constructor of Step, a lemma like those below and a line of `keeps`.
 use mathlib.Core.Path.{_≡_, refl, sym, ap, _∙_, subst}
 use mathlib.Core.Bool.{true}
 use mathlib.Core.List.{List, [], _++_}
@@ -81,6 +82,20 @@ module _ (o : Opening) where
     fits = rw (groupsSize-append (d .before) (d .after)) (prefix-whole (Roomy o d) (d .after) (w .fits));
   }
 
+  -- The theorem. It is Theorem 4.1 of the 1993 paper, for physical logging, with restarts, cuts and the ledger added. The cases of the
+  -- paper's proof (section 4) are here:
+  -- (a) what did not commit is undone, and in the right order
+  --   Abort finished before the checkpoint: such a transaction is not listed any more, and memory has its old bytes (LiveByte.abort-byte).
+  --   Abort finished after the checkpoint: the image's undo records are carried out where the abort is read (GrowthLaw.growth-abort); where
+  --     an earlier restart aborted it, its record repeats what that restart did (AbortLaw.abort-law).
+  --   Did not precommit: it is running, or was when the current failed (Follows.runnings); no two hold the same byte (LiveByte.RunningAt,
+  --     undo-running).
+  --   Precommitted but did not commit: the late ones, undone last first after the running ones (TailFit.undone-late, CheckpointLaw.undo-back
+  --     and undo-stay).
+  -- (b) what committed is not undone
+  --   Commit before the checkpoint: its number is not above the one on disk (TailFit.Fit.sorted, Follows.committings).
+  --   Commit after the checkpoint: its id is finished (Follows.committings, GrowthLaw.growth-commit).
+  -- Redo in commit order: numbers go on one by one (Numbers), and redoing what the image has already is harmless (CheckpointLaw.undo-both).
   pub theorem : {s : System} {k : Ledger} → Run o s k → Claim o (diskOf s) k
   theorem {s} {k} r = claimed (diskOf s) k (lasts s k (holds r))
 

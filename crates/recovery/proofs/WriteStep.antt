@@ -15,18 +15,18 @@ use Rattle.recovery.specs.Transaction.{Tx, running, committing, heldByOt
 use Rattle.recovery.specs.Replay.{replay, layBytes}
 use Rattle.recovery.specs.Ledger.{Ledger, OpenTx, addWrite, enterWrote}
 use Rattle.recovery.specs.Machine.{Opening, Disk, Live, Listed, roomUsed, oldBytes, withWrite, afterWrite}
-use Rattle.recovery.proofs.Bool.{eqb-yes}
+use Rattle.recovery.proofs.Bool.{eqb-yes, some-none}
 use Rattle.recovery.proofs.Lists.{all-map, all-zip, all-less, all-edit}
 use Rattle.recovery.proofs.Distinct.{distinct-edit}
 use Rattle.recovery.proofs.Transactions.{Found, find, running-in, committing-out, found-running, found-apart}
 use Rattle.recovery.proofs.Groups.{redoSize-append, reserved-append}
 use Rattle.recovery.proofs.Byte.{act, seen, seenAt, oldest, layByte, laid-byte, oldest-append}
-use Rattle.recovery.proofs.LiveByte.{Quiet, RunningAt, Touch, miss, hit, some-none, quiet-by-undo, write-byte}
+use Rattle.recovery.proofs.LiveByte.{Quiet, RunningAt, Touch, miss, hit, quiet-by-undo, write-byte}
+use Rattle.recovery.proofs.Held.{unheld}
 use Rattle.recovery.proofs.TailFit.{foreign-map}
-use Rattle.recovery.proofs.GrowthLaw.{Over, Linked, here, there}
+use Rattle.recovery.proofs.Follows.{Over, Linked, here, there}
 use Rattle.recovery.proofs.Ledger.{opens, add-one}
 use Rattle.recovery.proofs.Invariant.{Standing, AtByte, Up, baseAt}
-use Rattle.recovery.proofs.Held.{unheld}
 
 linked-edit : {t : Tx} (xs : List Tx) (r r′ : Tx) (ys : List Tx) → r′ .id ≡ r .id → (Over t r → Over t r′) → Linked t (xs ++ r ∷ ys) → Linked t (xs ++ r′ ∷ ys)
 linked-edit [] r r′ ys e f (here p o) = here (p ∙ sym e) (f o)
