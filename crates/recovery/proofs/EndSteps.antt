@@ -66,6 +66,10 @@ module _ (o : Opening) (d : Disk) (l : Live) (k : Ledger) (r : Tx) (listed : Lis
   live-before : (a : ℕ) → AtByte o d l (u .late) a → RunningAt a (replay (layByte a) (d .after ++ l .tail) (baseAt o (d .before) a)) (getD (l .memory) a 0) (xs ++ r ∷ ys)
   live-before a b = rw runnings at (b .live)
 
+  -- the image's transactions are followed through one more group
+  abbrev FollowsTo : Group → Type 0
+  FollowsTo g = Follows (d .image .txs) (d .image .csn) (d .after ++ (l .tail ++ (g ∷ []))) (xs ++ ys)
+
   module _ (g : Group) (of : groupId g ≡ r .id) where
     regroup : (d .after ++ l .tail) ++ (g ∷ []) ≡ d .after ++ (l .tail ++ (g ∷ []))
     regroup = append-assoc (d .after) (l .tail) (g ∷ [])
@@ -85,7 +89,7 @@ module _ (o : Opening) (d : Disk) (l : Live) (k : Ledger) (r : Tx) (listed : Lis
     end-free = all-map (λ t p. all-append (p .1) (cons {x = g} (λ e. p .0 (sym e ∙ of)) nil)) (all-zip apart (all-less xs r ys frees))
 
     end-follows : lastCsn (d .image .csn) (d .after ++ l .tail) ≤ csnAfter (lastCsn (d .image .csn) (d .after ++ l .tail)) g
-        → Follows (d .image .txs) (d .image .csn) (d .after ++ (l .tail ++ (g ∷ []))) (xs ++ ys)
+        → FollowsTo g
     end-follows le =
         subst (λ (gs : List Group). Follows (d .image .txs) (d .image .csn) gs (xs ++ ys)) regroup
         (follows-next (d .image .txs) (d .image .csn) (d .after ++ l .tail) xs r ys (rw runnings at (s .follows)) apart g of le)
@@ -96,7 +100,7 @@ module _ (o : Opening) (d : Disk) (l : Live) (k : Ledger) (r : Tx) (listed : Lis
       end-used =
           omega (arith, u .room .used, groupsSize-append (l .tail) (g ∷ []), reserved-append xs ys, ap reserved runnings ∙ reserved-append xs (r ∷ ys))
 
-      end-fits : Follows (d .image .txs) (d .image .csn) (d .after ++ (l .tail ++ (g ∷ []))) (xs ++ ys) → EveryPrefix (Roomy o d) (d .after ++ (l .tail ++ (g ∷ [])))
+      end-fits : FollowsTo g → EveryPrefix (Roomy o d) (d .after ++ (l .tail ++ (g ∷ [])))
       end-fits w =
           let now : Roomy o d (d .after ++ (l .tail ++ (g ∷ []))) =
           roomy-now o d (d .after ++ (l .tail ++ (g ∷ []))) (xs ++ ys) (s .imageDistinct) w
@@ -127,8 +131,8 @@ module _ (o : Opening) (d : Disk) (l : Live) (k : Ledger) (r : Tx) (listed : Lis
 
   -- Abort.
 
-  abbrev aborting : Group
-  aborting = aborted (r .id)
+  abbrev abortGroup : Group
+  abortGroup = aborted (r .id)
 
   abort-runnings : running (afterAbort r l .txs) ≡ xs ++ ys
   abort-runnings = ap running (found .removed) ∙ running-append (found .before) (found .after)
@@ -136,17 +140,17 @@ module _ (o : Opening) (d : Disk) (l : Live) (k : Ledger) (r : Tx) (listed : Lis
   abort-committings : committing (afterAbort r l .txs) ≡ committing (l .txs)
   abort-committings = ap committing (found .removed) ∙ (committing-append (found .before) (found .after) ∙ sym committings)
 
-  abort-follows : Follows (d .image .txs) (d .image .csn) (d .after ++ (l .tail ++ (aborting ∷ []))) (xs ++ ys)
-  abort-follows = end-follows aborting refl (omega arith)
+  abort-follows : FollowsTo abortGroup
+  abort-follows = end-follows abortGroup refl (omega arith)
 
-  abort-commits : commits (l .tail ++ (aborting ∷ [])) ≡ commits (l .tail)
-  abort-commits = commits-append (l .tail) (aborting ∷ []) ∙ append-nil (commits (l .tail))
+  abort-commits : commits (l .tail ++ (abortGroup ∷ [])) ≡ commits (l .tail)
+  abort-commits = commits-append (l .tail) (abortGroup ∷ []) ∙ append-nil (commits (l .tail))
 
   abort-standing : Standing d (afterAbort r l) (u .late)
   abort-standing = record {
     imageDistinct = s .imageDistinct;
     imageIds = s .imageIds;
-    groupIds = end-ids aborting refl;
+    groupIds = end-ids abortGroup refl;
     liveDistinct = rw (found .removed) (distinct-less (found .before) r (found .after) whole-distinct);
     liveIds = rw (found .removed) (all-less (found .before) r (found .after) (rw (found .whole) at (s .liveIds)));
     follows = rw abort-runnings abort-follows;
@@ -154,12 +158,12 @@ module _ (o : Opening) (d : Disk) (l : Live) (k : Ledger) (r : Tx) (listed : Lis
     fit = record {
       sorted = rw abort-committings (s .fit .sorted);
       tied = tied-one-abort (r .id) (s .fit .tied);
-      once = end-once aborting refl;
+      once = end-once abortGroup refl;
       foreign = rw (found .removed)
-          (all-append (all-map (foreign-map (λ i h. all-less (found .before) r (found .after) h)) (rw (found .whole) at (s .fit .foreign))) (cons {x = aborting} unlisted nil));
-      free = rw abort-runnings (end-free aborting refl);
+          (all-append (all-map (foreign-map (λ i h. all-less (found .before) r (found .after) h)) (rw (found .whole) at (s .fit .foreign))) (cons {x = abortGroup} unlisted nil));
+      free = rw abort-runnings (end-free abortGroup refl);
     };
-    csns = rw (abort-committings, lastCsn-append (l .csn) (l .tail) (aborting ∷ [])) (s .csns);
+    csns = rw (abort-committings, lastCsn-append (l .csn) (l .tail) (abortGroup ∷ [])) (s .csns);
   }
 
   pub abort-keeps : Up o d (afterAbort r l) (enterRolledBack (r .id) k)
@@ -172,21 +176,21 @@ module _ (o : Opening) (d : Disk) (l : Live) (k : Ledger) (r : Tx) (listed : Lis
         let b : AtByte o d l (u .late) a = u .bytes a h in
         let x : ℕ = replay (layByte a) (d .after ++ l .tail) (baseAt o (d .before) a) in
         record {
-          image = end-image aborting refl a b
+          image = end-image abortGroup refl a b
               (growth-abort a (baseAt o (d .before) a) (getD (d .image .memory) a 0) (d .image .txs) (d .image .csn) (d .after ++ l .tail) (getD (l .memory) a 0) xs r ys (image-recovers a b) follows-before apart (s .imageDistinct) (live-before a b));
           undoes = undoes-one-abort (r .id) (b .undoes);
-          live = rw (← regroup aborting refl, replay-append (layByte a) (d .after ++ l .tail) (aborting ∷ []) (baseAt o (d .before) a), abort-runnings, undo-byte (o .size) (l .memory) (u .liveLength) a h (r .undo))
+          live = rw (← regroup abortGroup refl, replay-append (layByte a) (d .after ++ l .tail) (abortGroup ∷ []) (baseAt o (d .before) a), abort-runnings, undo-byte (o .size) (l .memory) (u .liveLength) a h (r .undo))
               (abort-byte a x (getD (l .memory) a 0) xs r ys (live-before a b));
         };
     room = record {
-      fits = end-fits aborting refl (omega arith) abort-follows;
-      used = rw abort-runnings (end-used aborting refl (omega arith));
+      fits = end-fits abortGroup refl (omega arith) abort-follows;
+      used = rw abort-runnings (end-used abortGroup refl (omega arith));
     };
     numbers = u .numbers;
     ledger = record {
       durable = u .ledger .durable;
       assigned = rw abort-commits (u .ledger .assigned);
-      queue = ap (λ (es : List Entry). es ++ (entryOf aborting ∷ [])) (u .ledger .queue) ∙ sym (map-append entryOf (l .tail) (aborting ∷ []));
+      queue = ap (λ (es : List Entry). es ++ (entryOf abortGroup ∷ [])) (u .ledger .queue) ∙ sym (map-append entryOf (l .tail) (abortGroup ∷ []));
       active = rw abort-runnings actives-less;
       settled = u .ledger .settled;
       latests = rw (abort-committings, abort-commits) (u .ledger .latests);
@@ -195,87 +199,87 @@ module _ (o : Opening) (d : Disk) (l : Live) (k : Ledger) (r : Tx) (listed : Lis
 
   -- Precommit.
 
-  abbrev n : ℕ
-  n = suc (lastCsn (l .csn) (l .tail))
+  abbrev newCsn : ℕ
+  newCsn = suc (lastCsn (l .csn) (l .tail))
 
-  abbrev c : Tx
-  c = inCommit (suc (lastCsn (l .csn) (l .tail))) r
+  abbrev r′ : Tx
+  r′ = inCommit (suc (lastCsn (l .csn) (l .tail))) r
 
-  abbrev committing-group : Group
-  committing-group = committed (r .id) (suc (lastCsn (l .csn) (l .tail))) (r .redo)
+  abbrev commitGroup : Group
+  commitGroup = committed (r .id) (suc (lastCsn (l .csn) (l .tail))) (r .redo)
 
   abbrev entry : Commit
   entry = record { id = r .id; csn = suc (lastCsn (l .csn) (l .tail)); writes = r .redo }
 
-  txs′ : afterPrecommit r l .txs ≡ found .before ++ c ∷ found .after
-  txs′ = found .edited (inCommit n)
+  txs′ : afterPrecommit r l .txs ≡ found .before ++ r′ ∷ found .after
+  txs′ = found .edited (inCommit newCsn)
 
   precommit-runnings : running (afterPrecommit r l .txs) ≡ xs ++ ys
-  precommit-runnings = ap running txs′ ∙ running-out (found .before) c (found .after) refl
+  precommit-runnings = ap running txs′ ∙ running-out (found .before) r′ (found .after) refl
 
-  precommit-committings : committing (afterPrecommit r l .txs) ≡ committing (found .before) ++ c ∷ committing (found .after)
-  precommit-committings = ap committing txs′ ∙ committing-in (found .before) c (found .after) refl
+  precommit-committings : committing (afterPrecommit r l .txs) ≡ committing (found .before) ++ r′ ∷ committing (found .after)
+  precommit-committings = ap committing txs′ ∙ committing-in (found .before) r′ (found .after) refl
 
-  precommit-follows : Follows (d .image .txs) (d .image .csn) (d .after ++ (l .tail ++ (committing-group ∷ []))) (xs ++ ys)
-  precommit-follows = end-follows committing-group refl (omega (arith, assigned-now))
+  precommit-follows : FollowsTo commitGroup
+  precommit-follows = end-follows commitGroup refl (omega (arith, assigned-now))
 
   -- the new number is the highest
-  precommit-sorted : sortDesc (above (l .csn) (committing (afterPrecommit r l .txs))) ≡ reverse (u .late ++ (c ∷ []))
+  precommit-sorted : sortDesc (above (l .csn) (committing (afterPrecommit r l .txs))) ≡ reverse (u .late ++ (r′ ∷ []))
   precommit-sorted =
       let high : Tx → Bool = isAbove (l .csn) in
       let cs : List Tx = committing (found .before) in
       let ds : List Tx = committing (found .after) in
-      let low : All (λ t. t .csn < n) (above (l .csn) cs ++ above (l .csn) ds) =
-      subst (λ (ts : List Tx). All (λ t. t .csn < n) ts) (filter-append high cs ds) (all-filter high (all-map (λ t h. omega arith) (rw committings at (s .csns)))) in
+      let low : All (λ t. t .csn < newCsn) (above (l .csn) cs ++ above (l .csn) ds) =
+      subst (λ (ts : List Tx). All (λ t. t .csn < newCsn) ts) (filter-append high cs ds) (all-filter high (all-map (λ t h. omega arith) (rw committings at (s .csns)))) in
       let grown : l .csn ≤ lastAssigned l = tied-grows (s .fit .tied) in
       let old : above (l .csn) cs ++ above (l .csn) ds ≡ above (l .csn) (committing (l .txs)) =
       sym (filter-append high cs ds) ∙ ap (λ (ts : List Tx). above (l .csn) ts) (sym committings) in
       ap (λ (ts : List Tx). sortDesc (above (l .csn) ts)) precommit-committings
-      ∙ (ap sortDesc (filter-in high cs c ds (ltb-yes (l .csn) n (omega arith)))
-      ∙ (sort-top c (above (l .csn) cs) (above (l .csn) ds) low
-      ∙ (ap (λ (ts : List Tx). c ∷ ts) (ap sortDesc old ∙ s .fit .sorted) ∙ sym (reverse-append (u .late) (c ∷ [])))))
+      ∙ (ap sortDesc (filter-in high cs r′ ds (ltb-yes (l .csn) newCsn (omega arith)))
+      ∙ (sort-top r′ (above (l .csn) cs) (above (l .csn) ds) low
+      ∙ (ap (λ (ts : List Tx). r′ ∷ ts) (ap sortDesc old ∙ s .fit .sorted) ∙ sym (reverse-append (u .late) (r′ ∷ [])))))
 
-  precommit-standing : Standing d (afterPrecommit r l) (u .late ++ (c ∷ []))
+  precommit-standing : Standing d (afterPrecommit r l) (u .late ++ (r′ ∷ []))
   precommit-standing = record {
     imageDistinct = s .imageDistinct;
     imageIds = s .imageIds;
-    groupIds = end-ids committing-group refl;
-    liveDistinct = rw txs′ (distinct-edit (found .before) r c (found .after) refl whole-distinct);
-    liveIds = rw txs′ (all-edit (found .before) r c (found .after) (λ h. h) (rw (found .whole) at (s .liveIds)));
+    groupIds = end-ids commitGroup refl;
+    liveDistinct = rw txs′ (distinct-edit (found .before) r r′ (found .after) refl whole-distinct);
+    liveIds = rw txs′ (all-edit (found .before) r r′ (found .after) (λ h. h) (rw (found .whole) at (s .liveIds)));
     follows = rw precommit-runnings precommit-follows;
     onDisk = s .onDisk;
     fit = record {
       sorted = precommit-sorted;
-      tied = tied-one-commit (r .id) n (r .redo) c (s .fit .tied) refl refl refl;
-      once = end-once committing-group refl;
+      tied = tied-one-commit (r .id) newCsn (r .redo) r′ (s .fit .tied) refl refl refl;
+      once = end-once commitGroup refl;
       foreign = rw txs′
-          (all-append (all-map (foreign-map (λ i h. all-edit (found .before) r c (found .after) (λ m. m) h)) (rw (found .whole) at (s .fit .foreign))) (cons {x = committing-group} tt nil));
-      free = rw precommit-runnings (end-free committing-group refl);
+          (all-append (all-map (foreign-map (λ i h. all-edit (found .before) r r′ (found .after) (λ m. m) h)) (rw (found .whole) at (s .fit .foreign))) (cons {x = commitGroup} tt nil));
+      free = rw precommit-runnings (end-free commitGroup refl);
     };
-    csns = rw (precommit-committings, lastCsn-append (l .csn) (l .tail) (committing-group ∷ []))
-        (all-more (committing (found .before)) c (committing (found .after)) (omega arith) (all-map (λ t h. omega arith) (rw committings at (s .csns))));
+    csns = rw (precommit-committings, lastCsn-append (l .csn) (l .tail) (commitGroup ∷ []))
+        (all-more (committing (found .before)) r′ (committing (found .after)) (omega arith) (all-map (λ t h. omega arith) (rw committings at (s .csns))));
   }
 
-  precommit-entry : record { id = r .id; csn = n; writes = writesOf (r .id) (k .active) } ≡ entry
-  precommit-entry = ap (λ (ws : List Write). record { id = r .id; csn = n; writes = ws }) (ap (λ (ss : List OpenTx). writesOf (r .id) ss) actives ∙ writes-one r xs ys apart)
+  precommit-entry : record { id = r .id; csn = newCsn; writes = writesOf (r .id) (k .active) } ≡ entry
+  precommit-entry = ap (λ (ws : List Write). record { id = r .id; csn = newCsn; writes = ws }) (ap (λ (ss : List OpenTx). writesOf (r .id) ss) actives ∙ writes-one r xs ys apart)
 
-  -- all commits assigned so far, and the new one
-  abbrev all : List Commit
-  all = commits (d .before ++ d .after) ++ commits (l .tail)
+  -- soFar commits assigned so far, and the new one
+  abbrev soFar : List Commit
+  soFar = commits (d .before ++ d .after) ++ commits (l .tail)
 
-  precommit-commits : commits (d .before ++ d .after) ++ commits (l .tail ++ (committing-group ∷ [])) ≡ all ++ (entry ∷ [])
+  precommit-commits : commits (d .before ++ d .after) ++ commits (l .tail ++ (commitGroup ∷ [])) ≡ soFar ++ (entry ∷ [])
   precommit-commits =
-      ap (λ (cs : List Commit). commits (d .before ++ d .after) ++ cs) (commits-append (l .tail) (committing-group ∷ []))
+      ap (λ (cs : List Commit). commits (d .before ++ d .after) ++ cs) (commits-append (l .tail) (commitGroup ∷ []))
       ∙ sym (append-assoc (commits (d .before ++ d .after)) (commits (l .tail)) (entry ∷ []))
 
-  precommit-latests : All (HasLatest (all ++ (entry ∷ []))) (committing (found .before) ++ c ∷ committing (found .after))
+  precommit-latests : All (HasLatest (soFar ++ (entry ∷ []))) (committing (found .before) ++ r′ ∷ committing (found .after))
   precommit-latests =
-      all-more (committing (found .before)) c (committing (found .after)) (entry, latest-own all entry, refl)
-      (all-map (λ t p. (p .1 .0, latest-other (t .id) all entry (λ e. p .0 (sym e)) ∙ p .1 .1, p .1 .2)) (all-zip committings-apart (rw committings at (u .ledger .latests))))
+      all-more (committing (found .before)) r′ (committing (found .after)) (entry, latest-own soFar entry, refl)
+      (all-map (λ t p. (p .1 .0, latest-other (t .id) soFar entry (λ e. p .0 (sym e)) ∙ p .1 .1, p .1 .2)) (all-zip committings-apart (rw committings at (u .ledger .latests))))
 
   pub precommit-keeps : Up o d (afterPrecommit r l) (enterPrecommitted (r .id) (suc (lastAssigned l)) k)
   precommit-keeps = record {
-    late = u .late ++ (c ∷ []);
+    late = u .late ++ (r′ ∷ []);
     standing = precommit-standing;
     imageLength = u .imageLength;
     liveLength = u .liveLength;
@@ -286,22 +290,22 @@ module _ (o : Opening) (d : Disk) (l : Live) (k : Ledger) (r : Tx) (listed : Lis
         let after : RunningAt a (act (newest a (r .redo)) x) (getD (l .memory) a 0) (xs ++ ys) × Restores x (oldest a (r .undo)) (newest a (r .redo)) =
         precommit-byte a x (getD (l .memory) a 0) xs r ys (live-before a b) in
         record {
-          image = end-image committing-group refl a b
-              (growth-commit a base (getD (d .image .memory) a 0) (d .image .txs) (d .image .csn) (d .after ++ l .tail) (getD (l .memory) a 0) xs r ys (image-recovers a b) follows-before apart (s .imageDistinct) (live-before a b) n
+          image = end-image commitGroup refl a b
+              (growth-commit a base (getD (d .image .memory) a 0) (d .image .txs) (d .image .csn) (d .after ++ l .tail) (getD (l .memory) a 0) xs r ys (image-recovers a b) follows-before apart (s .imageDistinct) (live-before a b) newCsn
               (omega (arith, assigned-now)));
-          undoes = undoes-one-commit (r .id) n (r .redo) c (b .undoes)
+          undoes = undoes-one-commit (r .id) newCsn (r .redo) r′ (b .undoes)
               (subst (λ (v : ℕ). Restores v (oldest a (r .undo)) (newest a (r .redo))) (replay-append (layByte a) (d .after) (l .tail) base) (after .1));
-          live = rw (← regroup committing-group refl, replay-append (layByte a) (d .after ++ l .tail) (committing-group ∷ []) base, redo-newest a (r .redo) x, precommit-runnings) (after .0);
+          live = rw (← regroup commitGroup refl, replay-append (layByte a) (d .after ++ l .tail) (commitGroup ∷ []) base, redo-newest a (r .redo) x, precommit-runnings) (after .0);
         };
     room = record {
-      fits = end-fits committing-group refl (omega arith) precommit-follows;
-      used = rw precommit-runnings (end-used committing-group refl (omega arith));
+      fits = end-fits commitGroup refl (omega arith) precommit-follows;
+      used = rw precommit-runnings (end-used commitGroup refl (omega arith));
     };
     numbers = u .numbers;
     ledger = record {
       durable = u .ledger .durable;
       assigned = rw (precommit-entry, precommit-commits) (ap (λ (cs : List Commit). cs ++ (entry ∷ [])) (u .ledger .assigned));
-      queue = rw precommit-entry (ap (λ (es : List Entry). es ++ (entryOf committing-group ∷ [])) (u .ledger .queue) ∙ sym (map-append entryOf (l .tail) (committing-group ∷ [])));
+      queue = rw precommit-entry (ap (λ (es : List Entry). es ++ (entryOf commitGroup ∷ [])) (u .ledger .queue) ∙ sym (map-append entryOf (l .tail) (commitGroup ∷ [])));
       active = rw precommit-runnings actives-less;
       settled = u .ledger .settled;
       latests = rw (precommit-committings, precommit-commits) precommit-latests;

@@ -46,8 +46,11 @@ linked-split {t} (x ∷ xs) r ys (there l) = further (linked-split xs r ys l)
 
 -- The image's transactions, followed through the groups after it to the live running ones rs.
 pub record Follows (itxs : List Tx) (d : ℕ) (G : List Group) (rs : List Tx) : Type 0 where
+  -- a committing one of the image is finished, or its commit is in the log
   pub committings : All (λ c. (has (c .id) (finished G []) ≡ true) ⊎ (c .csn ≤ lastCsn d G)) (committing itxs)
+  -- a running one that is not finished is still running
   pub runnings : All (λ t. Linked t rs) (unfinished (finished G []) (running itxs))
+  -- a live running one is not finished, and none of the image's committing ones
   pub lives : All (λ r. (has (r .id) (finished G []) ≡ false) × All (λ c. c .id ≢ r .id) (committing itxs)) rs
 
 -- step 4 has the running ones to undo, and no more

@@ -25,12 +25,15 @@ use Rattle.recovery.proofs.Ledger.{Agrees}
 
 -- Without bytes: ids, commit numbers, the image's transactions and the tail. `late` are the committing ones whose groups are in the tail.
 pub record Standing (d : Disk) (l : Live) (late : List Tx) : Type 0 where
+  -- ids are distinct, and at most the last given, in image, groups and list
   pub imageDistinct : DistinctIds (d .image .txs)
   pub imageIds : All (λ t. t .id ≤ l .lastId) (d .image .txs)
   pub groupIds : All (λ g. groupId g ≤ l .lastId) (d .after ++ l .tail)
   pub liveDistinct : DistinctIds (l .txs)
   pub liveIds : All (λ t. t .id ≤ l .lastId) (l .txs)
+  -- the image's transactions are finished, on disk or still running
   pub follows : Follows (d .image .txs) (d .image .csn) (d .after ++ l .tail) (running (l .txs))
+  -- the number on disk is the log's last; the tail fits the list; no number is above the last assigned
   pub onDisk : l .csn ≡ lastCsn (d .image .csn) (d .after)
   pub fit : Fit (l .txs) (l .csn) (l .tail) late
   pub csns : All (λ c. c .csn ≤ lastAssigned l) (committing (l .txs))

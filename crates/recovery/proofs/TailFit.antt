@@ -102,8 +102,10 @@ Ungrouped T t = All (λ g. groupId g ≢ t .id) T
 
 -- The listed transactions and the tail T, with d the number on disk: cs are the committing ones whose commits are in T.
 pub record Fit (txs : List Tx) (d : ℕ) (T : List Group) (cs : List Tx) : Type 0 where
+  -- cs are all whose numbers are above d, by number
   pub sorted : sortDesc (above d (committing txs)) ≡ reverse cs
   pub tied : Tied d T cs
+  -- each id has one group at most; an aborted one is not listed, a running one has none
   pub once : Distinct groupId T
   pub foreign : All (Foreign txs) T
   pub free : All (Ungrouped T) (running txs)
