@@ -3,15 +3,15 @@ use mathlib.Core.Path.{_≡_, refl, sym, _∙_, subst}
 use mathlib.Core.Logic.{inr}
 use mathlib.Core.List.{List, [], _∷_, _++_, append-nil}
 use Prim.Native.Nat.{ℕ}
-use lib.ListN.{getD, take, drop, take-append-drop}
+use lib.ListN.{length-map, getD, take, drop, take-append-drop}
 use Rattle.recovery.specs.Group.{Group}
 use Rattle.recovery.specs.Lists.{All, nil, cons}
 use Rattle.recovery.specs.Transaction.{Tx, running}
 use Rattle.recovery.specs.Replay.{replay}
-use Rattle.recovery.specs.Restart.{finished}
+use Rattle.recovery.specs.Restart.{finished, undone}
 use Rattle.recovery.specs.Ledger.{Ledger}
-use Rattle.recovery.specs.Machine.{Opening, Disk, Live, afterCheckpoint}
-use Rattle.recovery.proofs.Lists.{all-map, all-zip, all-right, all-filter}
+use Rattle.recovery.specs.Machine.{Opening, Disk, Live, withoutRedo, afterCheckpoint}
+use Rattle.recovery.proofs.Lists.{all-mapped, all-map, all-zip, all-right, all-filter}
 use Rattle.recovery.proofs.Transactions.{running-committing, isUnfinished}
 use Rattle.recovery.proofs.Groups.{replay-append}
 use Rattle.recovery.proofs.Finished.{unmarked}
@@ -23,11 +23,12 @@ use Rattle.recovery.proofs.Follows.{Linked, here, there}
 use Rattle.recovery.proofs.Numbers.{last-on-disk}
 use Rattle.recovery.proofs.Room.{roomy-image}
 use Rattle.recovery.proofs.Invariant.{Standing, AtByte, Up, baseAt}
+use Rattle.recovery.proofs.NoRedo.{erased-distinct, erased-running, erased-committing, erased-unfinished, erased-undone, erased-recover}
 
 -- each running transaction of the new image is itself
-linked-self : (rs : List Tx) → All (λ t. Linked t rs) rs
+linked-self : (rs : List Tx) → All (λ t. Linked (withoutRedo t) rs) rs
 linked-self [] = nil
-linked-self (r ∷ rs) = cons (here refl (λ a e. e)) (all-map (λ t l. there l) (linked-self rs))
+linked-self (r ∷ rs) = cons {x = r} (here refl (λ a e. e)) (all-map (λ t l. there l) (linked-self rs))
 
 module _ (o : Opening) (d : Disk) (l : Live) (k : Ledger) (u : Up o d l k) where
   abbrev s : Standing d l (u .late)
@@ -38,15 +39,17 @@ module _ (o : Opening) (d : Disk) (l : Live) (k : Ledger) (u : Up o d l k) where
 
   checkpoint-standing : Standing (afterCheckpoint d l) l (u .late)
   checkpoint-standing = record {
-    imageDistinct = s .liveDistinct;
-    imageIds = s .liveIds;
+    imageDistinct = erased-distinct (s .liveDistinct);
+    imageIds = all-mapped withoutRedo (s .liveIds);
     groupIds = all-right (d .after) (s .groupIds);
     liveDistinct = s .liveDistinct;
     liveIds = s .liveIds;
     follows = record {
-      committings = all-map (λ c h. inr h) (s .csns);
-      runnings = all-filter (isUnfinished (finished (l .tail) [])) (linked-self (running (l .txs)));
-      lives = all-zip (all-map (λ t h. unmarked [] h refl) (s .fit .free)) (running-committing (s .liveDistinct));
+      committings = rw (erased-committing (l .txs)) (all-mapped withoutRedo (all-map (λ c h. inr h) (s .csns)));
+      runnings = rw (erased-running (l .txs), erased-unfinished (finished (l .tail) []) (running (l .txs)))
+          (all-mapped withoutRedo (all-filter (isUnfinished (finished (l .tail) [])) (linked-self (running (l .txs)))));
+      lives = rw (erased-committing (l .txs))
+          (all-zip (all-map (λ t h. unmarked [] h refl) (s .fit .free)) (all-map (λ t h. all-mapped withoutRedo h) (running-committing (s .liveDistinct))));
     };
     onDisk = refl;
     fit = s .fit;
@@ -66,7 +69,8 @@ module _ (o : Opening) (d : Disk) (l : Live) (k : Ledger) (u : Up o d l k) where
       record {
         image = λ q.
             let e : l .tail ≡ take q (l .tail) ++ drop q (l .tail) = sym (take-append-drop q (l .tail)) in
-            checkpoint-law a base (getD (l .memory) a 0) (l .txs) (l .csn) (take q (l .tail)) (drop q (l .tail)) (u .late)
+            erased-recover (layByte a) (l .txs) (l .csn) (take q (l .tail)) (getD (l .memory) a 0)
+            ∙ checkpoint-law a base (getD (l .memory) a 0) (l .txs) (l .csn) (take q (l .tail)) (drop q (l .tail)) (u .late)
             (subst (λ (gs : List Group). Fit (l .txs) (l .csn) gs (u .late)) e (s .fit)) (subst (λ (gs : List Group). Undoes a base gs (u .late)) e undoes)
             (subst (λ (gs : List Group). RunningAt a (replay (layByte a) gs base) (getD (l .memory) a 0) (running (l .txs))) e live);
         undoes = undoes;
@@ -83,7 +87,8 @@ module _ (o : Opening) (d : Disk) (l : Live) (k : Ledger) (u : Up o d l k) where
     room = record {
       fits = λ q.
           let e : l .tail ≡ take q (l .tail) ++ drop q (l .tail) = sym (take-append-drop q (l .tail)) in
-          roomy-image o l log (take q (l .tail)) (drop q (l .tail)) (u .late) (subst (λ (gs : List Group). Fit (l .txs) (l .csn) gs (u .late)) e (s .fit)) (rw (← e) (u .room .used));
+          rw (erased-undone (l .txs) (l .csn) (take q (l .tail)), length-map (undone (l .txs) (l .csn) (take q (l .tail))) withoutRedo)
+          (roomy-image o l log (take q (l .tail)) (drop q (l .tail)) (u .late) (subst (λ (gs : List Group). Fit (l .txs) (l .csn) gs (u .late)) e (s .fit)) (rw (← e) (u .room .used)));
       used = rw append-nil (u .room .used);
     };
     numbers = record { log = rw append-nil (u .numbers .log); image = s .onDisk ∙ sym (last-on-disk o d (u .numbers)) };

@@ -7,7 +7,7 @@ use native.Mathlib.Omega.{arith}
 use lib.Dec.{leb}
 use lib.ListN.{length, drop}
 use Rattle.recovery.specs.Group.{Write, Group, committed, aborted, redoSize, groupSize, groupsSize, csnAfter, lastCsn, fitting}
-use Rattle.recovery.specs.Lists.{All, nil, cons, has}
+use Rattle.recovery.specs.Lists.{has}
 use Rattle.recovery.specs.Transaction.{Tx, reserved}
 use Rattle.recovery.specs.Replay.{redoAll, undoAll, undoEach, replay}
 use Rattle.recovery.specs.Restart.{finished, undoOf, aborts, forward}
@@ -77,7 +77,3 @@ lastCsn-aborts n (u ∷ us) = lastCsn-aborts n us
 pub replay-aborts : {M : Type 0} (lay : Write → M → M) (us : List Tx) (m : M) → replay lay (aborts us) m ≡ m
 replay-aborts lay [] m = refl
 replay-aborts lay (u ∷ us) m = replay-aborts lay us m
-
-pub all-aborts : {p : Group → Type 0} {us : List Tx} → All (λ u. p (aborted (u .id))) us → All p (aborts us)
-all-aborts nil = nil
-all-aborts (cons h hs) = cons h (all-aborts hs)

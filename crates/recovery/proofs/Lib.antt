@@ -20,6 +20,7 @@ pub mod Numbers
 pub mod Room
 pub mod Ledger
 pub mod Invariant
+pub mod NoRedo
 pub mod BeginStep
 pub mod WriteStep
 pub mod EndSteps

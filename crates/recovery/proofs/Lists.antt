@@ -146,6 +146,20 @@ module _ {A : Type 0} where
       each zero = subst p (sym (append-nil xs)) (prefix-whole p xs h)
       each (suc q) = subst (λ (l : List A). p (xs ++ (y ∷ l))) (sym (take-nil q)) k
 
+-- map
+
+pub all-mapped : {A B : Type 0} {p : B → Type 0} (f : A → B) {xs : List A} → All (λ x. p (f x)) xs → All p (map f xs)
+all-mapped f nil = nil
+all-mapped f (cons h hs) = cons h (all-mapped f hs)
+
+pub filter-map : {A : Type 0} (p : A → Bool) (f : A → A) → ((x : A) → p (f x) ≡ p x) → (xs : List A) → filter p (map f xs) ≡ map f (filter p xs)
+filter-map p f e [] = refl
+filter-map {A = A} p f e (x ∷ xs) = rw (e x) (go (p x) (filter-map p f e xs))
+  where
+    go : (b : Bool) → filter p (map f xs) ≡ map f (filter p xs) → cond b (f x ∷ filter p (map f xs)) (filter p (map f xs)) ≡ map f (cond b (x ∷ filter p xs) (filter p xs))
+    go true ih = ap (λ (l : List A). f x ∷ l) ih
+    go false ih = ih
+
 pub take-map : {A B : Type 0} (f : A → B) (q : ℕ) (xs : List A) → take q (map f xs) ≡ map f (take q xs)
 take-map f zero xs = refl
 take-map f (suc q) [] = refl

@@ -13,10 +13,10 @@ use Rattle.recovery.specs.Restart.{groupId, finished, unfinished, undone
 use Rattle.recovery.specs.Ledger.{Commit, Ledger, enterRestarted}
 use Rattle.recovery.specs.Machine.{Opening, Disk, Live, undoneBy, afterRestart}
 use Rattle.recovery.specs.Claim.{commits}
-use Rattle.recovery.proofs.Lists.{all-map, all-append, all-filter, filter-none, EveryPrefix, prefix-whole, prefix-append, take-map}
+use Rattle.recovery.proofs.Lists.{all-mapped, all-map, all-append, all-filter, filter-none, EveryPrefix, prefix-whole, prefix-append, take-map}
 use Rattle.recovery.proofs.Distinct.{Distinct, empty, more, distinct-filter}
 use Rattle.recovery.proofs.Transactions.{DistinctIds, isUnfinished}
-use Rattle.recovery.proofs.Groups.{groupsSize-append, groupsSize-aborts, lastCsn-append, lastCsn-aborts, replay-append, replay-aborts, all-aborts}
+use Rattle.recovery.proofs.Groups.{groupsSize-append, groupsSize-aborts, lastCsn-append, lastCsn-aborts, replay-append, replay-aborts}
 use Rattle.recovery.proofs.AbortLaw.{order-all, order-distinct, undone-after, abort-law, running-finished, committing-finished}
 use Rattle.recovery.proofs.Byte.{layByte, recover-byte, recover-length}
 use Rattle.recovery.proofs.LiveByte.{nobody}
@@ -28,6 +28,9 @@ use Rattle.recovery.proofs.Invariant.{Standing, AtByte, Up, Down, Image
 
 -- a tail of aborts
 
+abbrev abortOf : Tx → Group
+abortOf t = aborted (t .id)
+
 tied-aborts : (n : ℕ) (us : List Tx) → Tied n (aborts us) []
 tied-aborts n [] = tied-nil
 tied-aborts n (u ∷ us) = tied-abort (tied-aborts n us)
@@ -38,7 +41,7 @@ undoes-aborts a x (u ∷ us) = undoes-abort (undoes-aborts a x us)
 
 distinct-aborts : {us : List Tx} → DistinctIds us → Distinct groupId (aborts us)
 distinct-aborts empty = empty
-distinct-aborts (more h d) = more (all-aborts h) (distinct-aborts d)
+distinct-aborts (more h d) = more (all-mapped abortOf h) (distinct-aborts d)
 
 module _ (o : Opening) (d : Disk) (k : Ledger) (lastId : ℕ) (image-ids : All (λ t. t .id ≤ lastId) (d .image .txs)) (group-ids : All (λ g. groupId g ≤ lastId) (d .after)) (w : Down o d k) where
   abbrev txs : List Tx
@@ -55,7 +58,7 @@ module _ (o : Opening) (d : Disk) (k : Ledger) (lastId : ℕ) (image-ids : All (
 
   -- the first q of its abort records
   first-aborts : (q : ℕ) → take q (aborts us) ≡ aborts (take q us)
-  first-aborts q = take-map (λ (t : Tx). aborted (t .id)) q us
+  first-aborts q = take-map abortOf q us
 
   split : (q : ℕ) → undone txs csn (d .after) ≡ take q us ++ drop q us
   split q = sym (take-append-drop q us)
@@ -70,7 +73,7 @@ module _ (o : Opening) (d : Disk) (k : Ledger) (lastId : ℕ) (image-ids : All (
       record {
         imageDistinct = w .imageDistinct;
         imageIds = image-ids;
-        groupIds = all-append group-ids (all-aborts undone-ids);
+        groupIds = all-append group-ids (all-mapped abortOf undone-ids);
         liveDistinct = empty;
         liveIds = nil;
         follows = record {
@@ -83,7 +86,7 @@ module _ (o : Opening) (d : Disk) (k : Ledger) (lastId : ℕ) (image-ids : All (
           sorted = refl;
           tied = tied-aborts (lastCsn csn (d .after)) us;
           once = distinct-aborts undone-distinct;
-          foreign = all-aborts (all-map (λ t h. nil) undone-ids);
+          foreign = all-mapped abortOf (all-map (λ t h. nil) undone-ids);
           free = nil;
         };
         csns = nil;

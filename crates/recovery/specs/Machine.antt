@@ -2,7 +2,7 @@
 use Prim.Native.Nat.{ℕ, suc, _+_, _≤_, _<_}
 use mathlib.Core.Path.{_≡_}
 use mathlib.Core.Bool.{true, false}
-use mathlib.Core.List.{List, [], _∷_, _++_}
+use mathlib.Core.List.{List, [], _∷_, _++_, map}
 use mathlib.Core.Option.{some}
 use lib.ListN.{length, take, drop, replicate, length-replicate}
 use Rattle.recovery.specs.Group.{Write, Group, committed, aborted, groupsSize, lastCsn, fitting}
@@ -115,9 +115,12 @@ afterFlush k l = record { txs = l .txs; memory = l .memory; tail = drop k (l .ta
 abbrev pub afterSettle : Tx → Live → Live
 afterSettle r l = record { txs = remove (r .id) (l .txs); memory = l .memory; tail = l .tail; csn = l .csn; lastId = l .lastId }
 
--- Checkpoint: the image is the live state, and the whole log stands before it.
+-- Checkpoint: the image is the live state, without redo records, and the whole log stands before it.
+abbrev pub withoutRedo : Tx → Tx
+withoutRedo t = record { id = t .id; committing = t .committing; csn = t .csn; undo = t .undo; redo = [] }
+
 abbrev pub afterCheckpoint : Disk → Live → Disk
-afterCheckpoint d l = record { image = record { txs = l .txs; memory = l .memory; csn = l .csn }; before = d .before ++ d .after; after = [] }
+afterCheckpoint d l = record { image = record { txs = map withoutRedo (l .txs); memory = l .memory; csn = l .csn }; before = d .before ++ d .after; after = [] }
 
 -- Restart: what it undoes, the memory it leaves, and the live state, up to the last id.
 abbrev pub undoneBy : Disk → List Tx
