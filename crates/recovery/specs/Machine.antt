@@ -94,7 +94,7 @@ inCommit n t = record { id = t .id; committing = true; csn = n; undo = t .undo; 
 
 abbrev pub afterPrecommit : Tx → Live → Live
 afterPrecommit r l =
-    let n : ℕ = suc (lastCsn (l .csn) (l .tail)) in
+    let n : ℕ = suc (lastAssigned l) in
     record { txs = edit (r .id) (inCommit n) (l .txs); memory = l .memory; tail = l .tail ++ (committed (r .id) n (r .redo) ∷ []); csn = l .csn; lastId = l .lastId }
 
 -- Abort of r: undoes newest first, appends the abort record, drops the transaction.
@@ -133,14 +133,17 @@ abbrev pub afterRestart : Disk → ℕ → Live
 afterRestart d lastId = record { txs = []; memory = recovered d; tail = aborts (undoneBy d); csn = lastCsn (d .image .csn) (d .after); lastId = lastId }
 
 -- One call: the system before, what the ledger is told, the system after. A premise is what keeps the call from being refused, so
--- far as recovery depends on it.
+-- far as recovery depends on it, with its number in document 01.
 module _ (o : Opening) where
   pub data Step : System → Event → System → Type 0 where
     -- a refused call, a read or its sister
     stays : (s : System) → Step s unchanged s
+    -- number 13
     begins : (d : Disk) (l : Live) → roomUsed d l + 8 ≤ o .capacity → Step (up d l) (begun (suc (l .lastId))) (up d (afterBegin l))
+    -- numbers 6, 7, 8, 9 and 13
     writes : (d : Disk) (l : Live) (r : Tx) (w : Write) → Listed r (l .txs) → r .committing ≡ false → w .addr + length (w .bytes) ≤ o .size
         → heldByOther (r .id) w (l .txs) ≡ false → roomUsed d l + (7 + length (w .bytes)) ≤ o .capacity → Step (up d l) (wrote (r .id) w) (up d (afterWrite r w l))
+    -- numbers 6 and 7
     precommits : (d : Disk) (l : Live) (r : Tx) → Listed r (l .txs) → r .committing ≡ false
         → Step (up d l) (precommitted (r .id) (suc (lastAssigned l))) (up d (afterPrecommit r l))
     rollsBack : (d : Disk) (l : Live) (r : Tx) → Listed r (l .txs) → r .committing ≡ false → Step (up d l) (rolledBack (r .id)) (up d (afterAbort r l))
@@ -149,6 +152,7 @@ module _ (o : Opening) where
         → Step (up d l) (flushed k allowed) (up (storing (take k (l .tail)) d) (afterFlush k l))
     flushIsCut : (d : Disk) (l : Live) (k allowed : ℕ) → allowed < groupsSize (take k (l .tail))
         → Step (up d l) (cut (flushed k allowed)) (down (storing (fitting allowed (take k (l .tail))) d))
+    -- numbers 6 and 14
     settles : (d : Disk) (l : Live) (r : Tx) → Listed r (l .txs) → r .committing ≡ true → r .csn ≤ l .csn → Step (up d l) (settled (r .id)) (up d (afterSettle r l))
     -- until its last store, the pointer byte, a checkpoint leaves the old image in use
     checkpoints : (d : Disk) (l : Live) → Step (up d l) unchanged (up (afterCheckpoint d l) l)
