@@ -1,0 +1,15 @@
+//! Document 01 a second time, written from the document alone: the store,
+//! restart, disklist, equal in meaning, the ledger, a checker of demand 3, and
+//! a generator of streams for comparing two programs from the outside.
+
+pub mod calls;
+pub mod checker;
+pub mod flush;
+pub mod image;
+pub mod layout;
+pub mod ledger;
+pub mod log;
+pub mod restart;
+pub mod state;
+pub mod stores;
+pub mod trace;
