@@ -5,11 +5,15 @@
 pub mod calls;
 pub mod checker;
 pub mod flush;
+pub mod gen;
 pub mod image;
 pub mod layout;
 pub mod ledger;
 pub mod log;
+pub mod needs;
 pub mod restart;
+pub mod rng;
 pub mod state;
+pub mod stats;
 pub mod stores;
 pub mod trace;

@@ -1,0 +1,467 @@
+//! Damage: forged and broken pointer bytes, images and logs.
+
+use super::live::{PLAIN, WILD};
+use super::Generator;
+use crate::layout::{IMAGE_A, IMAGE_B, LOG, LOG_LEN, MEMORY_LEN, POINTER};
+use crate::log::{Csn, Group, Record, TxId, Write};
+use crate::trace::{Call, MAX_DATA};
+
+/// Where the transactions begin in an image.
+const HEADER_LEN: usize = 13;
+const TXS: usize = HEADER_LEN + MEMORY_LEN;
+
+/// Forged records lie below this address, so that they meet.
+const SPAN: usize = 24;
+
+/// An image field by field, rules or no rules.
+struct RawImage {
+    log_end: u16,
+    on_disk: u32,
+    assigned: u32,
+    last_id: u16,
+    count: u8,
+    txs: Vec<RawTx>,
+}
+
+struct RawTx {
+    id: u16,
+    status: u8,
+    csn: u32,
+    count: u8,
+    undos: Vec<RawUndo>,
+}
+
+struct RawUndo {
+    address: u16,
+    length: u8,
+    bytes: Vec<u8>,
+}
+
+impl RawImage {
+    fn header(&self) -> Vec<u8> {
+        let mut out = self.log_end.to_be_bytes().to_vec();
+        out.extend(self.on_disk.to_be_bytes());
+        out.extend(self.assigned.to_be_bytes());
+        out.extend(self.last_id.to_be_bytes());
+        out.push(self.count);
+        out
+    }
+
+    fn transactions(&self) -> Vec<u8> {
+        let mut out = Vec::new();
+        for tx in &self.txs {
+            out.extend(tx.id.to_be_bytes());
+            out.push(tx.status);
+            out.extend(tx.csn.to_be_bytes());
+            out.push(tx.count);
+            for undo in &tx.undos {
+                out.extend(undo.address.to_be_bytes());
+                out.push(undo.length);
+                out.extend(&undo.bytes);
+            }
+        }
+        out
+    }
+}
+
+impl Generator {
+    /// Forged disks by turns: an image with a log, a damaged live disk.
+    pub fn damage(&mut self) {
+        match self.rng.below(6) {
+            0..=2 => self.forged_disk(),
+            3 => self.damaged_live_disk(),
+            4 => self.damaged_pointer(),
+            _ => self.counters_at_their_end(),
+        }
+    }
+
+    /// Everything, in a fixed round; after the first part, each from an
+    /// emptied log.
+    pub fn mixed(&mut self) {
+        let parts: [(usize, fn(&mut Generator)); 11] = [
+            (150, Generator::plain),
+            (400, Generator::forged_disk),
+            (100, Generator::counters_at_their_end),
+            (100, Generator::damaged_pointer),
+            (300, Generator::near_full),
+            (200, Generator::limits),
+            (200, Generator::cuts),
+            (160, Generator::forged),
+            (260, Generator::aborts_near_full),
+            (190, Generator::largest_image),
+            (150, Generator::damage),
+        ];
+        for (budget, scene) in parts {
+            self.within(budget, scene);
+            self.empty_log();
+        }
+    }
+
+    /// Bytes to the disk, as many records as it takes.
+    fn put(&mut self, offset: usize, bytes: &[u8]) {
+        for (turn, part) in bytes.chunks(MAX_DATA).enumerate() {
+            self.emit(Call::Damage {
+                address: offset + turn * MAX_DATA,
+                bytes: part.to_vec(),
+            });
+        }
+    }
+
+    /// No image and nothing at the log's front, then a restart.
+    fn empty_log(&mut self) {
+        self.put(POINTER, &[0]);
+        self.put(LOG, &[0]);
+        self.recover(0);
+    }
+
+    /// A store whose log is all but full, by way of a forged image.
+    fn open_near_full(&mut self, left: usize) {
+        let image = RawImage {
+            log_end: (LOG_LEN - left) as u16,
+            on_disk: 7,
+            assigned: 7,
+            last_id: 9,
+            count: 0,
+            txs: Vec::new(),
+        };
+        self.put(IMAGE_A, &image.header());
+        self.put(LOG + LOG_LEN - left, &[0]);
+        self.put(POINTER, &[1]);
+        self.recover(10);
+    }
+
+    fn near_full(&mut self) {
+        let lefts = [0, 1, 7, 8, 9, 15, 16, 40, 48, 64, 71, 72, 136, 143, 200];
+        let left = self.rng.pick(&lefts);
+        self.open_near_full(left);
+        self.crowd();
+        self.within(25, Generator::edge_call);
+    }
+
+    fn aborts_near_full(&mut self) {
+        let left = self.rng.between(300, 420);
+        self.open_near_full(left);
+        self.abort_until_full(5, 4);
+        self.flush_in_parts();
+    }
+
+    /// Eight transactions of sixteen writes of 32 bytes in one image.
+    fn largest_image(&mut self) {
+        self.recover_if_needed();
+        self.eight_transactions(32);
+        self.checkpoint(20);
+        self.recover(30);
+    }
+
+    /// A forged image and log, restarts, and some calls on what comes of it.
+    fn forged_disk(&mut self) {
+        let mut image = self.forged_image();
+        let groups = self.forged_groups(&image);
+        let mut log: Vec<u8> = self.forged_log(&groups);
+        if self.rng.percent(35) {
+            self.break_image(&mut image);
+        }
+        if self.rng.percent(15) {
+            log.extend(self.rng.bytes(6));
+        }
+        let slot = self.rng.pick(&[(IMAGE_A, 1), (IMAGE_B, 2)]);
+        self.put(slot.0, &image.header());
+        let front = self.rng.bytes(SPAN);
+        self.put(slot.0 + HEADER_LEN, &front);
+        self.put(slot.0 + TXS, &image.transactions());
+        let log_end = (image.log_end as usize).min(LOG_LEN);
+        log.truncate(LOG_LEN - log_end);
+        self.put(LOG + log_end, &log);
+        self.put(POINTER, &[slot.1]);
+        self.recover(25);
+        for _ in 0..self.rng.below(8) {
+            self.live_call(&PLAIN);
+        }
+    }
+
+    /// An image that keeps the rules.
+    fn forged_image(&mut self) -> RawImage {
+        let count = self.rng.pick(&[0, 1, 2, 2, 3, 4, 8]);
+        let some = self.rng.below(LOG_LEN);
+        let back = 4 * count + self.rng.below(14);
+        let near_end = LOG_LEN - back.min(LOG_LEN);
+        let log_end = self.rng.pick(&[0, 0, some, some, near_end, LOG_LEN]);
+        let on_disk = self.rng.pick(&[0, 1, 5, 300, u32::MAX - 12, u32::MAX - 1]);
+        let ahead = self.rng.between(0, 9) as u32;
+        let assigned = on_disk.saturating_add(ahead);
+        let last_id = self.rng.pick(&[8, 12, 300, 65_534, 65_535]);
+        let mut ids: Vec<u16> = (last_id - 7..=last_id).collect();
+        let low = on_disk.saturating_sub(2).max(1);
+        let mut csns: Vec<u32> = (low..=assigned).collect();
+        let mut txs = Vec::new();
+        for _ in 0..count {
+            let id = ids.remove(self.rng.below(ids.len()));
+            let running = csns.is_empty() || self.rng.percent(45);
+            let (status, csn) = if running {
+                (1, 0)
+            } else {
+                (2, csns.remove(self.rng.below(csns.len())))
+            };
+            txs.push(self.forged_tx(id, status, csn));
+        }
+        RawImage {
+            log_end: log_end as u16,
+            on_disk,
+            assigned,
+            last_id,
+            count: count as u8,
+            txs,
+        }
+    }
+
+    fn forged_tx(&mut self, id: u16, status: u8, csn: u32) -> RawTx {
+        let usual = self.rng.below(4);
+        let count = self.rng.pick(&[usual, usual, usual, usual, 16]);
+        let undos: Vec<RawUndo> = (0..count).map(|_| self.forged_undo()).collect();
+        RawTx {
+            id,
+            status,
+            csn,
+            count: count as u8,
+            undos,
+        }
+    }
+
+    fn forged_undo(&mut self) -> RawUndo {
+        let length = self.rng.between(1, 3);
+        RawUndo {
+            address: self.rng.below(SPAN - 3) as u16,
+            length: length as u8,
+            bytes: self.rng.bytes(length),
+        }
+    }
+
+    /// Takes one field to its limit or over it.
+    fn break_image(&mut self, image: &mut RawImage) {
+        let over = self.rng.percent(70);
+        let step = over as u16;
+        if image.txs.is_empty() || self.rng.percent(25) {
+            match self.rng.below(3) {
+                0 => image.log_end = LOG_LEN as u16 + step,
+                1 => image.assigned = image.on_disk.saturating_sub(step as u32),
+                _ => image.count = self.rng.pick(&[9, 255]),
+            }
+            return;
+        }
+        let last = image.last_id;
+        let assigned = image.assigned;
+        let index = self.rng.below(image.txs.len());
+        let other = self.rng.below(image.txs.len());
+        let (other_id, other_csn) = (image.txs[other].id, image.txs[other].csn);
+        let tx = &mut image.txs[index];
+        match self.rng.below(9) {
+            0 => tx.id = if over { 0 } else { 1 },
+            1 => tx.id = last.saturating_add(step),
+            2 => tx.id = other_id,
+            3 => tx.status = self.rng.pick(&[0, 3, 255]),
+            4 => tx.status = 3 - tx.status,
+            5 => tx.csn = assigned.saturating_add(step as u32),
+            6 => (tx.status, tx.csn) = (2, other_csn),
+            7 => tx.csn = step as u32,
+            _ => self.break_undos(tx, step),
+        }
+    }
+
+    /// Undo counts, lengths and addresses at or over the limit.
+    fn break_undos(&mut self, tx: &mut RawTx, step: u16) {
+        match self.rng.below(4) {
+            0 => {
+                while tx.undos.len() < 16 + step as usize {
+                    let undo = self.forged_undo();
+                    tx.undos.push(undo);
+                }
+                tx.count = tx.undos.len() as u8;
+            }
+            choice => {
+                let mut undo = self.forged_undo();
+                let length = match choice {
+                    1 => 32 + step as usize,
+                    2 => 1 - step as usize,
+                    _ => 3,
+                };
+                undo.length = length as u8;
+                undo.bytes = self.rng.bytes(length);
+                if choice == 3 {
+                    undo.address = 4_093 + step;
+                }
+                tx.undos.truncate(15);
+                tx.undos.push(undo);
+                tx.count = tx.undos.len() as u8;
+            }
+        }
+    }
+
+    /// Groups to follow the image; most are of transactions that it lists,
+    /// some of these with two groups.
+    fn forged_groups(&mut self, image: &RawImage) -> Vec<Group> {
+        let mut groups = Vec::new();
+        let mut last = Csn(image.on_disk);
+        for _ in 0..self.rng.below(6) {
+            let id = self.forged_id(image);
+            for _ in 0..self.rng.pick(&[1, 1, 2]) {
+                let next = last.next().filter(|_| self.rng.percent(55));
+                groups.push(match next {
+                    Some(csn) => {
+                        last = csn;
+                        let writes = self.forged_writes();
+                        Group::Commit { id, csn, writes }
+                    }
+                    None => Group::Abort { id },
+                });
+            }
+        }
+        groups
+    }
+
+    fn forged_id(&mut self, image: &RawImage) -> TxId {
+        if !image.txs.is_empty() && self.rng.percent(70) {
+            let index = self.rng.below(image.txs.len());
+            return TxId(image.txs[index].id);
+        }
+        let above = image.last_id.saturating_add(self.rng.below(9) as u16);
+        TxId(self.rng.pick(&[1, above, above, 65_535]))
+    }
+
+    fn forged_writes(&mut self) -> Vec<Write> {
+        let count = self.rng.below(4);
+        let write = |_| Write {
+            address: self.rng.below(SPAN - 3),
+            bytes: {
+                let length = self.rng.between(1, 3);
+                self.rng.bytes(length)
+            },
+        };
+        (0..count).map(write).collect()
+    }
+
+    /// The groups' bytes, with a chance of one broken group among them.
+    fn forged_log(&mut self, groups: &[Group]) -> Vec<u8> {
+        let broken = if self.rng.percent(45) {
+            self.rng.below(groups.len() + 1)
+        } else {
+            groups.len()
+        };
+        let mut log = Vec::new();
+        for (index, group) in groups.iter().enumerate() {
+            if index == broken {
+                log.extend(self.broken_group(group));
+            } else {
+                log.extend(group.encode());
+            }
+        }
+        log
+    }
+
+    /// A group with one fault.
+    fn broken_group(&mut self, group: &Group) -> Vec<u8> {
+        let id = group.id();
+        let other = TxId(id.0 ^ 3);
+        let csn = match group {
+            Group::Commit { csn, .. } => *csn,
+            Group::Abort { .. } => Csn(self.rng.next() as u32),
+        };
+        let redo = |id: TxId, address: usize, length: usize| {
+            let bytes = vec![9; length];
+            Record::Redo(id, Write { address, bytes }).encode()
+        };
+        let commit = |id: TxId, csn: u32| Record::Commit(id, Csn(csn)).encode();
+        let abort = |id: TxId| Record::Abort(id).encode();
+        match self.rng.below(13) {
+            0 => [redo(id, 3, 1), abort(id)].concat(),
+            1 => [redo(id, 3, 1), commit(other, csn.0)].concat(),
+            2 => [redo(id, 3, 1), redo(other, 3, 1), commit(other, csn.0)].concat(),
+            3 => [redo(id, 3, 0), commit(id, csn.0)].concat(),
+            4 => [redo(id, 3, 33), commit(id, csn.0)].concat(),
+            5 => [redo(id, 4_094, 3), commit(id, csn.0)].concat(),
+            6 => [redo(id, 4_093, 3), commit(id, csn.0)].concat(),
+            7 => [redo(id, 3, 32), commit(id, csn.0)].concat(),
+            8 => commit(id, csn.0.wrapping_add(1)),
+            9 => commit(id, csn.0.wrapping_sub(1)),
+            10 => [redo(TxId(0), 3, 1), commit(TxId(0), csn.0)].concat(),
+            11 => abort(TxId(0)),
+            _ => self.with_wrong_ends(group.encode()),
+        }
+    }
+
+    /// One byte of the group changed: often the last, the first, or some other.
+    fn with_wrong_ends(&mut self, mut bytes: Vec<u8>) -> Vec<u8> {
+        let some = self.rng.below(bytes.len());
+        let place = self.rng.pick(&[0, bytes.len() - 1, bytes.len() - 1, some]);
+        let value = self.rng.byte();
+        bytes[place] = self.rng.pick(&[0, 1, 2, 3, value]);
+        bytes
+    }
+
+    /// A byte of the named image or of the log in use is changed, between
+    /// calls or before a restart.
+    fn damaged_live_disk(&mut self) {
+        self.empty_log();
+        for _ in 0..self.rng.between(8, 30) {
+            self.live_call(&PLAIN);
+        }
+        let slot = self.rng.pick(&[IMAGE_A, IMAGE_B]);
+        let in_header = slot + self.rng.below(HEADER_LEN);
+        let in_txs = slot + TXS + self.rng.below(40);
+        let in_log = LOG + self.rng.below(self.world.state.log_end.max(1));
+        let place = self.rng.pick(&[in_header, in_txs, in_log, in_log]);
+        let value = self.rng.byte();
+        let byte = self.rng.pick(&[0, 1, 2, 3, value]);
+        self.put(place, &[byte]);
+        for _ in 0..self.rng.below(5) {
+            self.live_call(&PLAIN);
+        }
+        self.recover(20);
+        self.any_call();
+    }
+
+    /// A pointer byte above 2, before a checkpoint or before a restart.
+    fn damaged_pointer(&mut self) {
+        self.empty_log();
+        for _ in 0..self.rng.between(3, 9) {
+            self.live_call(&PLAIN);
+        }
+        let pointer = self.rng.pick(&[0, 1, 2, 3, 4, 255]);
+        self.put(POINTER, &[pointer]);
+        if self.rng.percent(60) {
+            self.checkpoint(20);
+        }
+        self.recover(20);
+        self.live_call(&WILD);
+    }
+
+    /// The last csn or the last id is the highest there is: number 12, alone
+    /// and beside numbers 11 and 13.
+    fn counters_at_their_end(&mut self) {
+        let left = self.rng.pick(&[LOG_LEN, LOG_LEN, 16, 24, 7]);
+        let below = self.rng.pick(&[0, 1, 2, 8]);
+        let high_csn = self.rng.percent(50);
+        let csn = if high_csn { u32::MAX - below } else { 3 };
+        let last_id = if high_csn { 4 } else { u16::MAX - below as u16 };
+        let image = RawImage {
+            log_end: (LOG_LEN - left) as u16,
+            on_disk: csn,
+            assigned: csn,
+            last_id,
+            count: 0,
+            txs: Vec::new(),
+        };
+        self.put(IMAGE_B, &image.header());
+        self.put(LOG + LOG_LEN - left, &[0]);
+        self.put(POINTER, &[2]);
+        self.recover(10);
+        for _ in 0..self.rng.pick(&[3, 4, 9]) {
+            self.emit(Call::Begin);
+        }
+        for _ in 0..3 {
+            let id = self.some_id(None, 0);
+            self.emit(Call::Precommit { id });
+        }
+        self.live_call(&PLAIN);
+        self.recover(20);
+    }
+}
