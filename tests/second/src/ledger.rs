@@ -141,12 +141,8 @@ impl Ledger {
             Entry::Committed(committed) => Some(committed),
             Entry::Abort => None,
         });
-        let latest = self
-            .durable
-            .iter()
-            .chain(queued)
-            .filter(|c| c.id == id)
-            .last();
+        let mut all = self.durable.iter().chain(queued);
+        let latest = all.rfind(|committed| committed.id == id);
         let serial = latest.expect("an accepted settle has a commit").serial;
         self.settled.push(serial);
     }

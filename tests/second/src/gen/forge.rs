@@ -1,7 +1,7 @@
 //! Damage: forged and broken pointer bytes, images and logs.
 
 use super::live::{PLAIN, WILD};
-use super::Generator;
+use super::{Generator, Scene};
 use crate::layout::{IMAGE_A, IMAGE_B, LOG, LOG_LEN, MEMORY_LEN, POINTER};
 use crate::log::{Csn, Group, Record, TxId, Write};
 use crate::trace::{Call, MAX_DATA};
@@ -78,7 +78,7 @@ impl Generator {
     /// Everything, in a fixed round; after the first part, each from an
     /// emptied log.
     pub fn mixed(&mut self) {
-        let parts: [(usize, fn(&mut Generator)); 11] = [
+        let parts: [(usize, Scene); 11] = [
             (150, Generator::plain),
             (400, Generator::forged_disk),
             (100, Generator::counters_at_their_end),
@@ -363,7 +363,7 @@ impl Generator {
         let other = TxId(id.0 ^ 3);
         let csn = match group {
             Group::Commit { csn, .. } => *csn,
-            Group::Abort { .. } => Csn(self.rng.next() as u32),
+            Group::Abort { .. } => Csn(self.rng.draw() as u32),
         };
         let redo = |id: TxId, address: usize, length: usize| {
             let bytes = vec![9; length];

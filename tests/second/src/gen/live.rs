@@ -256,7 +256,7 @@ impl Generator {
             .collect();
         if wild || ids.is_empty() {
             let last = self.world.state.last_id.0;
-            let any = self.rng.next() as u16;
+            let any = self.rng.draw() as u16;
             ids.extend([TxId(0), TxId(last), TxId(last.wrapping_add(1)), TxId(any)]);
         }
         self.rng.pick(&ids)

@@ -101,6 +101,9 @@ pub fn stream(seed: u64, records: usize, kind: Kind) -> Vec<u8> {
     generator.finish()
 }
 
+/// A part of a stream.
+type Scene = fn(&mut Generator);
+
 struct Generator {
     rng: Rng,
     world: World,
@@ -115,7 +118,7 @@ impl Generator {
     }
 
     /// Repeats a scene until `budget` records are added.
-    fn within(&mut self, budget: usize, scene: fn(&mut Generator)) {
+    fn within(&mut self, budget: usize, scene: Scene) {
         let limit = self.limit;
         self.limit = limit.min(self.out.len() + budget);
         while !self.is_full() {
