@@ -1,11 +1,13 @@
 //! Restart: document 01, "Restart", its six steps; disklist and "equal in
 //! meaning".
 
+use std::cmp::Reverse;
+
 use crate::image;
 use crate::layout::{
     DISK_LEN, IMAGE_A, IMAGE_B, IMAGE_LEN, LOG, LOG_LEN, MEMORY_LEN, POINTER, TAIL_LEN,
 };
-use crate::log::{read_log, undo, Group, Record, TxId, ABORT_SIZE};
+use crate::log::{read_log, undo, Csn, Group, Record, TxId, ABORT_SIZE};
 use crate::state::{Refusal, State, Tx};
 use crate::stores::{cut_off, make_stores, Store, Stored};
 
@@ -24,31 +26,24 @@ struct Listed {
     finished: bool,
 }
 
+impl Listed {
+    fn unfinished(tx: Tx) -> Listed {
+        let finished = false;
+        Listed { tx, finished }
+    }
+}
+
 /// Steps 1 to 5 for a disk of the right length; numbers 3, 4 and 5.
 pub fn recover(disk: &[u8]) -> Result<Recovery, Refusal> {
     let (image, mut memory) = named_image(disk)?;
     let log = read_log(&disk[LOG + image.log_end..], image.csn_on_disk);
     let end = image.log_end + log.end;
 
-    let mut listed: Vec<Listed> = Vec::new();
-    for tx in image.txs {
-        let finished = false;
-        listed.push(Listed { tx, finished });
-    }
+    let mut listed: Vec<Listed> = image.txs.into_iter().map(Listed::unfinished).collect();
     for group in &log.groups {
         apply(group, &mut listed, &mut memory);
     }
-
-    listed.retain(|entry| !entry.finished);
-    let (running, mut lost): (Vec<_>, Vec<_>) =
-        listed.into_iter().partition(|entry| entry.tx.is_running());
-    lost.retain(|entry| entry.tx.csn > log.last);
-    lost.sort_by_key(|entry| std::cmp::Reverse(entry.tx.csn));
-    let mut undone = Vec::new();
-    for entry in running.iter().chain(&lost) {
-        undo(&entry.tx.undo, &mut memory);
-        undone.push(entry.tx.id);
-    }
+    let undone = undo_unfinished(&listed, log.last, &mut memory);
     if end + ABORT_SIZE * undone.len() > LOG_LEN {
         return Err(5);
     }
@@ -100,6 +95,23 @@ fn apply(group: &Group, listed: &mut [Listed], memory: &mut [u8]) {
             }
         }
     }
+}
+
+/// Step 4: the running ones in image order, then the committing ones whose csn
+/// exceeds the last found, highest first. Gives their ids in that order.
+fn undo_unfinished(listed: &[Listed], last: Csn, memory: &mut [u8]) -> Vec<TxId> {
+    let unfinished = listed.iter().filter(|entry| !entry.finished);
+    let (running, mut lost): (Vec<&Tx>, Vec<&Tx>) = unfinished
+        .map(|entry| &entry.tx)
+        .partition(|tx| tx.is_running());
+    lost.retain(|tx| tx.csn > last);
+    lost.sort_by_key(|tx| Reverse(tx.csn));
+    let mut undone = Vec::new();
+    for tx in running.into_iter().chain(lost) {
+        undo(&tx.undo, memory);
+        undone.push(tx.id);
+    }
+    undone
 }
 
 /// Step 6: zero at every log place from the last down to the log's end.

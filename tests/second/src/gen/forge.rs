@@ -2,8 +2,9 @@
 
 use super::live::{PLAIN, WILD};
 use super::{Generator, Scene};
-use crate::layout::{IMAGE_A, IMAGE_B, LOG, LOG_LEN, MEMORY_LEN, POINTER};
-use crate::log::{Csn, Group, Record, TxId, Write};
+use crate::layout::{DISK_LEN, IMAGE_A, IMAGE_B, LOG, LOG_LEN, MEMORY_LEN, POINTER};
+use crate::log::{Csn, Group, Record, TxId, Write, ABORT_SIZE};
+use crate::restart::recover;
 use crate::trace::{Call, MAX_DATA};
 
 /// Where the transactions begin in an image.
@@ -78,8 +79,9 @@ impl Generator {
     /// Everything, in a fixed round; after the first part, each from an
     /// emptied log.
     pub fn mixed(&mut self) {
-        let parts: [(usize, Scene); 11] = [
+        let parts: [(usize, Scene); 12] = [
             (150, Generator::plain),
+            (12, Generator::unrecovered),
             (400, Generator::forged_disk),
             (100, Generator::counters_at_their_end),
             (100, Generator::damaged_pointer),
@@ -157,12 +159,15 @@ impl Generator {
     fn forged_disk(&mut self) {
         let mut image = self.forged_image();
         let groups = self.forged_groups(&image);
-        let mut log: Vec<u8> = self.forged_log(&groups);
-        if self.rng.percent(35) {
-            self.break_image(&mut image);
-        }
+        let mut log = self.forged_log(&groups);
         if self.rng.percent(15) {
             log.extend(self.rng.bytes(6));
+        }
+        if self.rng.percent(15) {
+            self.fit_to_log_end(&mut image, &log);
+        }
+        if self.rng.percent(30) {
+            self.break_image(&mut image);
         }
         let slot = self.rng.pick(&[(IMAGE_A, 1), (IMAGE_B, 2)]);
         self.put(slot.0, &image.header());
@@ -174,8 +179,25 @@ impl Generator {
         self.put(LOG + log_end, &log);
         self.put(POINTER, &[slot.1]);
         self.recover(25);
-        for _ in 0..self.rng.below(8) {
+        for _ in 0..self.rng.below(5) {
             self.live_call(&PLAIN);
+        }
+    }
+
+    /// Moves the log so that restart's abort records just fit behind it, or
+    /// just do not.
+    fn fit_to_log_end(&mut self, image: &mut RawImage, log: &[u8]) {
+        image.log_end = 0;
+        let mut disk = vec![0; DISK_LEN];
+        let mut lay = |at: usize, bytes: &[u8]| disk[at..at + bytes.len()].copy_from_slice(bytes);
+        lay(POINTER, &[1]);
+        lay(IMAGE_A, &image.header());
+        lay(IMAGE_A + TXS, &image.transactions());
+        lay(LOG, log);
+        if let Ok(found) = recover(&disk) {
+            let size = found.state.log_end + ABORT_SIZE * found.undone.len();
+            let over = self.rng.pick(&[0, 0, 1, 2, 3, 4]);
+            image.log_end = (LOG_LEN + over).saturating_sub(size).min(LOG_LEN) as u16;
         }
     }
 
@@ -236,64 +258,62 @@ impl Generator {
         }
     }
 
-    /// Takes one field to its limit or over it.
+    /// Takes one field to its limit or over it, each field in turn.
     fn break_image(&mut self, image: &mut RawImage) {
+        self.image_fault = (self.image_fault + 1) % 16;
         let over = self.rng.percent(70);
         let step = over as u16;
-        if image.txs.is_empty() || self.rng.percent(25) {
-            match self.rng.below(3) {
-                0 => image.log_end = LOG_LEN as u16 + step,
-                1 => image.assigned = image.on_disk.saturating_sub(step as u32),
-                _ => image.count = self.rng.pick(&[9, 255]),
-            }
-            return;
+        match self.image_fault {
+            0 => image.log_end = LOG_LEN as u16 + step,
+            1 => image.assigned = image.on_disk.saturating_sub(step as u32),
+            2 => image.count = self.rng.pick(&[9, 255]),
+            fault if image.txs.is_empty() => image.count = fault as u8,
+            fault => self.break_tx(image, fault, step),
         }
+    }
+
+    /// A field of one transaction at its limit, or `step` over it.
+    fn break_tx(&mut self, image: &mut RawImage, fault: usize, step: u16) {
         let last = image.last_id;
         let assigned = image.assigned;
         let index = self.rng.below(image.txs.len());
         let other = self.rng.below(image.txs.len());
         let (other_id, other_csn) = (image.txs[other].id, image.txs[other].csn);
         let tx = &mut image.txs[index];
-        match self.rng.below(9) {
-            0 => tx.id = if over { 0 } else { 1 },
-            1 => tx.id = last.saturating_add(step),
-            2 => tx.id = other_id,
-            3 => tx.status = self.rng.pick(&[0, 3, 255]),
-            4 => tx.status = 3 - tx.status,
-            5 => tx.csn = assigned.saturating_add(step as u32),
-            6 => (tx.status, tx.csn) = (2, other_csn),
-            7 => tx.csn = step as u32,
-            _ => self.break_undos(tx, step),
+        match fault {
+            3 => tx.id = 1 - step,
+            4 => tx.id = last.saturating_add(step),
+            5 => tx.id = other_id,
+            6 => tx.status = self.rng.pick(&[0, 3, 255]),
+            7 => tx.status = 3 - tx.status,
+            8 => (tx.status, tx.csn) = (2, assigned.saturating_add(step as u32)),
+            9 => (tx.status, tx.csn) = (2, other_csn),
+            10 => (tx.status, tx.csn) = (2, 1 - step as u32),
+            11 => (tx.status, tx.csn) = (1, step as u32),
+            12 => self.many_undos(tx, 16 + step as usize),
+            13 => self.odd_undo(tx, 3, 32 + step as usize),
+            14 => self.odd_undo(tx, 3, 1 - step as usize),
+            _ => self.odd_undo(tx, 4_093 + step, 3),
         }
     }
 
-    /// Undo counts, lengths and addresses at or over the limit.
-    fn break_undos(&mut self, tx: &mut RawTx, step: u16) {
-        match self.rng.below(4) {
-            0 => {
-                while tx.undos.len() < 16 + step as usize {
-                    let undo = self.forged_undo();
-                    tx.undos.push(undo);
-                }
-                tx.count = tx.undos.len() as u8;
-            }
-            choice => {
-                let mut undo = self.forged_undo();
-                let length = match choice {
-                    1 => 32 + step as usize,
-                    2 => 1 - step as usize,
-                    _ => 3,
-                };
-                undo.length = length as u8;
-                undo.bytes = self.rng.bytes(length);
-                if choice == 3 {
-                    undo.address = 4_093 + step;
-                }
-                tx.undos.truncate(15);
-                tx.undos.push(undo);
-                tx.count = tx.undos.len() as u8;
-            }
+    fn many_undos(&mut self, tx: &mut RawTx, count: usize) {
+        while tx.undos.len() < count {
+            let undo = self.forged_undo();
+            tx.undos.push(undo);
         }
+        tx.count = count as u8;
+    }
+
+    /// One undo record more, of this address and length.
+    fn odd_undo(&mut self, tx: &mut RawTx, address: u16, length: usize) {
+        tx.undos.truncate(15);
+        tx.undos.push(RawUndo {
+            address,
+            length: length as u8,
+            bytes: self.rng.bytes(length),
+        });
+        tx.count = tx.undos.len() as u8;
     }
 
     /// Groups to follow the image; most are of transactions that it lists,
@@ -301,7 +321,7 @@ impl Generator {
     fn forged_groups(&mut self, image: &RawImage) -> Vec<Group> {
         let mut groups = Vec::new();
         let mut last = Csn(image.on_disk);
-        for _ in 0..self.rng.below(6) {
+        for _ in 0..self.rng.pick(&[0, 1, 2, 3, 4, 5]) {
             let id = self.forged_id(image);
             for _ in 0..self.rng.pick(&[1, 1, 2]) {
                 let next = last.next().filter(|_| self.rng.percent(55));
@@ -341,8 +361,8 @@ impl Generator {
 
     /// The groups' bytes, with a chance of one broken group among them.
     fn forged_log(&mut self, groups: &[Group]) -> Vec<u8> {
-        let broken = if self.rng.percent(45) {
-            self.rng.below(groups.len() + 1)
+        let broken = if self.rng.percent(60) {
+            self.rng.below(groups.len().max(1))
         } else {
             groups.len()
         };
@@ -357,7 +377,7 @@ impl Generator {
         log
     }
 
-    /// A group with one fault.
+    /// A group with one fault, each fault in turn; 6 and 7 are just none.
     fn broken_group(&mut self, group: &Group) -> Vec<u8> {
         let id = group.id();
         let other = TxId(id.0 ^ 3);
@@ -371,7 +391,8 @@ impl Generator {
         };
         let commit = |id: TxId, csn: u32| Record::Commit(id, Csn(csn)).encode();
         let abort = |id: TxId| Record::Abort(id).encode();
-        match self.rng.below(13) {
+        self.log_fault = (self.log_fault + 1) % 13;
+        match self.log_fault {
             0 => [redo(id, 3, 1), abort(id)].concat(),
             1 => [redo(id, 3, 1), commit(other, csn.0)].concat(),
             2 => [redo(id, 3, 1), redo(other, 3, 1), commit(other, csn.0)].concat(),

@@ -82,6 +82,8 @@ pub fn stream(seed: u64, records: usize, kind: Kind) -> Vec<u8> {
         world: World::fresh(),
         out: Vec::new(),
         limit: records.min(kind.most_records()),
+        image_fault: 0,
+        log_fault: 0,
     };
     generator.open();
     while !generator.is_full() {
@@ -110,6 +112,9 @@ struct Generator {
     out: Vec<[u8; RECORD_LEN]>,
     /// The records that the stream, or the scene in hand, may have.
     limit: usize,
+    /// Which fault was forged last.
+    image_fault: usize,
+    log_fault: usize,
 }
 
 impl Generator {

@@ -314,6 +314,7 @@ impl Generator {
         self.tidy();
         let longest = self.rng.pick(&[1, 1, 2, 32]);
         self.eight_transactions(longest);
+        self.try_a_committing_one();
         self.within(60, |g| g.live_call(&WILD));
         match self.rng.below(4) {
             0 => {
@@ -343,6 +344,60 @@ impl Generator {
                 self.write(id, address, bytes);
             }
         }
+    }
+
+    /// Every call with an id on one that is committing, and not on disk.
+    fn try_a_committing_one(&mut self) {
+        let Some(&id) = self.ids_listed(true).first() else {
+            return;
+        };
+        let (address, length) = self.rng.pick(&[(0, 1), (0, 40), (4_096, 1)]);
+        let bytes = self.rng.bytes(length);
+        for call in [
+            Call::Precommit { id },
+            Call::Precommit { id },
+            Call::Abort { id },
+            Call::Settle { id },
+            Call::CheckRead {
+                id,
+                address,
+                length,
+            },
+            Call::Write { id, address, bytes },
+        ] {
+            self.emit(call);
+        }
+    }
+
+    /// Every call that is handed a state, on an unrecovered one.
+    pub fn unrecovered(&mut self) {
+        self.emit(Call::PowerFails);
+        let id = TxId(1);
+        let (address, length, allowed) = (0, 1, 9_000);
+        let bytes = vec![1];
+        let groups = 1;
+        for call in [
+            Call::Begin,
+            Call::Write { id, address, bytes },
+            Call::Read {
+                id,
+                address,
+                length,
+            },
+            Call::CheckRead {
+                id,
+                address,
+                length,
+            },
+            Call::Precommit { id },
+            Call::Abort { id },
+            Call::Flush { groups, allowed },
+            Call::Settle { id },
+            Call::Checkpoint { allowed },
+        ] {
+            self.emit(call);
+        }
+        self.recover(50);
     }
 
     /// All ids given out: eight begins, a checkpoint and a restart at a time,

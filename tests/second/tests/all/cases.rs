@@ -1,8 +1,6 @@
 //! M1 to M10 of document 01, "Worked at the bench".
 
-mod common;
-
-use common::{Rig, ENOUGH};
+use crate::rig::{Rig, ENOUGH};
 use second::layout::LOG;
 use second::log::TxId;
 use second::restart::disklist;

@@ -1,0 +1,8 @@
+//! Tests of the second program.
+
+mod cases;
+mod excerpt;
+mod number2;
+mod restart;
+mod rig;
+mod streams;
