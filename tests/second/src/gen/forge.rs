@@ -80,18 +80,18 @@ impl Generator {
     /// emptied log.
     pub fn mixed(&mut self) {
         let parts: [(usize, Scene); 12] = [
-            (150, Generator::plain),
+            (180, Generator::plain),
             (12, Generator::unrecovered),
-            (400, Generator::forged_disk),
-            (100, Generator::counters_at_their_end),
-            (100, Generator::damaged_pointer),
-            (300, Generator::near_full),
+            (700, Generator::forged_disk),
+            (80, Generator::counters_at_their_end),
+            (80, Generator::damaged_pointer),
+            (240, Generator::near_full),
             (200, Generator::limits),
-            (200, Generator::cuts),
-            (160, Generator::forged),
-            (260, Generator::aborts_near_full),
-            (190, Generator::largest_image),
-            (150, Generator::damage),
+            (150, Generator::cuts),
+            (120, Generator::forged),
+            (200, Generator::aborts_near_full),
+            (160, Generator::largest_image),
+            (100, Generator::damaged_live_disk),
         ];
         for (budget, scene) in parts {
             self.within(budget, scene);
@@ -133,11 +133,11 @@ impl Generator {
     }
 
     fn near_full(&mut self) {
-        let lefts = [0, 1, 7, 8, 9, 15, 16, 40, 48, 64, 71, 72, 136, 143, 200];
-        let left = self.rng.pick(&lefts);
-        self.open_near_full(left);
+        const LEFTS: [usize; 10] = [143, 7, 64, 8, 1, 136, 16, 0, 71, 40];
+        self.near_full_turn = (self.near_full_turn + 1) % LEFTS.len();
+        self.open_near_full(LEFTS[self.near_full_turn]);
         self.crowd();
-        self.within(25, Generator::edge_call);
+        self.within(20, Generator::edge_call);
     }
 
     fn aborts_near_full(&mut self) {
@@ -150,7 +150,7 @@ impl Generator {
     /// Eight transactions of sixteen writes of 32 bytes in one image.
     fn largest_image(&mut self) {
         self.recover_if_needed();
-        self.eight_transactions(32);
+        self.eight_transactions(32, 100);
         self.checkpoint(20);
         self.recover(30);
     }
@@ -159,14 +159,14 @@ impl Generator {
     fn forged_disk(&mut self) {
         let mut image = self.forged_image();
         let groups = self.forged_groups(&image);
-        let mut log = self.forged_log(&groups);
+        let mut log = self.forged_log(Csn(image.on_disk), &groups);
         if self.rng.percent(15) {
             log.extend(self.rng.bytes(6));
         }
         if self.rng.percent(15) {
             self.fit_to_log_end(&mut image, &log);
         }
-        if self.rng.percent(30) {
+        if self.rng.percent(40) {
             self.break_image(&mut image);
         }
         let slot = self.rng.pick(&[(IMAGE_A, 1), (IMAGE_B, 2)]);
@@ -260,12 +260,13 @@ impl Generator {
 
     /// Takes one field to its limit or over it, each field in turn.
     fn break_image(&mut self, image: &mut RawImage) {
-        self.image_fault = (self.image_fault + 1) % 16;
-        let over = self.rng.percent(70);
-        let step = over as u16;
-        match self.image_fault {
+        self.image_fault = (self.image_fault + 1) % 32;
+        // In two rounds each of the 16 is once over its limit and once at it.
+        let (round, fault) = (self.image_fault / 16, self.image_fault % 16);
+        let step = ((round + fault) % 2) as u16;
+        match fault {
             0 => image.log_end = LOG_LEN as u16 + step,
-            1 => image.assigned = image.on_disk.saturating_sub(step as u32),
+            1 => image.on_disk = image.assigned.saturating_add(step as u32),
             2 => image.count = self.rng.pick(&[9, 255]),
             fault if image.txs.is_empty() => image.count = fault as u8,
             fault => self.break_tx(image, fault, step),
@@ -277,17 +278,20 @@ impl Generator {
         let last = image.last_id;
         let assigned = image.assigned;
         let index = self.rng.below(image.txs.len());
-        let other = self.rng.below(image.txs.len());
-        let (other_id, other_csn) = (image.txs[other].id, image.txs[other].csn);
+        let next = (index + 1) % image.txs.len();
+        if fault == 9 {
+            (image.txs[next].status, image.txs[next].csn) = (2, assigned.max(1));
+        }
+        let next_id = image.txs[next].id;
         let tx = &mut image.txs[index];
         match fault {
             3 => tx.id = 1 - step,
             4 => tx.id = last.saturating_add(step),
-            5 => tx.id = other_id,
+            5 => tx.id = next_id,
             6 => tx.status = self.rng.pick(&[0, 3, 255]),
             7 => tx.status = 3 - tx.status,
             8 => (tx.status, tx.csn) = (2, assigned.saturating_add(step as u32)),
-            9 => (tx.status, tx.csn) = (2, other_csn),
+            9 => (tx.status, tx.csn) = (2, assigned.max(1)),
             10 => (tx.status, tx.csn) = (2, 1 - step as u32),
             11 => (tx.status, tx.csn) = (1, step as u32),
             12 => self.many_undos(tx, 16 + step as usize),
@@ -360,31 +364,32 @@ impl Generator {
     }
 
     /// The groups' bytes, with a chance of one broken group among them.
-    fn forged_log(&mut self, groups: &[Group]) -> Vec<u8> {
+    fn forged_log(&mut self, previous: Csn, groups: &[Group]) -> Vec<u8> {
         let broken = if self.rng.percent(60) {
             self.rng.below(groups.len().max(1))
         } else {
             groups.len()
         };
+        let mut last = previous;
         let mut log = Vec::new();
         for (index, group) in groups.iter().enumerate() {
             if index == broken {
-                log.extend(self.broken_group(group));
+                log.extend(self.broken_group(group, last.0.wrapping_add(1)));
             } else {
                 log.extend(group.encode());
+            }
+            if let Group::Commit { csn, .. } = group {
+                last = *csn;
             }
         }
         log
     }
 
-    /// A group with one fault, each fault in turn; 6 and 7 are just none.
-    fn broken_group(&mut self, group: &Group) -> Vec<u8> {
+    /// A group with one fault where this one should stand, each fault in turn;
+    /// 6 and 7 are at the limit and no fault.
+    fn broken_group(&mut self, group: &Group, csn: u32) -> Vec<u8> {
         let id = group.id();
         let other = TxId(id.0 ^ 3);
-        let csn = match group {
-            Group::Commit { csn, .. } => *csn,
-            Group::Abort { .. } => Csn(self.rng.draw() as u32),
-        };
         let redo = |id: TxId, address: usize, length: usize| {
             let bytes = vec![9; length];
             Record::Redo(id, Write { address, bytes }).encode()
@@ -394,16 +399,16 @@ impl Generator {
         self.log_fault = (self.log_fault + 1) % 13;
         match self.log_fault {
             0 => [redo(id, 3, 1), abort(id)].concat(),
-            1 => [redo(id, 3, 1), commit(other, csn.0)].concat(),
-            2 => [redo(id, 3, 1), redo(other, 3, 1), commit(other, csn.0)].concat(),
-            3 => [redo(id, 3, 0), commit(id, csn.0)].concat(),
-            4 => [redo(id, 3, 33), commit(id, csn.0)].concat(),
-            5 => [redo(id, 4_094, 3), commit(id, csn.0)].concat(),
-            6 => [redo(id, 4_093, 3), commit(id, csn.0)].concat(),
-            7 => [redo(id, 3, 32), commit(id, csn.0)].concat(),
-            8 => commit(id, csn.0.wrapping_add(1)),
-            9 => commit(id, csn.0.wrapping_sub(1)),
-            10 => [redo(TxId(0), 3, 1), commit(TxId(0), csn.0)].concat(),
+            1 => [redo(id, 3, 1), commit(other, csn)].concat(),
+            2 => [redo(id, 3, 1), redo(other, 3, 1), commit(other, csn)].concat(),
+            3 => [redo(id, 3, 0), commit(id, csn)].concat(),
+            4 => [redo(id, 3, 33), commit(id, csn)].concat(),
+            5 => [redo(id, 4_094, 3), commit(id, csn)].concat(),
+            6 => [redo(id, 4_093, 3), commit(id, csn)].concat(),
+            7 => [redo(id, 3, 32), commit(id, csn)].concat(),
+            8 => commit(id, csn.wrapping_add(1)),
+            9 => commit(id, csn.wrapping_sub(1)),
+            10 => [redo(TxId(0), 3, 1), commit(TxId(0), csn)].concat(),
             11 => abort(TxId(0)),
             _ => self.with_wrong_ends(group.encode()),
         }

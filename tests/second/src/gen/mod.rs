@@ -84,6 +84,7 @@ pub fn stream(seed: u64, records: usize, kind: Kind) -> Vec<u8> {
         limit: records.min(kind.most_records()),
         image_fault: 0,
         log_fault: 0,
+        near_full_turn: 0,
     };
     generator.open();
     while !generator.is_full() {
@@ -112,9 +113,10 @@ struct Generator {
     out: Vec<[u8; RECORD_LEN]>,
     /// The records that the stream, or the scene in hand, may have.
     limit: usize,
-    /// Which fault was forged last.
+    /// Faults and room left are taken in turn; these were the last.
     image_fault: usize,
     log_fault: usize,
+    near_full_turn: usize,
 }
 
 impl Generator {

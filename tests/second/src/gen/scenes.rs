@@ -39,8 +39,8 @@ impl Generator {
         (outcome.answer == Answer::Done).then_some(TxId(outcome.value as u16))
     }
 
-    fn write(&mut self, id: TxId, address: usize, bytes: Vec<u8>) -> bool {
-        self.emit(Call::Write { id, address, bytes }).answer == Answer::Done
+    fn write(&mut self, id: TxId, address: usize, bytes: Vec<u8>) {
+        self.emit(Call::Write { id, address, bytes });
     }
 
     /// Settles what is on disk and ends every running transaction.
@@ -312,9 +312,10 @@ impl Generator {
     pub fn limits(&mut self) {
         self.recover_if_needed();
         self.tidy();
-        let longest = self.rng.pick(&[1, 1, 2, 32]);
-        self.eight_transactions(longest);
-        self.try_a_committing_one();
+        let (length, sixteen) = self.rng.pick(&[(1, 30), (1, 30), (2, 30), (32, 100)]);
+        self.eight_transactions(length, sixteen);
+        self.try_holds();
+        self.try_refused_ids();
         self.within(60, |g| g.live_call(&WILD));
         match self.rng.below(4) {
             0 => {
@@ -330,54 +331,51 @@ impl Generator {
         }
     }
 
-    /// A few of the eight get sixteen writes, and a seventeenth is tried.
-    pub fn eight_transactions(&mut self, longest: usize) {
+    /// Eight transactions and a ninth. In a hundred, so many get sixteen
+    /// writes of that length, and a seventeenth is tried.
+    pub fn eight_transactions(&mut self, length: usize, sixteen: usize) {
         for slot in 0..=MAX_TXS {
             let Some(id) = self.begin() else {
                 continue;
             };
-            let many = self.rng.percent(if longest == 32 { 80 } else { 30 });
+            let many = self.rng.percent(sixteen);
             let writes = if many { MAX_UNDOS + 1 } else { 2 };
             for turn in 0..writes {
                 let address = slot * 400 + self.rng.between(0, turn * 3);
-                let bytes = self.rng.bytes(longest);
+                let bytes = self.rng.bytes(length);
                 self.write(id, address, bytes);
             }
         }
     }
 
-    /// Every call with an id on one that is committing, and not on disk.
-    fn try_a_committing_one(&mut self) {
-        let Some(&id) = self.ids_listed(true).first() else {
+    /// Ranges that just touch the bytes that another transaction holds, and
+    /// such as just do not.
+    fn try_holds(&mut self) {
+        let txs = &self.world.state.txs;
+        let with_undo = txs.iter().filter(|tx| tx.is_running());
+        let held = with_undo.filter_map(|tx| Some((tx.id, tx.undo.last()?.clone())));
+        let held: Vec<(TxId, Write)> = held.collect();
+        let [(id, _), .., (_, other)] = &held[..] else {
             return;
         };
-        let (address, length) = self.rng.pick(&[(0, 1), (0, 40), (4_096, 1)]);
-        let bytes = self.rng.bytes(length);
-        for call in [
-            Call::Precommit { id },
-            Call::Precommit { id },
-            Call::Abort { id },
-            Call::Settle { id },
-            Call::CheckRead {
+        let (id, first, length) = (*id, other.address, other.bytes.len());
+        let (before, after) = (first.saturating_sub(1), first + length);
+        for (address, length) in [(before, 1), (before, 2), (after - 1, 1), (after, 1)] {
+            self.emit(Call::CheckRead {
                 id,
                 address,
                 length,
-            },
-            Call::Write { id, address, bytes },
-        ] {
-            self.emit(call);
+            });
+            let bytes = self.rng.bytes(length);
+            self.write(id, address, bytes);
         }
     }
 
-    /// Every call that is handed a state, on an unrecovered one.
-    pub fn unrecovered(&mut self) {
-        self.emit(Call::PowerFails);
-        let id = TxId(1);
-        let (address, length, allowed) = (0, 1, 9_000);
-        let bytes = vec![1];
-        let groups = 1;
+    /// Every call that takes an id, on this one.
+    fn try_each_call(&mut self, id: TxId) {
+        let (address, length) = self.rng.pick(&[(0, 1), (0, 40), (4_096, 1)]);
+        let bytes = self.rng.bytes(length);
         for call in [
-            Call::Begin,
             Call::Write { id, address, bytes },
             Call::Read {
                 id,
@@ -391,12 +389,31 @@ impl Generator {
             },
             Call::Precommit { id },
             Call::Abort { id },
-            Call::Flush { groups, allowed },
             Call::Settle { id },
-            Call::Checkpoint { allowed },
         ] {
             self.emit(call);
         }
+    }
+
+    /// Every call on ids that are not listed, and on one that is committing.
+    fn try_refused_ids(&mut self) {
+        let next = TxId(self.world.state.last_id.0.saturating_add(1));
+        let unlisted = self.rng.pick(&[TxId(0), next]);
+        self.try_each_call(unlisted);
+        if let Some(&id) = self.ids_listed(true).first() {
+            self.emit(Call::Precommit { id });
+            self.try_each_call(id);
+        }
+    }
+
+    /// Every call that is handed a state, on an unrecovered one.
+    pub fn unrecovered(&mut self) {
+        self.emit(Call::PowerFails);
+        self.emit(Call::Begin);
+        self.try_each_call(TxId(1));
+        let (groups, allowed) = (1, 9_000);
+        self.emit(Call::Flush { groups, allowed });
+        self.emit(Call::Checkpoint { allowed });
         self.recover(50);
     }
 

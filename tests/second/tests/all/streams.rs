@@ -27,8 +27,8 @@ fn demand_3_holds_on_every_kind() {
 }
 
 #[test]
-fn the_mixed_stream_reaches_every_number() {
-    let reached = stats(&stream(1, 4_000, Kind::Mixed));
+fn the_gates_stream_reaches_every_number() {
+    let reached = stats(&stream(4, 4_000, Kind::Mixed));
     for what in [
         "1 begin refused=02",
         "1 begin refused=11",
@@ -63,6 +63,7 @@ fn the_mixed_stream_reaches_every_number() {
         "10 restart refused=03",
         "10 restart refused=04",
         "10 restart refused=05",
+        "0 unknown done",
         "7 flush allowed 0\n",
         "7 flush allowed 0 of 0",
         "7 flush allowed 1\n",
