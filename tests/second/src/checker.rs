@@ -4,13 +4,25 @@
 use crate::layout::{LOG, LOG_LEN, MEMORY_LEN, TAIL_LEN};
 use crate::ledger::{Committed, Ledger};
 use crate::log::{read_log, Csn, Group};
+use crate::needs::stores_of;
 use crate::restart::restart;
-use crate::trace::{calls, Call, World};
+use crate::trace::{calls, Answer, Call, Outcome, World};
+
+/// Where the current is taken to fail.
+#[derive(Clone, Copy, Debug, PartialEq, Eq)]
+pub enum Failures {
+    /// Between calls, and where the stream's own allowances cut a call.
+    Given,
+    /// Also after every single store of every call.
+    EveryStore,
+}
 
 /// How far a stream was checked.
 #[derive(Clone, Copy, Debug, Default, PartialEq, Eq)]
 pub struct Checked {
     pub records: usize,
+    /// Further failures tried after a store inside a call.
+    pub inside: usize,
     /// The stream has a damage record, and the check ended before it.
     pub damaged: bool,
     /// Transactions durable at the end.
@@ -18,7 +30,7 @@ pub struct Checked {
 }
 
 /// Checks demand 3 after every record up to the first damage record.
-pub fn check(stream: &[u8]) -> Result<Checked, String> {
+pub fn check(stream: &[u8], failures: Failures) -> Result<Checked, String> {
     let mut world = World::fresh();
     let mut ledger = Ledger::default();
     let mut expected = Expected::default();
@@ -28,20 +40,75 @@ pub fn check(stream: &[u8]) -> Result<Checked, String> {
             checked.damaged = true;
             break;
         }
+        let at = |fault| format!("record {} ({call:?}): {fault}", checked.records);
+        if failures == Failures::EveryStore {
+            checked.inside += check_inside(&world, &ledger, &expected, &call).map_err(at)?;
+        }
         let outcome = world.run(&call);
         ledger.feed(&call, &outcome);
         expected.lay_up_to(&ledger.durable);
-        check_ledger(&ledger)
-            .and_then(|()| check_disk(&world.disk, &ledger.durable, &expected))
-            .map_err(|fault| format!("record {} ({call:?}): {fault}", checked.records))?;
+        check_all(&world.disk, &ledger, &expected).map_err(at)?;
         checked.records += 1;
     }
     checked.durable = ledger.durable.len();
     Ok(checked)
 }
 
+/// Checks demand 3 for a failure after each store of the call; where a store
+/// leaves the disk as it was and the ledger too, there is nothing new to check.
+fn check_inside(
+    world: &World,
+    ledger: &Ledger,
+    expected: &Expected,
+    call: &Call,
+) -> Result<usize, String> {
+    let mut disk = world.disk.clone();
+    let mut tried = 0;
+    for (turn, (offset, byte)) in stores_of(world, call)
+        .unwrap_or_default()
+        .iter()
+        .enumerate()
+    {
+        if disk[*offset] == *byte && !matches!(call, Call::Flush { .. }) {
+            continue;
+        }
+        disk[*offset] = *byte;
+        let (mut ledger, mut expected) = (ledger.clone(), expected.clone());
+        ledger.feed(&allowing(call, turn + 1), &CUT);
+        expected.lay_up_to(&ledger.durable);
+        check_all(&disk, &ledger, &expected).map_err(|f| format!("store {turn}: {f}"))?;
+        tried += 1;
+    }
+    Ok(tried)
+}
+
+const CUT: Outcome = Outcome {
+    answer: Answer::Cut,
+    value: 0,
+    stores: 0,
+};
+
+/// The same call with other stores allowed.
+fn allowing(call: &Call, allowed: usize) -> Call {
+    match call {
+        Call::Flush { groups, .. } => Call::Flush {
+            groups: *groups,
+            allowed,
+        },
+        Call::Checkpoint { .. } => Call::Checkpoint { allowed },
+        Call::Restart { .. } => Call::Restart { allowed },
+        other => other.clone(),
+    }
+}
+
+fn check_all(disk: &[u8], ledger: &Ledger, expected: &Expected) -> Result<(), String> {
+    check_ledger(ledger)?;
+    check_disk(disk, &ledger.durable, expected)
+}
+
 /// Zeros with the writes of the durable transactions laid over them. The
 /// durable ones only ever grow, so each is laid once.
+#[derive(Clone)]
 struct Expected {
     memory: Vec<u8>,
     laid: usize,

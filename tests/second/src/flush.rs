@@ -61,13 +61,14 @@ impl State {
     }
 }
 
-fn flush_stores(log_end: usize, bytes: &[u8]) -> Vec<Store> {
+/// A flush's stores: byte after byte at the log's end.
+pub fn flush_stores(log_end: usize, bytes: &[u8]) -> Vec<Store> {
     let offsets = LOG + log_end..;
     offsets.zip(bytes.iter().copied()).collect()
 }
 
-/// Into A if the pointer byte is 0 or 2, else into B.
-fn checkpoint_stores(pointer: u8, image: &[u8]) -> Vec<Store> {
+/// A checkpoint's stores: into A if the pointer byte is 0 or 2, else into B.
+pub fn checkpoint_stores(pointer: u8, image: &[u8]) -> Vec<Store> {
     let (slot, named) = match pointer {
         0 | 2 => (IMAGE_A, 1),
         _ => (IMAGE_B, 2),

@@ -21,6 +21,7 @@ impl Committed {
 }
 
 /// An entry of the queue.
+#[derive(Clone)]
 enum Entry {
     Committed(Committed),
     /// Document 01: blank.
@@ -37,12 +38,13 @@ impl Entry {
 }
 
 /// An open transaction (document 01: open sheet) and its writes in order.
+#[derive(Clone)]
 struct Open {
     id: TxId,
     writes: Vec<Write>,
 }
 
-#[derive(Default)]
+#[derive(Clone, Default)]
 pub struct Ledger {
     open: Vec<Open>,
     queue: Vec<Entry>,

@@ -3,6 +3,7 @@
 use std::io::{Read, Write};
 use std::process::ExitCode;
 
+use second::checker::Failures;
 use second::gen::{stream, Kind, KINDS};
 use second::restart::{disklist, equal_in_meaning};
 use second::{checker, stats, trace};
@@ -13,8 +14,9 @@ second disklist                    one disk on standard input
 second equal A B                   are the disks in two files equal in meaning: yes or no
 second gen SEED RECORDS [KIND]     a stream of records (KIND: mixed if none)
 second kinds                       the kinds, each with 'damaged', 'undamaged' or 'long'
-second check                       demand 3 after every record of a stream, up to the
-                                   first damage record
+second check [every-store]         demand 3 after every record of a stream, up to the
+                                   first damage record; every-store: also after each
+                                   store inside a call
 second stats                       what a stream reaches
 ";
 
@@ -44,7 +46,8 @@ fn run(words: &[&str]) -> Result<Vec<u8>, String> {
         ["gen", seed, records] => generate(seed, records, "mixed"),
         ["gen", seed, records, kind] => generate(seed, records, kind),
         ["kinds"] => Ok(kinds().into()),
-        ["check"] => check(),
+        ["check"] => check(Failures::Given),
+        ["check", "every-store"] => check(Failures::EveryStore),
         ["stats"] => Ok(stats::stats(&input()?).into()),
         _ => Err(USAGE.to_string()),
     }
@@ -80,16 +83,17 @@ fn kinds() -> String {
         .collect()
 }
 
-fn check() -> Result<Vec<u8>, String> {
-    let checked = checker::check(&input()?)?;
+fn check(failures: Failures) -> Result<Vec<u8>, String> {
+    let checked = checker::check(&input()?, failures)?;
     let extent = if checked.damaged {
         ", up to the first damage"
     } else {
         ""
     };
     let text = format!(
-        "demand 3 holds after each of {} records{extent}; {} durable at the end\n",
-        checked.records, checked.durable
+        "demand 3 holds after each of {} records{extent} and {} failures inside calls; \
+         {} durable at the end\n",
+        checked.records, checked.inside, checked.durable
     );
     Ok(text.into())
 }

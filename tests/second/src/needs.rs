@@ -1,28 +1,38 @@
-//! How many stores a call needs, found before it is run.
+//! The stores of a call, found before it is run.
 
+use crate::flush::{checkpoint_stores, flush_stores};
 use crate::image;
-use crate::layout::LOG_LEN;
+use crate::layout::POINTER;
 use crate::log::Group;
-use crate::restart::recover;
+use crate::restart::{clear_stores, recover};
+use crate::stores::Store;
 use crate::trace::{Call, World};
 
-/// The stores that the call needs; none if it would be refused or makes no
-/// stores at all.
-pub fn stores_needed(world: &World, call: &Call) -> Option<usize> {
-    let tail = || world.state.admit(&world.memory, &world.tail).ok();
+/// The call's stores in order, were it given enough; none if it would be
+/// refused or is no call that stores.
+pub fn stores_of(world: &World, call: &Call) -> Option<Vec<Store>> {
+    let state = &world.state;
+    let tail = || state.admit(&world.memory, &world.tail).ok();
     match call {
         Call::Flush { groups, .. } => {
-            let tail = tail()?;
-            Some(tail.groups.iter().take(*groups).map(Group::size).sum())
+            let sizes = tail()?.groups.into_iter().map(|group| Group::size(&group));
+            let size = sizes.take(*groups).sum();
+            Some(flush_stores(state.log_end, &world.tail[..size]))
         }
         Call::Checkpoint { .. } => {
             tail()?;
-            Some(image::encode(&world.state, &world.memory).len() + 1)
+            let image = image::encode(state, &world.memory);
+            Some(checkpoint_stores(world.disk[POINTER], &image))
         }
         Call::Restart { .. } => {
             let found = recover(&world.disk).ok()?;
-            Some(LOG_LEN - found.state.log_end)
+            Some(clear_stores(found.state.log_end))
         }
         _ => None,
     }
+}
+
+/// How many they are.
+pub fn stores_needed(world: &World, call: &Call) -> Option<usize> {
+    stores_of(world, call).map(|stores| stores.len())
 }

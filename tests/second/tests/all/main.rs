@@ -2,6 +2,7 @@
 
 mod cases;
 mod excerpt;
+mod ledger;
 mod number2;
 mod restart;
 mod rig;

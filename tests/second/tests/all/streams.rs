@@ -1,6 +1,6 @@
 //! The generator and the checker of demand 3.
 
-use second::checker::{check, Checked};
+use second::checker::{check, Checked, Failures};
 use second::gen::{stream, Kind, KINDS};
 use second::stats::stats;
 use second::trace::{trace, RECORD_LEN};
@@ -19,11 +19,18 @@ fn a_seed_gives_one_stream_of_the_length_asked_for() {
 #[test]
 fn demand_3_holds_on_every_kind() {
     for (kind, name) in KINDS {
-        let checked = check(&stream(11, 800, kind)).unwrap_or_else(|e| panic!("{name}: {e}"));
+        let checked = check(&stream(11, 800, kind), Failures::Given);
+        let checked = checked.unwrap_or_else(|fault| panic!("{name}: {fault}"));
         assert_eq!(checked.damaged, kind.group() == "damaged", "{name}");
         assert!(checked.damaged || checked.records == 800);
     }
-    assert_eq!(check(&[]), Ok(Checked::default()));
+    assert_eq!(check(&[], Failures::Given), Ok(Checked::default()));
+}
+
+#[test]
+fn demand_3_holds_after_every_store() {
+    let checked = check(&stream(12, 300, Kind::Plain), Failures::EveryStore);
+    assert!(checked.is_ok_and(|checked| checked.inside > 100));
 }
 
 #[test]
