@@ -1,0 +1,157 @@
+//! The calls that store nothing on disk: document 01, "The nine calls" and
+//! "Numbers in checking order". A refusal leaves everything untouched.
+
+use crate::layout::{range_ok, LOG_LEN, MAX_TXS, MAX_UNDOS};
+use crate::log::{undo, Csn, Group, Log, Record, TxId, Write, COMMIT_SIZE};
+use crate::state::{Refusal, State, Status, Tx};
+
+const HIGHEST_ID: TxId = TxId(u16::MAX);
+
+impl State {
+    /// Begin: gives the last id plus 1.
+    pub fn begin(&mut self, memory: &[u8], tail: &[u8]) -> Result<TxId, Refusal> {
+        let groups = self.admit(memory, tail)?;
+        if self.txs.len() == MAX_TXS {
+            return Err(11);
+        }
+        if self.last_id == HIGHEST_ID {
+            return Err(12);
+        }
+        if self.room_used(groups.end) + COMMIT_SIZE > LOG_LEN {
+            return Err(13);
+        }
+        self.last_id = TxId(self.last_id.0 + 1);
+        self.txs.push(Tx::begun(self.last_id));
+        Ok(self.last_id)
+    }
+
+    /// Write: an undo record with the old bytes, a redo record, then memory.
+    pub fn write(
+        &mut self,
+        memory: &mut [u8],
+        tail: &[u8],
+        id: TxId,
+        address: usize,
+        bytes: &[u8],
+    ) -> Result<(), Refusal> {
+        let (groups, index) = self.find_range(memory, tail, id, address, bytes.len())?;
+        if self.txs[index].undo.len() == MAX_UNDOS {
+            return Err(10);
+        }
+        let new = Write {
+            address,
+            bytes: bytes.to_vec(),
+        };
+        if self.room_used(groups.end) + new.redo_size() > LOG_LEN {
+            return Err(13);
+        }
+        let old = memory[address..address + bytes.len()].to_vec();
+        self.txs[index].undo.push(Write {
+            address,
+            bytes: old,
+        });
+        new.lay(memory);
+        self.txs[index].redo.push(new);
+        Ok(())
+    }
+
+    /// Read: the part of memory itself, empty when refused.
+    pub fn read<'a>(
+        &self,
+        memory: &'a [u8],
+        tail: &[u8],
+        id: TxId,
+        address: usize,
+        length: usize,
+    ) -> &'a [u8] {
+        match self.check_read(memory, tail, id, address, length) {
+            Ok(()) => &memory[address..address + length],
+            Err(_) => &memory[0..0],
+        }
+    }
+
+    /// Read's sister: the number of a read with the same arguments.
+    pub fn check_read(
+        &self,
+        memory: &[u8],
+        tail: &[u8],
+        id: TxId,
+        address: usize,
+        length: usize,
+    ) -> Result<(), Refusal> {
+        self.find_range(memory, tail, id, address, length)?;
+        Ok(())
+    }
+
+    /// Precommit: assigns the next csn, appends the group to the tail.
+    pub fn precommit(&mut self, memory: &[u8], tail: &mut [u8], id: TxId) -> Result<Csn, Refusal> {
+        let (groups, index) = self.find_running(memory, tail, id)?;
+        let csn = self.csn_assigned.next().ok_or(12)?;
+        let tx = &mut self.txs[index];
+        tx.status = Status::Committing;
+        tx.csn = csn;
+        let writes = std::mem::take(&mut tx.redo);
+        let group = Group::Commit { id, csn, writes };
+        append(tail, groups.end, &group.encode());
+        self.csn_assigned = csn;
+        Ok(csn)
+    }
+
+    /// Abort: undoes newest first, appends the abort record, drops the
+    /// transaction.
+    pub fn abort(&mut self, memory: &mut [u8], tail: &mut [u8], id: TxId) -> Result<(), Refusal> {
+        let (groups, index) = self.find_running(memory, tail, id)?;
+        let tx = self.txs.remove(index);
+        undo(&tx.undo, memory);
+        append(tail, groups.end, &Record::Abort(id).encode());
+        Ok(())
+    }
+
+    /// Settle: drops a committing transaction whose csn is on disk.
+    pub fn settle(&mut self, memory: &[u8], tail: &[u8], id: TxId) -> Result<(), Refusal> {
+        self.admit(memory, tail)?;
+        let index = self.find(id).ok_or(6)?;
+        let tx = &self.txs[index];
+        if tx.is_running() || tx.csn > self.csn_on_disk {
+            return Err(14);
+        }
+        self.txs.remove(index);
+        Ok(())
+    }
+
+    /// Numbers 1, 2, 6 and 7: the place of a running transaction in the list.
+    fn find_running(&self, memory: &[u8], tail: &[u8], id: TxId) -> Result<(Log, usize), Refusal> {
+        let groups = self.admit(memory, tail)?;
+        let index = self.find(id).ok_or(6)?;
+        if !self.txs[index].is_running() {
+            return Err(7);
+        }
+        Ok((groups, index))
+    }
+
+    /// Numbers 1, 2 and 6 to 9, as write and read share them.
+    fn find_range(
+        &self,
+        memory: &[u8],
+        tail: &[u8],
+        id: TxId,
+        address: usize,
+        length: usize,
+    ) -> Result<(Log, usize), Refusal> {
+        let (groups, index) = self.find_running(memory, tail, id)?;
+        if !range_ok(address, length) {
+            return Err(8);
+        }
+        let mut others = self.txs.iter().filter(|tx| tx.id != id);
+        if others.any(|tx| tx.holds_any_of(address, length)) {
+            return Err(9);
+        }
+        Ok((groups, index))
+    }
+}
+
+/// Puts the bytes at the tail's end; the log room of a running transaction
+/// has kept place for them.
+fn append(tail: &mut [u8], end: usize, bytes: &[u8]) {
+    tail[end..end + bytes.len()].copy_from_slice(bytes);
+}

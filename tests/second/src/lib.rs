@@ -1,0 +1,19 @@
+//! Document 01 a second time, written from the document alone: the store,
+//! restart, disklist, equal in meaning, the ledger, a checker of demand 3, and
+//! a generator of streams for comparing two programs from the outside.
+
+pub mod calls;
+pub mod checker;
+pub mod flush;
+pub mod gen;
+pub mod image;
+pub mod layout;
+pub mod ledger;
+pub mod log;
+pub mod needs;
+pub mod restart;
+pub mod rng;
+pub mod state;
+pub mod stats;
+pub mod stores;
+pub mod trace;

@@ -1,0 +1,219 @@
+//! Log records, groups and the log's end: document 01, "Disk, memory, tail".
+
+use crate::layout::{be16, be32, range_ok};
+
+/// A transaction id. 0 is no transaction's id.
+#[derive(Clone, Copy, Debug, Default, PartialEq, Eq, PartialOrd, Ord)]
+pub struct TxId(pub u16);
+
+/// A commit sequence number (document 01: commit number).
+#[derive(Clone, Copy, Debug, Default, PartialEq, Eq, PartialOrd, Ord)]
+pub struct Csn(pub u32);
+
+impl Csn {
+    /// The next one; after the highest there is none.
+    pub fn next(self) -> Option<Csn> {
+        self.0.checked_add(1).map(Csn)
+    }
+}
+
+/// Bytes for a range of memory: new ones in a redo record, old ones in an
+/// undo record.
+#[derive(Clone, Debug, PartialEq, Eq)]
+pub struct Write {
+    pub address: usize,
+    pub bytes: Vec<u8>,
+}
+
+impl Write {
+    /// Lays the bytes over memory.
+    pub fn lay(&self, memory: &mut [u8]) {
+        memory[self.address..self.address + self.bytes.len()].copy_from_slice(&self.bytes);
+    }
+
+    /// The size of a redo record with these bytes.
+    pub fn redo_size(&self) -> usize {
+        7 + self.bytes.len()
+    }
+
+    pub fn covers_any_of(&self, address: usize, length: usize) -> bool {
+        self.address < address + length && address < self.address + self.bytes.len()
+    }
+}
+
+/// Undoes the records: newest first, the old bytes come back.
+pub fn undo(records: &[Write], memory: &mut [u8]) {
+    for record in records.iter().rev() {
+        record.lay(memory);
+    }
+}
+
+#[derive(Clone, Debug, PartialEq, Eq)]
+pub enum Record {
+    Redo(TxId, Write),
+    Commit(TxId, Csn),
+    Abort(TxId),
+}
+
+pub const REDO: u8 = 1;
+pub const COMMIT: u8 = 2;
+pub const ABORT: u8 = 3;
+pub const COMMIT_SIZE: usize = 8;
+pub const ABORT_SIZE: usize = 4;
+
+impl Record {
+    pub fn encode(&self) -> Vec<u8> {
+        match self {
+            Record::Redo(id, write) => {
+                let mut out = vec![REDO];
+                out.extend(id.0.to_be_bytes());
+                out.extend((write.address as u16).to_be_bytes());
+                out.push(write.bytes.len() as u8);
+                out.extend(&write.bytes);
+                out.push(REDO);
+                out
+            }
+            Record::Commit(id, csn) => {
+                let mut out = vec![COMMIT];
+                out.extend(id.0.to_be_bytes());
+                out.extend(csn.0.to_be_bytes());
+                out.push(COMMIT);
+                out
+            }
+            Record::Abort(id) => {
+                let id = id.0.to_be_bytes();
+                vec![ABORT, id[0], id[1], ABORT]
+            }
+        }
+    }
+}
+
+/// The well-formed record at the front of the bytes, and its size.
+pub fn read_record(bytes: &[u8]) -> Option<(Record, usize)> {
+    let kind = *bytes.first()?;
+    let size = match kind {
+        REDO => 7 + *bytes.get(5)? as usize,
+        COMMIT => COMMIT_SIZE,
+        ABORT => ABORT_SIZE,
+        _ => return None,
+    };
+    let bytes = bytes.get(..size)?;
+    let id = TxId(be16(&bytes[1..]));
+    if bytes[size - 1] != kind || id.0 == 0 {
+        return None;
+    }
+    let record = match kind {
+        REDO => {
+            let address = be16(&bytes[3..]) as usize;
+            let new = bytes[6..size - 1].to_vec();
+            if !range_ok(address, new.len()) {
+                return None;
+            }
+            let write = Write {
+                address,
+                bytes: new,
+            };
+            Record::Redo(id, write)
+        }
+        COMMIT => Record::Commit(id, Csn(be32(&bytes[3..]))),
+        _ => Record::Abort(id),
+    };
+    Some((record, size))
+}
+
+#[derive(Clone, Debug, PartialEq, Eq)]
+pub enum Group {
+    Commit {
+        id: TxId,
+        csn: Csn,
+        writes: Vec<Write>,
+    },
+    Abort {
+        id: TxId,
+    },
+}
+
+impl Group {
+    pub fn id(&self) -> TxId {
+        match self {
+            Group::Commit { id, .. } | Group::Abort { id } => *id,
+        }
+    }
+
+    pub fn encode(&self) -> Vec<u8> {
+        match self {
+            Group::Commit { id, csn, writes } => {
+                let mut out = Vec::new();
+                for write in writes {
+                    out.extend(Record::Redo(*id, write.clone()).encode());
+                }
+                out.extend(Record::Commit(*id, *csn).encode());
+                out
+            }
+            Group::Abort { id } => Record::Abort(*id).encode(),
+        }
+    }
+
+    pub fn size(&self) -> usize {
+        match self {
+            Group::Commit { writes, .. } => {
+                writes.iter().map(Write::redo_size).sum::<usize>() + COMMIT_SIZE
+            }
+            Group::Abort { .. } => ABORT_SIZE,
+        }
+    }
+}
+
+/// The whole group at the front of the bytes, `previous` being the csn
+/// before it.
+pub fn read_group(bytes: &[u8], previous: Csn) -> Option<Group> {
+    let mut at = 0;
+    let mut writes = Vec::new();
+    let mut owner = None;
+    loop {
+        let (record, size) = read_record(&bytes[at..])?;
+        at += size;
+        match record {
+            Record::Redo(id, write) => {
+                if owner.is_some_and(|first| first != id) {
+                    return None;
+                }
+                owner = Some(id);
+                writes.push(write);
+            }
+            Record::Commit(id, csn) => {
+                let one_id = owner.is_none_or(|first| first == id);
+                let goes_on = previous.next() == Some(csn);
+                return (one_id && goes_on).then_some(Group::Commit { id, csn, writes });
+            }
+            Record::Abort(id) => return writes.is_empty().then_some(Group::Abort { id }),
+        }
+    }
+}
+
+/// What a reading of log bytes finds.
+#[derive(Clone, Debug, PartialEq, Eq)]
+pub struct Log {
+    pub groups: Vec<Group>,
+    /// Where the log ends, counted from the first byte read.
+    pub end: usize,
+    /// The last csn found, or the previous one if no commit was read.
+    pub last: Csn,
+}
+
+/// Reads groups up to the first place where no whole group stands.
+pub fn read_log(bytes: &[u8], previous: Csn) -> Log {
+    let mut log = Log {
+        groups: Vec::new(),
+        end: 0,
+        last: previous,
+    };
+    while let Some(group) = read_group(&bytes[log.end..], log.last) {
+        log.end += group.size();
+        if let Group::Commit { csn, .. } = group {
+            log.last = csn;
+        }
+        log.groups.push(group);
+    }
+    log
+}

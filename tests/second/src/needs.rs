@@ -1,0 +1,38 @@
+//! The stores of a call, found before it is run.
+
+use crate::flush::{checkpoint_stores, flush_stores};
+use crate::image;
+use crate::layout::POINTER;
+use crate::log::Group;
+use crate::restart::{clear_stores, recover};
+use crate::stores::Store;
+use crate::trace::{Call, World};
+
+/// The call's stores in order, were it given enough; none if it would be
+/// refused or is no call that stores.
+pub fn stores_of(world: &World, call: &Call) -> Option<Vec<Store>> {
+    let state = &world.state;
+    let tail = || state.admit(&world.memory, &world.tail).ok();
+    match call {
+        Call::Flush { groups, .. } => {
+            let sizes = tail()?.groups.into_iter().map(|group| Group::size(&group));
+            let size = sizes.take(*groups).sum();
+            Some(flush_stores(state.log_end, &world.tail[..size]))
+        }
+        Call::Checkpoint { .. } => {
+            tail()?;
+            let image = image::encode(state, &world.memory);
+            Some(checkpoint_stores(world.disk[POINTER], &image))
+        }
+        Call::Restart { .. } => {
+            let found = recover(&world.disk).ok()?;
+            Some(clear_stores(found.state.log_end))
+        }
+        _ => None,
+    }
+}
+
+/// How many they are.
+pub fn stores_needed(world: &World, call: &Call) -> Option<usize> {
+    stores_of(world, call).map(|stores| stores.len())
+}

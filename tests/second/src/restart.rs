@@ -1,0 +1,191 @@
+//! Restart: document 01, "Restart", its six steps; disklist and "equal in
+//! meaning".
+
+use std::cmp::Reverse;
+
+use crate::image;
+use crate::layout::{
+    DISK_LEN, IMAGE_A, IMAGE_B, IMAGE_LEN, LOG, LOG_LEN, MEMORY_LEN, POINTER, TAIL_LEN,
+};
+use crate::log::{read_log, undo, Csn, Group, Record, TxId, ABORT_SIZE};
+use crate::state::{Refusal, State, Tx};
+use crate::stores::{cut_off, make_stores, Store, Stored};
+
+/// What restart finds on a disk by steps 1 to 5.
+#[derive(Clone, Debug, PartialEq, Eq)]
+pub struct Recovery {
+    pub memory: Vec<u8>,
+    pub state: State,
+    /// The transactions undone in step 4, in that order.
+    pub undone: Vec<TxId>,
+}
+
+/// A transaction of the image on the way through the log.
+struct Listed {
+    tx: Tx,
+    finished: bool,
+}
+
+impl Listed {
+    fn unfinished(tx: Tx) -> Listed {
+        let finished = false;
+        Listed { tx, finished }
+    }
+}
+
+/// Steps 1 to 5 for a disk of the right length; numbers 3, 4 and 5.
+pub fn recover(disk: &[u8]) -> Result<Recovery, Refusal> {
+    let (image, mut memory) = named_image(disk)?;
+    let log = read_log(&disk[LOG + image.log_end..], image.csn_on_disk);
+    let end = image.log_end + log.end;
+
+    let mut listed: Vec<Listed> = image.txs.into_iter().map(Listed::unfinished).collect();
+    for group in &log.groups {
+        apply(group, &mut listed, &mut memory);
+    }
+    let undone = undo_unfinished(&listed, log.last, &mut memory);
+    if end + ABORT_SIZE * undone.len() > LOG_LEN {
+        return Err(5);
+    }
+
+    let ids_read = log.groups.iter().map(Group::id);
+    let state = State {
+        recovered: true,
+        log_end: end,
+        csn_on_disk: log.last,
+        csn_assigned: log.last,
+        last_id: ids_read.fold(image.last_id, TxId::max),
+        txs: Vec::new(),
+    };
+    Ok(Recovery {
+        memory,
+        state,
+        undone,
+    })
+}
+
+/// Step 1: the image that the pointer byte names.
+fn named_image(disk: &[u8]) -> Result<(State, Vec<u8>), Refusal> {
+    let slot = match disk[POINTER] {
+        0 => return Ok((State::default(), vec![0; MEMORY_LEN])),
+        1 => IMAGE_A,
+        2 => IMAGE_B,
+        _ => return Err(3),
+    };
+    image::decode(&disk[slot..slot + IMAGE_LEN]).ok_or(4)
+}
+
+/// Step 3 for one group.
+fn apply(group: &Group, listed: &mut [Listed], memory: &mut [u8]) {
+    let id = group.id();
+    let entry = listed.iter_mut().find(|entry| entry.tx.id == id);
+    match group {
+        Group::Commit { writes, .. } => {
+            for write in writes {
+                write.lay(memory);
+            }
+            if let Some(entry) = entry {
+                entry.finished = true;
+            }
+        }
+        Group::Abort { .. } => {
+            if let Some(entry) = entry.filter(|entry| !entry.finished) {
+                undo(&entry.tx.undo, memory);
+                entry.finished = true;
+            }
+        }
+    }
+}
+
+/// Step 4: the running ones in image order, then the committing ones whose csn
+/// exceeds the last found, highest first. Gives their ids in that order.
+fn undo_unfinished(listed: &[Listed], last: Csn, memory: &mut [u8]) -> Vec<TxId> {
+    let unfinished = listed.iter().filter(|entry| !entry.finished);
+    let (running, mut lost): (Vec<&Tx>, Vec<&Tx>) = unfinished
+        .map(|entry| &entry.tx)
+        .partition(|tx| tx.is_running());
+    lost.retain(|tx| tx.csn > last);
+    lost.sort_by_key(|tx| Reverse(tx.csn));
+    let mut undone = Vec::new();
+    for tx in running.into_iter().chain(lost) {
+        undo(&tx.undo, memory);
+        undone.push(tx.id);
+    }
+    undone
+}
+
+/// Step 6: zero at every log place from the last down to the log's end.
+pub fn clear_stores(log_end: usize) -> Vec<Store> {
+    let cleared = LOG + log_end..LOG + LOG_LEN;
+    cleared.rev().map(|offset| (offset, 0)).collect()
+}
+
+/// How a restart went, when it was not refused.
+#[derive(Clone, Copy, Debug, PartialEq, Eq)]
+pub struct Restarted {
+    pub stored: Stored,
+    /// 0 when cut.
+    pub undone: usize,
+}
+
+/// Restart with the stores allowed. It takes no state and gives one.
+pub fn restart(
+    disk: &mut [u8],
+    memory: &mut [u8],
+    tail: &mut [u8],
+    allowed: usize,
+) -> (State, Result<Restarted, Refusal>) {
+    let mut state = State::default();
+    if disk.len() != DISK_LEN || memory.len() != MEMORY_LEN || tail.len() != TAIL_LEN {
+        return (state, Err(1));
+    }
+    memory.fill(0);
+    tail.fill(0);
+    let found = match recover(disk) {
+        Ok(found) => found,
+        Err(number) => return (state, Err(number)),
+    };
+    let stored = make_stores(disk, &clear_stores(found.state.log_end), allowed);
+    if stored.cut {
+        cut_off(&mut state, memory, tail);
+        return (state, Ok(Restarted { stored, undone: 0 }));
+    }
+    memory.copy_from_slice(&found.memory);
+    for (place, &id) in tail.chunks_exact_mut(ABORT_SIZE).zip(&found.undone) {
+        place.copy_from_slice(&Record::Abort(id).encode());
+    }
+    let undone = found.undone.len();
+    (found.state, Ok(Restarted { stored, undone }))
+}
+
+/// What program disklist prints for these bytes.
+pub fn disklist(disk: &[u8]) -> String {
+    let found = if disk.len() == DISK_LEN {
+        recover(disk)
+    } else {
+        Err(1)
+    };
+    match found {
+        Ok(found) => format!(
+            "pointer={}\nend={}\ncsn={}\nid={}\nundone={}\n",
+            disk[POINTER],
+            found.state.log_end,
+            found.state.csn_on_disk.0,
+            found.state.last_id.0,
+            found.undone.len()
+        ),
+        Err(number) => format!("refused={number}\n"),
+    }
+}
+
+/// Two disks are equal in meaning: restart, given stores enough, refuses
+/// neither and leaves the same memory.
+pub fn equal_in_meaning(one: &[u8], other: &[u8]) -> bool {
+    if one.len() != DISK_LEN || other.len() != DISK_LEN {
+        return false;
+    }
+    match (recover(one), recover(other)) {
+        (Ok(one), Ok(other)) => one.memory == other.memory,
+        _ => false,
+    }
+}

@@ -1,0 +1,119 @@
+//! What a stream reaches: counts of each call with each answer, and how the
+//! stores allowed compare with the stores needed.
+
+use std::collections::BTreeMap;
+
+use crate::needs::stores_needed;
+use crate::trace::{calls, Answer, Call, Outcome, World};
+
+const NAMES: [&str; 13] = [
+    "unknown",
+    "begin",
+    "write",
+    "read",
+    "check_read",
+    "precommit",
+    "abort",
+    "flush",
+    "settle",
+    "checkpoint",
+    "restart",
+    "power fails",
+    "damage",
+];
+
+/// Lines `count name`, sorted by name, then what the store grew to.
+pub fn stats(stream: &[u8]) -> String {
+    let mut counts: BTreeMap<String, usize> = BTreeMap::new();
+    let mut most = Most::default();
+    let mut world = World::fresh();
+    for call in calls(stream) {
+        let need = stores_needed(&world, &call);
+        let outcome = world.run(&call);
+        let name = call_name(&call);
+        let mut count = |what: String| *counts.entry(what).or_default() += 1;
+        count(format!("{name} {}", answer_name(&call, &outcome)));
+        if let Some(need) = need {
+            count(format!("{name} {}", allowance_name(&call, need)));
+        }
+        most.see(&world);
+    }
+    let mut out = String::new();
+    for (what, count) in counts {
+        out.push_str(&format!("{count:8} {what}\n"));
+    }
+    out + &most.lines()
+}
+
+fn call_name(call: &Call) -> String {
+    let place = call.number() as usize;
+    let name = NAMES.get(place).unwrap_or(&NAMES[0]);
+    format!("{:2} {name}", if *name == NAMES[0] { 0 } else { place })
+}
+
+fn answer_name(call: &Call, outcome: &Outcome) -> String {
+    match outcome.answer {
+        Answer::Done if matches!(call, Call::Restart { .. }) && outcome.value > 0 => {
+            "done, some undone".to_string()
+        }
+        Answer::Done => "done".to_string(),
+        Answer::Cut => "cut".to_string(),
+        Answer::Refused(number) => format!("refused={number:02}"),
+        Answer::Part(0) => "part=0".to_string(),
+        Answer::Part(_) => "part>0".to_string(),
+    }
+}
+
+/// The stores allowed, seen from the stores needed.
+fn allowance_name(call: &Call, need: usize) -> &'static str {
+    let (Call::Flush { allowed, .. } | Call::Checkpoint { allowed } | Call::Restart { allowed }) =
+        call
+    else {
+        return "allowed nothing";
+    };
+    match (*allowed, need) {
+        (0, 0) => "allowed 0 of 0",
+        (0, _) => "allowed 0",
+        (a, n) if a == n => "allowed need",
+        (a, n) if a == n + 1 => "allowed need + 1",
+        (a, n) if a > n => "allowed more",
+        (a, n) if a + 1 == n => "allowed need - 1",
+        (1, _) => "allowed 1",
+        _ => "allowed less",
+    }
+}
+
+/// The most that the store came to.
+#[derive(Default)]
+struct Most {
+    log_end: usize,
+    tail: usize,
+    tail_groups: usize,
+    room: usize,
+    txs: usize,
+    undos: usize,
+}
+
+impl Most {
+    fn see(&mut self, world: &World) {
+        let state = &world.state;
+        let Ok(tail) = state.admit(&world.memory, &world.tail) else {
+            return;
+        };
+        self.log_end = self.log_end.max(state.log_end);
+        self.tail = self.tail.max(tail.end);
+        self.tail_groups = self.tail_groups.max(tail.groups.len());
+        self.room = self.room.max(state.room_used(tail.end));
+        self.txs = self.txs.max(state.txs.len());
+        let undos = state.txs.iter().map(|tx| tx.undo.len()).max();
+        self.undos = self.undos.max(undos.unwrap_or(0));
+    }
+
+    fn lines(&self) -> String {
+        format!(
+            "{:8} most log end\n{:8} most tail bytes\n{:8} most tail groups\n\
+             {:8} most log room used\n{:8} most transactions\n{:8} most undo records\n",
+            self.log_end, self.tail, self.tail_groups, self.room, self.txs, self.undos
+        )
+    }
+}

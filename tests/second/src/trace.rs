@@ -1,0 +1,323 @@
+//! The stream of 64-byte records: parsing, running and printing one line each.
+
+use crate::layout::{be16, be32, DISK_LEN, MEMORY_LEN, TAIL_LEN};
+use crate::log::TxId;
+use crate::restart::restart;
+use crate::state::{Refusal, State};
+use crate::stores::Stored;
+
+pub const RECORD_LEN: usize = 64;
+pub const DATA: usize = 24;
+pub const MAX_DATA: usize = 40;
+
+/// What memory and tail are filled with when the current fails.
+const JUNK: u8 = 165;
+
+#[derive(Clone, Debug, PartialEq, Eq)]
+pub enum Call {
+    Begin,
+    Write {
+        id: TxId,
+        address: usize,
+        bytes: Vec<u8>,
+    },
+    Read {
+        id: TxId,
+        address: usize,
+        length: usize,
+    },
+    CheckRead {
+        id: TxId,
+        address: usize,
+        length: usize,
+    },
+    Precommit {
+        id: TxId,
+    },
+    Abort {
+        id: TxId,
+    },
+    Flush {
+        groups: usize,
+        allowed: usize,
+    },
+    Settle {
+        id: TxId,
+    },
+    Checkpoint {
+        allowed: usize,
+    },
+    Restart {
+        allowed: usize,
+    },
+    PowerFails,
+    Damage {
+        address: usize,
+        bytes: Vec<u8>,
+    },
+    Unknown {
+        number: u8,
+    },
+}
+
+impl Call {
+    pub fn parse(record: &[u8; RECORD_LEN]) -> Call {
+        let id = TxId(be16(&record[2..]));
+        let address = be32(&record[4..]) as usize;
+        let length = be32(&record[8..]) as usize;
+        let groups = be32(&record[12..]) as usize;
+        let allowed = be32(&record[16..]) as usize;
+        let count = (record[1] as usize).min(MAX_DATA);
+        let bytes = record[DATA..DATA + count].to_vec();
+        match record[0] {
+            1 => Call::Begin,
+            2 => Call::Write { id, address, bytes },
+            3 => Call::Read {
+                id,
+                address,
+                length,
+            },
+            4 => Call::CheckRead {
+                id,
+                address,
+                length,
+            },
+            5 => Call::Precommit { id },
+            6 => Call::Abort { id },
+            7 => Call::Flush { groups, allowed },
+            8 => Call::Settle { id },
+            9 => Call::Checkpoint { allowed },
+            10 => Call::Restart { allowed },
+            11 => Call::PowerFails,
+            12 => Call::Damage { address, bytes },
+            number => Call::Unknown { number },
+        }
+    }
+
+    pub fn number(&self) -> u8 {
+        match self {
+            Call::Begin => 1,
+            Call::Write { .. } => 2,
+            Call::Read { .. } => 3,
+            Call::CheckRead { .. } => 4,
+            Call::Precommit { .. } => 5,
+            Call::Abort { .. } => 6,
+            Call::Flush { .. } => 7,
+            Call::Settle { .. } => 8,
+            Call::Checkpoint { .. } => 9,
+            Call::Restart { .. } => 10,
+            Call::PowerFails => 11,
+            Call::Damage { .. } => 12,
+            Call::Unknown { number } => *number,
+        }
+    }
+}
+
+#[derive(Clone, Copy, Debug, PartialEq, Eq)]
+pub enum Answer {
+    Done,
+    Cut,
+    Refused(Refusal),
+    /// Read's answer: the length of the part.
+    Part(usize),
+}
+
+/// What a call gave back, as far as the ledger and the lines need it.
+#[derive(Clone, Copy, Debug, PartialEq, Eq)]
+pub struct Outcome {
+    pub answer: Answer,
+    /// Begin's id, precommit's csn, restart's count of transactions undone,
+    /// the Adler-32 of read's part, else 0.
+    pub value: u32,
+    pub stores: usize,
+}
+
+impl Outcome {
+    fn of_value(result: Result<u32, Refusal>) -> Outcome {
+        let (answer, value) = match result {
+            Ok(value) => (Answer::Done, value),
+            Err(number) => (Answer::Refused(number), 0),
+        };
+        Outcome {
+            answer,
+            value,
+            stores: 0,
+        }
+    }
+
+    fn of_stored(result: Result<(Stored, usize), Refusal>) -> Outcome {
+        match result {
+            Ok((stored, value)) => Outcome {
+                answer: if stored.cut {
+                    Answer::Cut
+                } else {
+                    Answer::Done
+                },
+                value: value as u32,
+                stores: stored.stores,
+            },
+            Err(number) => Outcome::of_value(Err(number)),
+        }
+    }
+
+    fn of_part(part: &[u8]) -> Outcome {
+        Outcome {
+            answer: Answer::Part(part.len()),
+            value: adler32(part),
+            stores: 0,
+        }
+    }
+}
+
+/// The three buffers and the state, handed from call to call.
+#[derive(Clone)]
+pub struct World {
+    pub disk: Vec<u8>,
+    pub memory: Vec<u8>,
+    pub tail: Vec<u8>,
+    pub state: State,
+}
+
+impl World {
+    /// Disk, memory and tail zero, the state unrecovered.
+    pub fn fresh() -> World {
+        World {
+            disk: vec![0; DISK_LEN],
+            memory: vec![0; MEMORY_LEN],
+            tail: vec![0; TAIL_LEN],
+            state: State::default(),
+        }
+    }
+
+    pub fn run(&mut self, call: &Call) -> Outcome {
+        let World {
+            disk,
+            memory,
+            tail,
+            state,
+        } = self;
+        match call {
+            Call::Begin => Outcome::of_value(state.begin(memory, tail).map(|id| id.0 as u32)),
+            Call::Write { id, address, bytes } => {
+                let result = state.write(memory, tail, *id, *address, bytes);
+                Outcome::of_value(result.map(|()| 0))
+            }
+            Call::Read {
+                id,
+                address,
+                length,
+            } => Outcome::of_part(state.read(memory, tail, *id, *address, *length)),
+            Call::CheckRead {
+                id,
+                address,
+                length,
+            } => {
+                let result = state.check_read(memory, tail, *id, *address, *length);
+                Outcome::of_value(result.map(|()| 0))
+            }
+            Call::Precommit { id } => {
+                Outcome::of_value(state.precommit(memory, tail, *id).map(|csn| csn.0))
+            }
+            Call::Abort { id } => Outcome::of_value(state.abort(memory, tail, *id).map(|()| 0)),
+            Call::Flush { groups, allowed } => {
+                let result = state.flush(disk, memory, tail, *groups, *allowed);
+                Outcome::of_stored(result.map(|stored| (stored, 0)))
+            }
+            Call::Settle { id } => Outcome::of_value(state.settle(memory, tail, *id).map(|()| 0)),
+            Call::Checkpoint { allowed } => {
+                let result = state.checkpoint(disk, memory, tail, *allowed);
+                Outcome::of_stored(result.map(|stored| (stored, 0)))
+            }
+            Call::Restart { allowed } => {
+                let (new, result) = restart(disk, memory, tail, *allowed);
+                *state = new;
+                Outcome::of_stored(result.map(|done| (done.stored, done.undone)))
+            }
+            Call::PowerFails => {
+                memory.fill(JUNK);
+                tail.fill(JUNK);
+                *state = State::default();
+                Outcome::of_value(Ok(0))
+            }
+            Call::Damage { address, bytes } => {
+                for (offset, byte) in (*address..disk.len()).zip(bytes) {
+                    disk[offset] = *byte;
+                }
+                Outcome::of_value(Ok(0))
+            }
+            Call::Unknown { .. } => Outcome::of_value(Ok(0)),
+        }
+    }
+
+    /// The line for a call just run.
+    pub fn line(&self, call: &Call, outcome: &Outcome) -> String {
+        if let Call::Unknown { .. } = call {
+            return "unknown".to_string();
+        }
+        let answer = match outcome.answer {
+            Answer::Done => "done".to_string(),
+            Answer::Cut => "cut".to_string(),
+            Answer::Refused(number) => format!("refused={number}"),
+            Answer::Part(length) => format!("part={length}"),
+        };
+        format!(
+            "{} {} {} {} {} {} {} {}",
+            call.number(),
+            answer,
+            outcome.value,
+            outcome.stores,
+            adler32(&self.disk),
+            adler32(&self.memory),
+            adler32(&self.tail),
+            state_field(&self.state)
+        )
+    }
+}
+
+fn state_field(state: &State) -> String {
+    format!(
+        "{},{},{},{},{},{}",
+        state.recovered as u8,
+        state.log_end,
+        state.csn_on_disk.0,
+        state.csn_assigned.0,
+        state.last_id.0,
+        state.txs.len()
+    )
+}
+
+/// Adler-32 of RFC 1950.
+pub fn adler32(bytes: &[u8]) -> u32 {
+    const MODULUS: u32 = 65_521;
+    // As many bytes as can be summed before a u32 could overflow.
+    const STRETCH: usize = 5_552;
+    let (mut a, mut b) = (1u32, 0u32);
+    for stretch in bytes.chunks(STRETCH) {
+        for &byte in stretch {
+            a += byte as u32;
+            b += a;
+        }
+        a %= MODULUS;
+        b %= MODULUS;
+    }
+    b << 16 | a
+}
+
+/// The calls of a stream; an incomplete last record is ignored.
+pub fn calls(stream: &[u8]) -> impl Iterator<Item = Call> + '_ {
+    stream
+        .chunks_exact(RECORD_LEN)
+        .map(|record| Call::parse(record.try_into().expect("64 bytes")))
+}
+
+/// All lines for a stream, from a fresh world.
+pub fn trace(stream: &[u8]) -> String {
+    let mut world = World::fresh();
+    let mut out = String::new();
+    for call in calls(stream) {
+        let outcome = world.run(&call);
+        out.push_str(&world.line(&call, &outcome));
+        out.push('\n');
+    }
+    out
+}

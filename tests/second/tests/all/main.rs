@@ -1,0 +1,9 @@
+//! Tests of the second program.
+
+mod cases;
+mod excerpt;
+mod ledger;
+mod number2;
+mod restart;
+mod rig;
+mod streams;
