@@ -1,0 +1,159 @@
+-- Lists: a property of every element, `any`, `filter`, and properties of every first part.
+use mathlib.Core.Path.{_≡_, refl, sym, ap, _∙_, subst}
+use mathlib.Core.Logic.{_≢_}
+use mathlib.Core.Bool.{Bool, true, false, not, cond, _||_, _&&_}
+use mathlib.Core.List.{List, [], _∷_, _++_, reverse, reverse-cons, append-nil}
+use Prim.Native.Nat.{ℕ, zero, suc}
+use lib.Dec.{eqb}
+use lib.ListN.{take, drop}
+use lib.Seq.{take-nil}
+use Rattle.recovery.specs.Lists.{All, nil, cons, any, filter, has}
+use Rattle.recovery.proofs.Bool.{clash, eqb-no, eqb-ne, or-left, or-right, or-both}
+
+module _ {A : Type 0} where
+  -- every element
+
+  pub all-map : {p q : A → Type 0} {xs : List A} → ((x : A) → p x → q x) → All p xs → All q xs
+  all-map f nil = nil
+  all-map f (cons h hs) = cons (f _ h) (all-map f hs)
+
+  pub all-zip : {p q : A → Type 0} {xs : List A} → All p xs → All q xs → All (λ x. p x × q x) xs
+  all-zip nil nil = nil
+  all-zip (cons h hs) (cons k ks) = cons (h, k) (all-zip hs ks)
+
+  pub all-append : {p : A → Type 0} {xs ys : List A} → All p xs → All p ys → All p (xs ++ ys)
+  all-append nil k = k
+  all-append (cons h hs) k = cons h (all-append hs k)
+
+  pub all-left : {p : A → Type 0} (xs ys : List A) → All p (xs ++ ys) → All p xs
+  all-left [] ys h = nil
+  all-left (x ∷ xs) ys (cons h hs) = cons h (all-left xs ys hs)
+
+  pub all-right : {p : A → Type 0} (xs : List A) {ys : List A} → All p (xs ++ ys) → All p ys
+  all-right [] h = h
+  all-right (x ∷ xs) (cons h hs) = all-right xs hs
+
+  pub all-reverse : {p : A → Type 0} {xs : List A} → All p xs → All p (reverse xs)
+  all-reverse nil = nil
+  all-reverse (cons h hs) = rw reverse-cons (all-append (all-reverse hs) (cons h nil))
+
+  -- of one element and the others
+
+  pub all-here : {p : A → Type 0} (xs : List A) (r : A) (ys : List A) → All p (xs ++ r ∷ ys) → p r
+  all-here [] r ys (cons h hs) = h
+  all-here (x ∷ xs) r ys (cons h hs) = all-here xs r ys hs
+
+  pub all-less : {p : A → Type 0} (xs : List A) (r : A) (ys : List A) → All p (xs ++ r ∷ ys) → All p (xs ++ ys)
+  all-less [] r ys (cons h hs) = hs
+  all-less (x ∷ xs) r ys (cons h hs) = cons h (all-less xs r ys hs)
+
+  pub all-more : {p : A → Type 0} (xs : List A) (r : A) (ys : List A) → p r → All p (xs ++ ys) → All p (xs ++ r ∷ ys)
+  all-more [] r ys k h = cons k h
+  all-more (x ∷ xs) r ys k (cons h hs) = cons h (all-more xs r ys k hs)
+
+  pub all-edit : {p : A → Type 0} (xs : List A) (r r′ : A) (ys : List A) → (p r → p r′) → All p (xs ++ r ∷ ys) → All p (xs ++ r′ ∷ ys)
+  all-edit xs r r′ ys f h = all-more xs r′ ys (f (all-here xs r ys h)) (all-less xs r ys h)
+
+  -- any
+
+  pub any-none : (p : A → Bool) {xs : List A} → All (λ x. p x ≡ false) xs → any p xs ≡ false
+  any-none p nil = refl
+  any-none p (cons {x} {xs} h hs) = or-both (p x) (any p xs) h (any-none p hs)
+
+  pub none-any : (p : A → Bool) (xs : List A) → any p xs ≡ false → All (λ x. p x ≡ false) xs
+  none-any p [] h = nil
+  none-any p (x ∷ xs) h = cons (or-left (p x) (any p xs) h) (none-any p xs (or-right (p x) (any p xs) h))
+
+  -- filter
+
+  pub filter-append : (p : A → Bool) (xs ys : List A) → filter p (xs ++ ys) ≡ filter p xs ++ filter p ys
+  filter-append p [] ys = refl
+  filter-append p (x ∷ xs) ys = go (p x) (filter-append p xs ys)
+    where
+      go : (b : Bool) → filter p (xs ++ ys) ≡ filter p xs ++ filter p ys → cond b (x ∷ filter p (xs ++ ys)) (filter p (xs ++ ys)) ≡ cond b (x ∷ filter p xs) (filter p xs) ++ filter p ys
+      go true e = ap (λ (l : List A). x ∷ l) e
+      go false e = e
+
+  pub filter-in : (p : A → Bool) (xs : List A) (r : A) (ys : List A) → p r ≡ true → filter p (xs ++ r ∷ ys) ≡ filter p xs ++ r ∷ filter p ys
+  filter-in p xs r ys e = filter-append p xs (r ∷ ys) ∙ ap (λ (b : Bool). filter p xs ++ cond b (r ∷ filter p ys) (filter p ys)) e
+
+  pub filter-out : (p : A → Bool) (xs : List A) (r : A) (ys : List A) → p r ≡ false → filter p (xs ++ r ∷ ys) ≡ filter p xs ++ filter p ys
+  filter-out p xs r ys e = filter-append p xs (r ∷ ys) ∙ ap (λ (b : Bool). filter p xs ++ cond b (r ∷ filter p ys) (filter p ys)) e
+
+  pub filter-all : (p : A → Bool) {xs : List A} → All (λ x. p x ≡ true) xs → filter p xs ≡ xs
+  filter-all p nil = refl
+  filter-all p (cons {x} h hs) = rw h (ap (λ (l : List A). x ∷ l) (filter-all p hs))
+
+  pub filter-none : (p : A → Bool) {xs : List A} → All (λ x. p x ≡ false) xs → filter p xs ≡ []
+  filter-none p nil = refl
+  filter-none p (cons h hs) = rw h (filter-none p hs)
+
+  -- one test after another
+  pub filter-filter : (p q r : A → Bool) → ((x : A) → (q x && p x) ≡ r x) → (xs : List A) → filter p (filter q xs) ≡ filter r xs
+  filter-filter p q r f [] = refl
+  filter-filter p q r f (x ∷ xs) = go (q x) refl (p x) refl (filter-filter p q r f xs)
+    where
+      go : (b : Bool) → q x ≡ b → (c : Bool) → p x ≡ c → filter p (filter q xs) ≡ filter r xs → filter p (filter q (x ∷ xs)) ≡ filter r (x ∷ xs)
+      go true e true g ih = rw (e, g, ← f x, e, g) (ap (λ (l : List A). x ∷ l) ih)
+      go true e false g ih = rw (e, g, ← f x, e, g) ih
+      go false e c g ih = rw (e, ← f x, e) ih
+
+  pub all-filter : {q : A → Type 0} (p : A → Bool) {xs : List A} → All q xs → All q (filter p xs)
+  all-filter p nil = nil
+  all-filter {q} p (cons {x} {xs} h hs) = go (p x) (all-filter p hs)
+    where
+      go : (b : Bool) → All q (filter p xs) → All q (cond b (x ∷ filter p xs) (filter p xs))
+      go true k = cons h k
+      go false k = k
+
+  pub all-unfilter : {q : A → Type 0} (p : A → Bool) (xs : List A) → All q (filter p xs) → All (λ x. p x ≡ true → q x) xs
+  all-unfilter p [] h = nil
+  all-unfilter {q} p (x ∷ xs) h = go (p x) refl h (λ k. all-unfilter p xs k)
+    where
+      go : (b : Bool) → p x ≡ b → All q (cond b (x ∷ filter p xs) (filter p xs)) → (All q (filter p xs) → All (λ y. p y ≡ true → q y) xs) → All (λ y. p y ≡ true → q y) (x ∷ xs)
+      go true e (cons k ks) f = cons (λ _. k) (f ks)
+      go false e k f = cons (λ e′. absurd (clash e′ e)) (f k)
+
+  -- a property of those that pass, from one of all that pass
+  pub all-passing : {q : A → Type 0} (p : A → Bool) {xs : List A} → All (λ x. p x ≡ true → q x) xs → All q (filter p xs)
+  all-passing p nil = nil
+  all-passing {q} p (cons {x} {xs} h hs) = go (p x) refl (all-passing p hs)
+    where
+      go : (b : Bool) → p x ≡ b → All q (filter p xs) → All q (cond b (x ∷ filter p xs) (filter p xs))
+      go true e k = cons (h e) k
+      go false e k = k
+
+-- membership of a number
+
+pub absent : {i : ℕ} {js : List ℕ} → All (λ j. i ≢ j) js → has i js ≡ false
+absent {i} h = any-none (λ j. eqb i j) (all-map (λ j n. eqb-no i j n) h)
+
+pub not-in : (i : ℕ) (js : List ℕ) → has i js ≡ false → All (λ j. i ≢ j) js
+not-in i js h = all-map (λ j e. eqb-ne i j e) (none-any (λ j. eqb i j) js h)
+
+-- every first part of a list has a property
+
+abbrev pub EveryPrefix : {A : Type 0} → (List A → Type 0) → List A → Type 0
+EveryPrefix p xs = (q : ℕ) → p (take q xs)
+
+module _ {A : Type 0} where
+  pub prefix-whole : (p : List A → Type 0) (xs : List A) → EveryPrefix p xs → p xs
+  prefix-whole p [] h = h 0
+  prefix-whole p (x ∷ xs) h = prefix-whole (λ l. p (x ∷ l)) xs (λ q. h (suc q))
+
+  pub prefix-left : (p : List A → Type 0) (xs ys : List A) → EveryPrefix p (xs ++ ys) → EveryPrefix p xs
+  prefix-left p [] ys h q = subst p (sym (take-nil q)) (h 0)
+  prefix-left p (x ∷ xs) ys h zero = h zero
+  prefix-left p (x ∷ xs) ys h (suc q) = prefix-left (λ l. p (x ∷ l)) xs ys (λ k. h (suc k)) q
+
+  pub prefix-append : (p : List A → Type 0) (xs ys : List A) → EveryPrefix p xs → ((q : ℕ) → p (xs ++ take q ys)) → EveryPrefix p (xs ++ ys)
+  prefix-append p [] ys h k q = k q
+  prefix-append p (x ∷ xs) ys h k zero = h zero
+  prefix-append p (x ∷ xs) ys h k (suc q) = prefix-append (λ l. p (x ∷ l)) xs ys (λ j. h (suc j)) k q
+
+  pub prefix-snoc : (p : List A → Type 0) (xs : List A) (y : A) → EveryPrefix p xs → p (xs ++ (y ∷ [])) → EveryPrefix p (xs ++ (y ∷ []))
+  prefix-snoc p xs y h k = prefix-append p xs (y ∷ []) h each
+    where
+      each : (q : ℕ) → p (xs ++ take q (y ∷ []))
+      each zero = subst p (sym (append-nil xs)) (prefix-whole p xs h)
+      each (suc q) = subst (λ (l : List A). p (xs ++ (y ∷ l))) (sym (take-nil q)) k

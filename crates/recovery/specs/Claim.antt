@@ -1,0 +1,40 @@
+-- Demand 3 on the abstract store: what a restart with stores enough does on this disk, against the ledger.
+use Prim.Native.Nat.{ℕ, suc, _+_, _*_, _≤_}
+use mathlib.Core.Path.{_≡_}
+use mathlib.Core.List.{List, [], _∷_, _++_, List·Memᴰ}
+use lib.ListN.{length}
+use Rattle.recovery.specs.Group.{Group, committed, aborted, groupsSize}
+use Rattle.recovery.specs.Lists.{All}
+use Rattle.recovery.specs.Replay.{redoAll, layBytes}
+use Rattle.recovery.specs.Ledger.{Commit, Ledger}
+use Rattle.recovery.specs.Machine.{Setup, Disk, undoneBy, recovered}
+
+-- the commits of a log
+abbrev pub commits : List Group → List Commit
+commits [] = []
+commits (committed i n ws ∷ gs) = record { id = i; csn = n; writes = ws } ∷ commits gs
+commits (aborted i ∷ gs) = commits gs
+
+-- committed transactions laid over a memory, one after the other, each one's writes in order
+abbrev pub layCommits : List Commit → List ℕ → List ℕ
+layCommits [] m = m
+layCommits (c ∷ cs) m = layCommits cs (redoAll layBytes (c .writes) m)
+
+-- the commit numbers go on from n
+abbrev pub Numbered : ℕ → List Commit → Type 0
+Numbered n [] = Unit {0}
+Numbered n (c ∷ cs) = (c .csn ≡ suc n) × Numbered (suc n) cs
+
+pub record Claim (o : Setup) (d : Disk) (l : Ledger) : Type 0 where
+  -- one more restart leaves the starting memory with the writes of the durable ones laid over it
+  pub restores : recovered d ≡ layCommits (l .durable) (o .memory)
+  -- the log, read from its first byte, has as its commits exactly the durable ones in order, with ids, numbers and writes
+  pub logged : commits (d .before ++ d .after) ≡ l .durable
+  -- the numbers being 1, 2, 3 and on, or what follows the starting one
+  pub numbered : Numbered (o .csn) (l .durable)
+  -- the durable ones are the first so many assigned
+  pub first : (rest : List Commit) × (l .assigned ≡ l .durable ++ rest)
+  -- each settled one is among them
+  pub settled : All (λ c. List·Memᴰ c (l .durable)) (l .settled)
+  -- the restart isn't refused: number 5 finds room for its abort records
+  pub fits : groupsSize (d .before ++ d .after) + 4 * length (undoneBy d) ≤ o .capacity

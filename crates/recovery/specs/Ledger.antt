@@ -1,0 +1,147 @@
+-- The ledger (document 01: the bench book): kept apart from the store and fed only the calls.
+use Prim.Native.Nat.{ℕ, _+_, _-_}
+use mathlib.Core.Bool.{not, cond}
+use mathlib.Core.List.{List, [], _∷_, _++_, map}
+use mathlib.Core.Option.{Option, none, some}
+use lib.ListN.{length, take, drop, replicate}
+use lib.Dec.{eqb, leb}
+use Rattle.recovery.specs.Group.{Write, redoSize}
+use Rattle.recovery.specs.Lists.{filter}
+
+-- an open transaction (an open sheet): its id and its write set, in order
+pub record OpenTx : Type 0 where
+  pub id : ℕ
+  pub writes : List Write
+
+-- a committed transaction (a booking)
+pub record Commit : Type 0 where
+  pub id : ℕ
+  pub csn : ℕ
+  pub writes : List Write
+
+-- what is queued: a committed transaction, or an abort entry (a blank)
+pub data Entry : Type 0 where
+  commit : Commit → Entry
+  abort : Entry
+
+-- active: the open transactions; durable: kept; assigned: in force
+pub record Ledger : Type 0 where
+  pub active : List OpenTx
+  pub queue : List Entry
+  pub durable : List Commit
+  pub assigned : List Commit
+  pub settled : List Commit
+
+-- all empty at first
+abbrev pub noLedger : Ledger
+noLedger = record { active = []; queue = []; durable = []; assigned = []; settled = [] }
+
+abbrev pub entrySize : Entry → ℕ
+entrySize (commit c) = redoSize (c .writes) + 8
+entrySize abort = 4
+
+-- the first entries, as many as have sizes that, summed from the front, stay within n
+abbrev pub fittingEntries : ℕ → List Entry → List Entry
+fittingEntries n [] = []
+fittingEntries n (e ∷ es) = cond (leb (entrySize e) n) (e ∷ fittingEntries (n - entrySize e) es) []
+
+abbrev pub committedIn : List Entry → List Commit
+committedIn [] = []
+committedIn (commit c ∷ es) = c ∷ committedIn es
+committedIn (abort ∷ es) = committedIn es
+
+-- by id: the write set, the other open transactions, one more write
+abbrev pub writesOf : ℕ → List OpenTx → List Write
+writesOf i [] = []
+writesOf i (s ∷ ss) = cond (eqb i (s .id)) (s .writes) (writesOf i ss)
+
+abbrev pub others : ℕ → List OpenTx → List OpenTx
+others i ss = filter (λ s. not (eqb i (s .id))) ss
+
+abbrev pub addWrite : ℕ → Write → OpenTx → OpenTx
+addWrite i w s = cond (eqb i (s .id)) (record { id = s .id; writes = s .writes ++ (w ∷ []) }) s
+
+abbrev pub orElse : Option Commit → Option Commit → Option Commit
+orElse none y = y
+orElse (some c) y = some c
+
+-- the latest of an id
+abbrev pub latest : ℕ → List Commit → Option Commit
+latest i [] = none
+latest i (c ∷ cs) = orElse (latest i cs) (cond (eqb i (c .id)) (some c) none)
+
+abbrev pub toList : Option Commit → List Commit
+toList none = []
+toList (some c) = c ∷ []
+
+-- What the ledger is fed: a call that was done, with its arguments, begin's id, the commit number that precommit assigned and
+-- restart's count of transactions undone; or `cut`, a call that was cut.
+-- `unchanged` is a call that is refused or has no rule: a read, its sister, a checkpoint. A checkpoint or restart that was cut is
+-- `cut unchanged`: its own step does no more than `cut` does.
+pub data Event : Type 0 where
+  unchanged : Event
+  begun : (id : ℕ) → Event
+  wrote : (id : ℕ) → Write → Event
+  precommitted : (id csn : ℕ) → Event
+  rolledBack : (id : ℕ) → Event
+  flushed : (count allowed : ℕ) → Event
+  settled : (id : ℕ) → Event
+  restarted : (undone : ℕ) → Event
+  cut : Event → Event
+
+abbrev pub withActive : List OpenTx → Ledger → Ledger
+withActive ss l = record { active = ss; queue = l .queue; durable = l .durable; assigned = l .assigned; settled = l .settled }
+
+-- Begin: an empty write set with the id given.
+abbrev pub enterBegun : ℕ → Ledger → Ledger
+enterBegun i l = withActive (l .active ++ (record { id = i; writes = [] } ∷ [])) l
+
+-- Write: address and bytes go last in that id's write set.
+abbrev pub enterWrote : ℕ → Write → Ledger → Ledger
+enterWrote i w l = withActive (map (addWrite i w) (l .active)) l
+
+-- Precommit: the write set goes last in the queue, as a committed transaction with that number; it is assigned from now on.
+abbrev pub enterPrecommitted : ℕ → ℕ → Ledger → Ledger
+enterPrecommitted i n l =
+    let c : Commit = record { id = i; csn = n; writes = writesOf i (l .active) } in
+    record { active = others i (l .active); queue = l .queue ++ (commit c ∷ []); durable = l .durable; assigned = l .assigned ++ (c ∷ []); settled = l .settled }
+
+-- Abort: the write set goes; an abort entry goes last in the queue.
+abbrev pub enterRolledBack : ℕ → Ledger → Ledger
+enterRolledBack i l =
+    record { active = others i (l .active); queue = l .queue ++ (abort ∷ []); durable = l .durable; assigned = l .assigned; settled = l .settled }
+
+-- the first entries leave the queue, the committed ones among them to the end of the durable
+abbrev pub leave : List Entry → Ledger → Ledger
+leave es l =
+    record { active = l .active; queue = drop (length es) (l .queue); durable = l .durable ++ committedIn es; assigned = l .assigned; settled = l .settled }
+
+-- Flush k: take the first k entries, or all if fewer. Those whose sizes, summed from the front, stay within the stores allowed
+-- leave the queue.
+abbrev pub enterFlushed : ℕ → ℕ → Ledger → Ledger
+enterFlushed k allowed l = leave (fittingEntries allowed (take k (l .queue))) l
+
+-- Settle: the latest of that id, durable or queued, is settled for good.
+abbrev pub enterSettled : ℕ → Ledger → Ledger
+enterSettled i l =
+    record { active = l .active; queue = l .queue; durable = l .durable; assigned = l .assigned; settled = l .settled ++ toList (latest i (l .durable ++ committedIn (l .queue))) }
+
+-- Restart, done: open transactions and queue are emptied; an abort entry is queued for each transaction undone. The durable ones
+-- are those assigned.
+abbrev pub enterRestarted : ℕ → Ledger → Ledger
+enterRestarted undone l = record { active = []; queue = replicate undone abort; durable = l .durable; assigned = l .durable; settled = l .settled }
+
+-- Cut, whatever the call: open transactions and queue are emptied after its step.
+abbrev pub emptied : Ledger → Ledger
+emptied l = record { active = []; queue = []; durable = l .durable; assigned = l .assigned; settled = l .settled }
+
+abbrev pub enter : Event → Ledger → Ledger
+enter unchanged l = l
+enter (begun i) l = enterBegun i l
+enter (wrote i w) l = enterWrote i w l
+enter (precommitted i n) l = enterPrecommitted i n l
+enter (rolledBack i) l = enterRolledBack i l
+enter (flushed k allowed) l = enterFlushed k allowed l
+enter (settled i) l = enterSettled i l
+enter (restarted undone) l = enterRestarted undone l
+enter (cut e) l = emptied (enter e l)

@@ -1,0 +1,161 @@
+-- The abstract store: disk and live state without bytes, what each call does to them, and the calls as steps.
+use Prim.Native.Nat.{ℕ, suc, _+_, _≤_, _<_}
+use mathlib.Core.Path.{_≡_}
+use mathlib.Core.Bool.{Bool, true, false}
+use mathlib.Core.List.{List, [], _∷_, _++_}
+use mathlib.Core.Option.{Option, none, some}
+use lib.ListN.{length, take, drop, replicate, length-replicate}
+use Rattle.recovery.specs.Group.{Write, Group, committed, aborted, groupsSize, lastCsn, fitting}
+use Rattle.recovery.specs.Lists.{All}
+use Rattle.recovery.specs.Transaction.{Tx, running, lookup, edit, remove, heldByOther, reserved}
+use Rattle.recovery.specs.Replay.{undoAll, layBytes}
+use Rattle.recovery.specs.Restart.{groupId, undone, aborts, recover}
+use Rattle.recovery.specs.Ledger.{Event, unchanged, begun, wrote, precommitted, rolledBack, flushed, settled, restarted, cut, Ledger, noLedger, enter}
+
+-- What a history starts from: the length of memory, the bytes that the log can take, and an image's memory and last commit
+-- number, with no transaction.
+pub record Setup : Type 0 where
+  pub size : ℕ
+  pub capacity : ℕ
+  pub memory : List ℕ
+  pub csn : ℕ
+  pub whole : length memory ≡ size
+
+-- a fresh disk: zeros, and commit numbers from 1 on
+abbrev pub fresh : ℕ → ℕ → Setup
+fresh size capacity = record { size = size; capacity = capacity; memory = replicate size 0; csn = 0; whole = length-replicate size 0 }
+
+-- what recovery needs of a checkpoint image; csn: the last commit number on disk
+pub record Image : Type 0 where
+  pub txs : List Tx
+  pub memory : List ℕ
+  pub csn : ℕ
+
+-- the image in use and the groups of the log, those before the image's place and those after it
+pub record Disk : Type 0 where
+  pub image : Image
+  pub before : List Group
+  pub after : List Group
+
+-- csn: the last commit number on disk; lastId: the last id given
+pub record Live : Type 0 where
+  pub txs : List Tx
+  pub memory : List ℕ
+  pub tail : List Group
+  pub csn : ℕ
+  pub lastId : ℕ
+
+-- down: nothing but the disk lasts, the state is unrecovered
+pub data System : Type 0 where
+  down : Disk → System
+  up : Disk → Live → System
+
+abbrev pub diskOf : System → Disk
+diskOf (down d) = d
+diskOf (up d l) = d
+
+abbrev pub startDisk : Setup → Disk
+startDisk o = record { image = record { txs = []; memory = o .memory; csn = o .csn }; before = []; after = [] }
+
+-- r is what the list has under its id
+abbrev pub Listed : Tx → List Tx → Type 0
+Listed r txs = lookup (r .id) txs ≡ some r
+
+-- Log room used = log end + tail length + for each running transaction its redo bytes + 8.
+abbrev pub roomUsed : Disk → Live → ℕ
+roomUsed d l = groupsSize (d .before ++ d .after) + groupsSize (l .tail) + reserved (running (l .txs))
+
+-- the last commit number assigned
+abbrev pub lastAssigned : Live → ℕ
+lastAssigned l = lastCsn (l .csn) (l .tail)
+
+-- Begin: gives the last id plus 1.
+abbrev pub newTx : ℕ → Tx
+newTx i = record { id = i; committing = false; csn = 0; undo = []; redo = [] }
+
+abbrev pub afterBegin : Live → Live
+afterBegin l = record { txs = l .txs ++ (newTx (suc (l .lastId)) ∷ []); memory = l .memory; tail = l .tail; csn = l .csn; lastId = suc (l .lastId) }
+
+-- Write of r: adds an undo record with the old bytes and a redo record to the transaction's own lists, then changes memory.
+abbrev pub oldBytes : Write → List ℕ → Write
+oldBytes w m = record { addr = w .addr; bytes = take (length (w .bytes)) (drop (w .addr) m) }
+
+abbrev pub withWrite : Write → Write → Tx → Tx
+withWrite old new t = record { id = t .id; committing = t .committing; csn = t .csn; undo = t .undo ++ (old ∷ []); redo = t .redo ++ (new ∷ []) }
+
+abbrev pub afterWrite : Tx → Write → Live → Live
+afterWrite r w l =
+    record { txs = edit (r .id) (withWrite (oldBytes w (l .memory)) w) (l .txs); memory = layBytes w (l .memory); tail = l .tail; csn = l .csn; lastId = l .lastId }
+
+-- Precommit of r: assigns the next commit number, appends the group to the tail, marks the transaction committing. Its redo list
+-- is emptied, its undo list stays.
+abbrev pub inCommit : ℕ → Tx → Tx
+inCommit n t = record { id = t .id; committing = true; csn = n; undo = t .undo; redo = [] }
+
+abbrev pub afterPrecommit : Tx → Live → Live
+afterPrecommit r l =
+    let n : ℕ = suc (lastCsn (l .csn) (l .tail)) in
+    record { txs = edit (r .id) (inCommit n) (l .txs); memory = l .memory; tail = l .tail ++ (committed (r .id) n (r .redo) ∷ []); csn = l .csn; lastId = l .lastId }
+
+-- Abort of r: undoes newest first, appends the abort record, drops the transaction.
+abbrev pub afterAbort : Tx → Live → Live
+afterAbort r l =
+    record { txs = remove (r .id) (l .txs); memory = undoAll layBytes (r .undo) (l .memory); tail = l .tail ++ (aborted (r .id) ∷ []); csn = l .csn; lastId = l .lastId }
+
+-- groups of the tail stored at the log's end
+abbrev pub storing : List Group → Disk → Disk
+storing gs d = record { image = d .image; before = d .before; after = d .after ++ gs }
+
+-- Flush k: stores the first k groups of the tail, or all if fewer; the commit number on disk becomes that of the last commit
+-- stored, if any.
+abbrev pub afterFlush : ℕ → Live → Live
+afterFlush k l = record { txs = l .txs; memory = l .memory; tail = drop k (l .tail); csn = lastCsn (l .csn) (take k (l .tail)); lastId = l .lastId }
+
+-- Settle of r: drops a committing transaction.
+abbrev pub afterSettle : Tx → Live → Live
+afterSettle r l = record { txs = remove (r .id) (l .txs); memory = l .memory; tail = l .tail; csn = l .csn; lastId = l .lastId }
+
+-- Checkpoint: the image is the live state, and the whole log stands before it.
+abbrev pub afterCheckpoint : Disk → Live → Disk
+afterCheckpoint d l = record { image = record { txs = l .txs; memory = l .memory; csn = l .csn }; before = d .before ++ d .after; after = [] }
+
+-- Restart: what it undoes, the memory it leaves, and the live state, up to the last id.
+abbrev pub undoneBy : Disk → List Tx
+undoneBy d = undone (d .image .txs) (d .image .csn) (d .after)
+
+abbrev pub recovered : Disk → List ℕ
+recovered d = recover layBytes (d .image .txs) (d .image .csn) (d .after) (d .image .memory)
+
+abbrev pub afterRestart : Disk → ℕ → Live
+afterRestart d lastId = record { txs = []; memory = recovered d; tail = aborts (undoneBy d); csn = lastCsn (d .image .csn) (d .after); lastId = lastId }
+
+-- One call: the system before, what the ledger is told, the system after. A premise is what keeps the call from being refused, so
+-- far as recovery depends on it.
+module _ (o : Setup) where
+  pub data Step : System → Event → System → Type 0 where
+    -- a refused call, a read or its sister
+    stays : (s : System) → Step s unchanged s
+    begins : (d : Disk) (l : Live) → roomUsed d l + 8 ≤ o .capacity → Step (up d l) (begun (suc (l .lastId))) (up d (afterBegin l))
+    writes : (d : Disk) (l : Live) (r : Tx) (w : Write) → Listed r (l .txs) → r .committing ≡ false → w .addr + length (w .bytes) ≤ o .size
+        → heldByOther (r .id) w (l .txs) ≡ false → roomUsed d l + (7 + length (w .bytes)) ≤ o .capacity → Step (up d l) (wrote (r .id) w) (up d (afterWrite r w l))
+    precommits : (d : Disk) (l : Live) (r : Tx) → Listed r (l .txs) → r .committing ≡ false
+        → Step (up d l) (precommitted (r .id) (suc (lastAssigned l))) (up d (afterPrecommit r l))
+    rollsBack : (d : Disk) (l : Live) (r : Tx) → Listed r (l .txs) → r .committing ≡ false → Step (up d l) (rolledBack (r .id)) (up d (afterAbort r l))
+    -- the groups need no more stores than are allowed; or they do, and those that were stored whole stand on disk
+    flushes : (d : Disk) (l : Live) (k allowed : ℕ) → groupsSize (take k (l .tail)) ≤ allowed
+        → Step (up d l) (flushed k allowed) (up (storing (take k (l .tail)) d) (afterFlush k l))
+    flushIsCut : (d : Disk) (l : Live) (k allowed : ℕ) → allowed < groupsSize (take k (l .tail))
+        → Step (up d l) (cut (flushed k allowed)) (down (storing (fitting allowed (take k (l .tail))) d))
+    settles : (d : Disk) (l : Live) (r : Tx) → Listed r (l .txs) → r .committing ≡ true → r .csn ≤ l .csn → Step (up d l) (settled (r .id)) (up d (afterSettle r l))
+    -- until its last store, the pointer byte, a checkpoint leaves the old image in use
+    checkpoints : (d : Disk) (l : Live) → Step (up d l) unchanged (up (afterCheckpoint d l) l)
+    checkpointIsCut : (d : Disk) (l : Live) → Step (up d l) (cut unchanged) (down d)
+    -- from any system: the current may fail between two calls. The last id is at least each id in the image and in the groups read.
+    restarts : (s : System) (lastId : ℕ) → All (λ t. t .id ≤ lastId) (diskOf s .image .txs) → All (λ g. groupId g ≤ lastId) (diskOf s .after)
+        → Step s (restarted (length (undoneBy (diskOf s)))) (up (diskOf s) (afterRestart (diskOf s) lastId))
+    restartIsCut : (s : System) → Step s (cut unchanged) (down (diskOf s))
+
+  -- any list of calls, with the ledger that is fed them
+  pub data Run : System → Ledger → Type 0 where
+    opened : Run (down (startDisk o)) noLedger
+    next : {s t : System} {l : Ledger} {e : Event} → Run s l → Step s e t → Run t (enter e l)
