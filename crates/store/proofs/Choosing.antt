@@ -87,7 +87,7 @@ listed-slot s id cs z =
       | yes q ↦ q
       | no q ↦ let f : any (hasId id) (txsOf s) ≡ false = x .unlisted (omega (arith, q, x .high)) in let z : _≡_ {A = ℕ} 0 1 = cc in absurd (omega arith)
     ] in
-    (l, eqb-true _ _ (x .there (omega arith)), p .1)
+    (l, sym (eqb-true _ _ (x .there (omega arith))), p .1)
 
 pub running : (s : State) (id : ℕ) (cs : List Check) → firstNumber (check6 s id ∷ check7 s id ∷ cs) ≡ 0 → Running s id × (firstNumber cs ≡ 0)
 running s id cs z =

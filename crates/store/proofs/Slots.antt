@@ -36,15 +36,34 @@ pub record Slot (s : State) (id i k j : ℕ) (found : Bool) : Type 0 where
   pub listed : j < i + k → found ≡ true
   pub unlisted : j ≡ i + k → found ≡ false
   pub there : j < i + k → hasId id (txAt s j) ≡ true
+  pub before : (x : ℕ) → i ≤ x → x < j → hasId id (txAt s x) ≡ false
 
 slot-from : (s : State) (id k i : ℕ) → Slot s id i k (slotIn id i (upFrom (txAt s) k i)) (any (hasId id) (upFrom (txAt s) k i))
 slot-from s id zero i =
-    record { low = omega arith; high = omega arith; listed = λ h. absurd (omega arith); unlisted = λ h. refl; there = λ h. absurd (omega arith) }
+    record {
+      low = omega arith;
+      high = omega arith;
+      listed = λ h. absurd (omega arith);
+      unlisted = λ h. refl;
+      there = λ h. absurd (omega arith);
+      before = λ x a b. absurd (omega arith);
+    }
 slot-from s id (suc k) i = go (hasId id (txAt s i)) refl (slot-from s id k (suc i))
   where
+    at-or-after : (x d : ℕ) → x - i ≡ d → i ≤ x → hasId id (txAt s i) ≡ false → (suc i ≤ x → hasId id (txAt s x) ≡ false) → hasId id (txAt s x) ≡ false
+    at-or-after x zero q a e later = let z : x ≡ i = omega arith in rw z e
+    at-or-after x (suc d) q a e later = later (omega arith)
+
     go : (b : Bool) → hasId id (txAt s i) ≡ b → {j : ℕ} {found : Bool} → Slot s id (suc i) k j found → Slot s id i (suc k) (cond b i j) (b || found)
     go true e later =
-        record { low = omega arith; high = omega arith; listed = λ h. refl; unlisted = λ h. absurd (omega arith); there = λ h. e }
+        record {
+          low = omega arith;
+          high = omega arith;
+          listed = λ h. refl;
+          unlisted = λ h. absurd (omega arith);
+          there = λ h. e;
+          before = λ x a b. absurd (omega arith);
+        }
     go false e later =
         record {
           low = omega (arith, later .low);
@@ -52,6 +71,7 @@ slot-from s id (suc k) i = go (hasId id (txAt s i)) refl (slot-from s id k (suc 
           listed = λ h. later .listed (omega arith);
           unlisted = λ h. later .unlisted (omega arith);
           there = λ h. later .there (omega arith);
+          before = λ x a b. at-or-after x (x - i) refl a e (λ h. later .before x h b);
         }
 
 pub slot : (s : State) (id : ℕ) → Slot s id 0 (s .count) (slotOf s id) (any (hasId id) (txsOf s))

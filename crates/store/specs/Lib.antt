@@ -6,3 +6,4 @@ pub mod Admission
 pub mod Numbers
 pub mod Steps
 pub mod Calls
+pub mod View

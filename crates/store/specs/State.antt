@@ -41,7 +41,7 @@ abbrev pub outlinesOf : State → List Outline
 outlinesOf s = upFrom (outlineAt s) (s .count) 0
 
 abbrev pub hasId : ℕ → Tx → Bool
-hasId id t = eqb (t .id .0) id
+hasId id t = eqb id (t .id .0)
 
 -- the slot of the first transaction of this id, of those from slot i on; past the last if it isn't there
 abbrev pub slotIn : ℕ → ℕ → List Tx → ℕ

@@ -52,7 +52,7 @@ impl State {
         let n = self.count as usize;
         let mut i: usize = 0;
         while i < n {
-            if self.txs[i].id.0 == id.0 {
+            if id.0 == self.txs[i].id.0 {
                 return i;
             }
             i += 1;

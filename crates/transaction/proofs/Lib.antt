@@ -2,3 +2,4 @@
 pub mod Lists
 pub mod Ranges
 pub mod Writes
+pub mod Pushed
