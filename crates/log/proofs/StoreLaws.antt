@@ -1,5 +1,5 @@
 -- Laws of stores: runs of stores (`sets l i vs`, l with vs stored from i on), and the first so many stores of a list.
-use Prim.Native.Nat.{ℕ, zero, suc, _+_, _-_, _≤_, _<_, min}
+use Prim.Native.Nat.{ℕ, zero, suc, _+_, _-_, _≤_, _<_}
 use native.Mathlib.Nat.{add-zero, suc-add}
 use native.Mathlib.Numerals.{add-one, towards-suc}
 use native.Mathlib.Omega.{arith}
@@ -7,7 +7,6 @@ use mathlib.Core.List.{List, [], _∷_, _++_}
 use mathlib.Core.Path.{_≡_, refl, sym, ap, _∙_}
 use lib.ListN.{length, take, drop, getD, set, replicate, length-set, take-append-drop}
 use lib.Seq.{sets, take-suc, take-nil, length-take-le, take-set-le, drop-set-lt, drop-cons, getD-set-same}
-use Rattle.recovery.specs.Group.{Write}
 use Rattle.log.specs.Number.{bytes2}
 use Rattle.log.specs.Record.{redo, encode}
 use Rattle.log.specs.Stores.{Store, store, apply, copies, clears}
@@ -80,3 +79,30 @@ pub clears-done : (left at low : ℕ) (b : List ℕ) → at ≤ low → apply (t
 clears-done left at low b h =
     let e : at - low ≡ 0 = omega arith in
     ap (λ (k : ℕ). apply (take left (clears low k)) b) e ∙ ap (λ (ss : List Store). apply ss b) (take-nil left)
+
+-- the first j of so many stores downward are the stores at the highest j offsets
+pub take-clears : (j low n : ℕ) → take j (clears low (j + n)) ≡ clears (low + n) j
+take-clears zero low n = refl
+take-clears (suc j) low n =
+    ap (λ (x : ℕ). take (suc j) (clears low x)) (suc-add j n)
+    ∙ ap (λ (x : ℕ). store x 0 ∷ take j (clears low (j + n))) (omega arith)
+    ∙ ap (λ (ss : List Store). store (low + n + j) 0 ∷ ss) (take-clears j low n)
+
+-- what they leave, in one piece
+pub apply-clears : (low n : ℕ) (b : List ℕ) → low + n ≤ length b → apply (clears low n) b ≡ take low b ++ (replicate n 0 ++ drop (low + n) b)
+apply-clears low zero b h = sym (ap (λ (x : ℕ). take low b ++ drop x b) (add-zero low) ∙ take-append-drop low b)
+apply-clears low (suc n) b h =
+    apply-clears low n (set b (low + n) 0) (rw (length-set b (low + n) 0) (omega arith))
+    ∙ ap (λ (l : List ℕ). l ++ (replicate n 0 ++ drop (low + n) (set b (low + n) 0))) (take-set-le low b (low + n) 0 (omega arith))
+    ∙ ap (λ (l : List ℕ). take low b ++ l) (ap (λ (l : List ℕ). replicate n 0 ++ l) seam ∙ roll n (drop (low + suc n) b))
+  where
+    seam : drop (low + n) (set b (low + n) 0) ≡ 0 ∷ drop (low + suc n) b
+    seam =
+        let e : suc (low + n) ≡ low + suc n = omega arith in
+        drop-cons (set b (low + n) 0) (low + n) 0 (rw (length-set b (low + n) 0) (omega arith))
+        ∙ ap (λ (x : ℕ). x ∷ drop (suc (low + n)) (set b (low + n) 0)) (getD-set-same b (low + n) 0 0 (omega arith))
+        ∙ ap (λ (l : List ℕ). 0 ∷ l) (drop-set-lt (suc (low + n)) b (low + n) 0 (omega arith) ∙ ap (λ (x : ℕ). drop x b) e)
+
+    roll : (k : ℕ) (l : List ℕ) → replicate k 0 ++ 0 ∷ l ≡ 0 ∷ (replicate k 0 ++ l)
+    roll zero l = refl
+    roll (suc k) l = ap (λ (x : List ℕ). 0 ∷ x) (roll k l)

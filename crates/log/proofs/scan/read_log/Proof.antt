@@ -2,13 +2,12 @@ use Prim.Native.Nat.{ℕ, _+_, _-_, _≤_}
 use native.Mathlib.Omega.{arith}
 use borrow.Author.Needs.{needs}
 use mathlib.Core.List.{List}
-use mathlib.Core.Option.{some, none}
 use mathlib.Core.Path.{_≡_, refl, sym, ap, _∙_}
-use lib.ListN.{length, drop, length-drop}
+use lib.ListN.{length, drop}
 use Rattle.log.specs.Group.{readGroup, endOf}
 use Rattle.log.specs.Log.{logEndOf, readLog}
-use Rattle.log.proofs.Basics.{from}
-use Rattle.log.proofs.LogLaws.{Turned, log-ends, log-turn}
+use Rattle.log.proofs.Basics.{from, Turned}
+use Rattle.log.proofs.LogLaws.{log-ends, log-turn}
 use Rattle.log.proofs.Answers.{end-aborted, end-committed, end-none}
 use Rattle.log.proofs.scan.read_log.Statement.{statement}
 use Rattle.log.proofs.scan.read_log.Tie as tie
@@ -46,15 +45,22 @@ read-at c =
 
 -- over an abort, over a commit
 over-abort : (c : tie.After-found Inv-loop μ-loop)
-    → Turned (c .before .before .before .before .loop .csn .0) (c .before .before .before .before .loop .at) (c .before .before .before .before .before .before .args .s .now)
-    (c .found .given .0 .1 .0) (c .before .before .before .before .loop .csn .0)
+    → let s = c .before .before .before .before .before .before .args .s .now in
+    let at = c .before .before .before .before .loop .at in
+    let csn = c .before .before .before .before .loop .csn .0 in
+    let next = at + c .found .given .0 .1 .0 in
+    Turned s at next (logEndOf at csn (readLog csn (drop at s))) (logEndOf next csn (readLog csn (drop next s)))
 over-abort c =
     let w = end-aborted _ _ _ (sym (read-at (c .before .before)) ∙ c .found .given .1) in
     log-turn _ _ _ _ _ _ (c .before .before .before .before .loop .inv .0) (w .0) (w .1) refl
 
 over-commit : (c : tie.After-found2 Inv-loop μ-loop)
-    → Turned (c .before .before .before .before .loop .csn .0) (c .before .before .before .before .loop .at) (c .before .before .before .before .before .before .args .s .now)
-    (c .found2 .given .0 .1 .1 .0) (c .found2 .given .0 .1 .0 .0)
+    → let s = c .before .before .before .before .before .before .args .s .now in
+    let at = c .before .before .before .before .loop .at in
+    let csn = c .before .before .before .before .loop .csn .0 in
+    let next = at + c .found2 .given .0 .1 .1 .0 in
+    let n = c .found2 .given .0 .1 .0 .0 in
+    Turned s at next (logEndOf at csn (readLog csn (drop at s))) (logEndOf next n (readLog n (drop next s)))
 over-commit c =
     let w = end-committed _ _ _ _ (sym (read-at (c .before .before)) ∙ c .found2 .given .1) in
     log-turn _ _ _ _ _ _ (c .before .before .before .before .loop .inv .0) (w .1) (w .2) refl
