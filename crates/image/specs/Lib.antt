@@ -1,0 +1,3 @@
+-- The checkpoint image (document 01: image).
+pub mod Slots
+pub mod Rules
