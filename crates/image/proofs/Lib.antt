@@ -6,3 +6,6 @@ pub mod Readings
 pub mod TxReadings
 pub mod Sizes
 pub mod Writings
+pub mod RoundTrip
+pub mod Soundness
+pub mod Cases

@@ -1,9 +1,9 @@
 -- What is laid out in flat arrays is seen there again.
-use Prim.Native.Nat.{ℕ, zero, suc, _+_, _*_, _≤_, _<_}
+use Prim.Native.Nat.{ℕ, suc, _+_, _*_, _≤_, _<_}
 use native.Mathlib.Omega.{arith}
 use native.Mathlib.Numerals.{add-one}
 use native.Mathlib.Decide.{decLt}
-use mathlib.Core.Bool.{true, _&&_}
+use mathlib.Core.Bool.{true}
 use mathlib.Core.List.{List, [], _∷_, _++_, append-nil, append-assoc, map}
 use mathlib.Core.Path.{_≡_, refl, sym, ap, ap₂, _∙_}
 use lib.ListN.{length, getD, take, drop, set, replicate, length-set, length-map, length-replicate}
@@ -11,7 +11,6 @@ use lib.Seq.{sets, sets-eq, take-set-le, take-at, drop-at, length-take-le, lengt
 use lib.Dec.{leb, eqb}
 use borrow.Author.Tests.{leb-true}
 use Rattle.recovery.specs.Group.{Write}
-use Rattle.recovery.specs.Transaction.{Tx as Transaction}
 use Rattle.log.specs.Record.{inRange}
 use Rattle.log.specs.Flat.{writeAt, writesFrom}
 use Rattle.log.proofs.Basics.{and-left, and-right}
@@ -20,19 +19,18 @@ use Rattle.transaction.specs.declared.Records.{Records}
 use Rattle.transaction.specs.declared.Tx.{Tx}
 use Rattle.transaction.specs.Lists.{upFrom, every}
 use Rattle.transaction.specs.Flat.{emptyRecords, emptyTx, noTx}
-use Rattle.transaction.specs.View.{Range, range, rangeAt, rangesOf, writesOf, Outline, outline, outlineOf, viewOf}
+use Rattle.transaction.specs.View.{range, rangeAt, rangesOf, writesOf, outline, outlineOf, viewOf}
 use Rattle.transaction.specs.Rules.{rangeOk, recordsOk}
 use Rattle.transaction.specs.Steps.{pushed}
 use Rattle.transaction.proofs.Lists.{up-snoc, up-same}
 use Rattle.transaction.proofs.Ranges.{in-range}
 use Rattle.transaction.proofs.Writes.{writes-up, bytes-length}
-use Rattle.image.specs.declared.Image.{Image}
 use Rattle.image.specs.Slots.{slotAt, listed, outlined}
 use Rattle.image.specs.Rules.{imageOk, keepsRules}
 use Rattle.image.specs.Content.{Saved, saved, Content, savedOf, savedIn, contentOf, rangeOf, outlineIn, contentOk, transactionOf}
 use Rattle.image.specs.Format.{undosIn}
 use Rattle.image.specs.Pack.{pushedAll, loaded, packedTx, packedTxs, packed}
-use Rattle.image.proofs.Lists.{up-map, up-front}
+use Rattle.image.proofs.Lists.{up-map, up-front, map-self}
 
 -- ---- stores into a list of bytes, and a part of it that lies before them, or where they were made
 
@@ -217,11 +215,7 @@ module _ {A : Type 0} (f : Tx → A) (g : Saved → A) (h : (t : Saved) → Undo
 
 module _ (ts : List Saved) (c : length ts ≤ 8) (k : TxsOk ts) where
   pub packed-saved : savedIn (packedTxs ts) (length ts) ≡ ts
-  packed-saved = packed-seen savedOf (λ t. t) packed-tx ts c k ∙ same ts
-    where
-      same : (us : List Saved) → map (λ t. t) us ≡ us
-      same [] = refl
-      same (u ∷ us) = ap (λ (vs : List Saved). u ∷ vs) (same us)
+  packed-saved = packed-seen savedOf (λ t. t) packed-tx ts c k ∙ map-self (λ t. t) ts (λ t. refl)
 
   pub packed-outlines : outlined (packedTxs ts) (length ts) ≡ map outlineIn ts
   packed-outlines = packed-seen outlineOf outlineIn packed-outline ts c k

@@ -2,16 +2,16 @@
 use Prim.Native.Nat.{ℕ, _+_, _-_, _≤_, _<_}
 use native.Mathlib.Omega.{arith}
 use mathlib.Core.Bool.{Bool, true, false, _&&_, not}
-use mathlib.Core.List.{List, map}
-use mathlib.Core.Path.{_≡_, refl, sym, ap, _∙_}
-use lib.ListN.{length, getD}
+use mathlib.Core.List.{List}
+use mathlib.Core.Path.{_≡_, ap, _∙_}
+use lib.ListN.{length}
 use lib.Dec.{leb}
 use borrow.Author.Tests.{le-leb, lt-leb, leb-true}
 use Rattle.recovery.specs.Lists.{any}
 use Rattle.log.proofs.Basics.{and-left, and-right}
 use Rattle.transaction.specs.declared.Tx.{Tx}
 use Rattle.transaction.specs.Lists.{upFrom, every}
-use Rattle.transaction.specs.View.{Outline, outline, outlineOf, rangesOf}
+use Rattle.transaction.specs.View.{Outline, rangesOf}
 use Rattle.transaction.specs.Rules.{headOk, recordsOk, outlineOk, alike}
 use Rattle.transaction.proofs.Lists.{length-up, up-turn, every-at}
 use Rattle.image.specs.declared.Image.{Image}

@@ -1,7 +1,7 @@
 -- How many bytes an image and its parts take: 4,109, 8 for each transaction, 3 + length for each undo record; at most 8,653.
 use Prim.Native.Nat.{ℕ, zero, suc, _+_, _*_, _≤_, _<_}
 use native.Mathlib.Omega.{arith}
-use mathlib.Core.Bool.{true, _&&_}
+use mathlib.Core.Bool.{true}
 use mathlib.Core.List.{List, [], _∷_, map}
 use mathlib.Core.Path.{_≡_, refl, ap₂, _∙_}
 use lib.ListN.{length, getD, take, drop, length-append, length-map}
@@ -20,7 +20,7 @@ use Rattle.image.specs.Rules.{keepsRules}
 use Rattle.image.specs.Content.{Saved, saved, Content, savedAt, rangeOf, outlineIn, contentOk}
 use Rattle.image.specs.Format.{encodeUndo, encodeUndos, encodeTx, encodeTxs, encodeContent, undosSize, txSize, txsSize, contentSize, imageSize}
 use Rattle.image.proofs.Rules.{rules-length, rules-each, rules-count, rules-records}
-use Rattle.image.proofs.Packing.{UndosOk, undos-few, undos-ranged, first-ranged, rest-ranged, TxsOk}
+use Rattle.image.proofs.Packing.{undos-few, undos-ranged, first-ranged, rest-ranged, TxsOk}
 
 -- ---- the length of what is written
 

@@ -22,11 +22,10 @@ use Rattle.image.specs.declared.Image.{Image}
 use Rattle.image.specs.declared.read.Undos.{Undos}
 use Rattle.image.specs.declared.read.TxRead.{TxRead}
 use Rattle.image.specs.declared.read.TxsRead.{TxsRead}
-use Rattle.image.specs.declared.read.Decoded.{Decoded}
 use Rattle.image.specs.Rules.{keepsRules}
 use Rattle.image.specs.Content.{Saved, saved, Content, rangeOf, contentOk}
-use Rattle.image.specs.Format.{undosIn, undosSize, txSize, txsSize, contentSize}
-use Rattle.image.specs.Reading.{readUndos, savedIf, readTx, andTx, onTx, readTxs, contentIf, readContent, keepingRules, readImage}
+use Rattle.image.specs.Format.{undosIn, undosSize, txSize, txsSize}
+use Rattle.image.specs.Reading.{readUndos, savedIf, readTx, andTx, onTx, readTxs, contentIf, readContent, keepingRules}
 use Rattle.image.specs.Pack.{pushedAll, packedTx, packedTxs, packed}
 use Rattle.image.specs.Calls.{noUndos, noTxRead, noTxs, notDecoded, undosRead, txRead, txsRead, decodedOf, decodeOf}
 use Rattle.image.proofs.Readings.{UndosAt, undos-inv, undos-kept}

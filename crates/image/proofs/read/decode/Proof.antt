@@ -1,5 +1,4 @@
 use Prim.Native.Nat.{ℕ}
-use native.Mathlib.Omega.{arith}
 use mathlib.Core.Bool.{true}
 use mathlib.Core.List.{List}
 use mathlib.Core.Option.{some}
@@ -8,7 +7,6 @@ use lib.ListN.{getD, drop, replicate}
 use borrow.Author.Tests.{not-true, not-false}
 use Rattle.log.specs.Number.{be2, be4}
 use Rattle.log.proofs.Basics.{from}
-use Rattle.transaction.specs.declared.Tx.{Tx}
 use Rattle.transaction.specs.Flat.{emptyTx}
 use Rattle.image.specs.declared.Image.{Image}
 use Rattle.image.specs.Rules.{keepsRules}

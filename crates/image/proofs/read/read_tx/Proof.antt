@@ -9,7 +9,6 @@ use borrow.Author.Tests.{not-true, not-false}
 use Rattle.recovery.specs.Group.{Write}
 use Rattle.log.specs.Number.{be2, be4}
 use Rattle.log.proofs.Basics.{from}
-use Rattle.transaction.specs.declared.Records.{Records}
 use Rattle.transaction.specs.declared.Tx.{Tx}
 use Rattle.transaction.specs.Flat.{emptyRecords}
 use Rattle.image.specs.Content.{saved}

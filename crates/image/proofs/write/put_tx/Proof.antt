@@ -1,5 +1,5 @@
 use native.Mathlib.Omega.{arith}
-use mathlib.Core.Path.{_≡_, _∙_, ap}
+use mathlib.Core.Path.{_∙_, ap}
 use lib.ListN.{length, length-set}
 use Rattle.transaction.specs.View.{writesOf}
 use Rattle.transaction.proofs.Lists.{length-up}
