@@ -1,0 +1,64 @@
+-- Laws of the first slot that passes a test, and of lists over slots.
+use Prim.Native.Nat.{ℕ, zero, suc, _+_, _≤_, _<_}
+use native.Mathlib.Decide.{le-ind}
+use native.Mathlib.Numerals.{add-one}
+use native.Mathlib.Omega.{arith}
+use mathlib.Core.Bool.{Bool, true, false}
+use mathlib.Core.List.{List, _++_}
+use mathlib.Core.Path.{_≡_, refl, sym, ap, ap₂, _∙_}
+use lib.ListN.{length, length-append}
+use lib.Dec.{eqb}
+use borrow.Author.Tests.{eqb-true, eqb-false}
+use Rattle.log.proofs.Basics.{clash}
+use Rattle.restart.specs.declared.forward.Slot.{Slot}
+use Rattle.restart.specs.declared.forward.Slot.the-variants.{At, Nowhere}
+use Rattle.restart.specs.Slots.{orAt, firstBelow, oneIf, filterBelow}
+
+module _ (p : ℕ → Bool) (i : ℕ) where
+  pub first-miss : firstBelow p i ≡ Nowhere → p i ≡ false → firstBelow p (i + 1) ≡ Nowhere
+  first-miss a b = rw (add-one, a, b)
+
+  pub first-hit : firstBelow p i ≡ Nowhere → p i ≡ true → (n : ℕ) → i < n → firstBelow p n ≡ At i
+  first-hit a e n h = le-ind (λ (m : ℕ). firstBelow p m ≡ At i) (rw (a, e)) (λ m k d. rw d) n h
+
+-- a slot that was found lies below the bound, and passes the test
+pub first-at : (p : ℕ → Bool) (n i : ℕ) → firstBelow p n ≡ At i → (i < n) × (p i ≡ true)
+first-at p zero i e = clash (cc)
+first-at p (suc n) i e = go (first-at p n i) (firstBelow p n) refl (p n) refl e
+  where
+    go : (firstBelow p n ≡ At i → (i < n) × (p i ≡ true)) → (f : Slot) → firstBelow p n ≡ f → (b : Bool) → p n ≡ b → orAt f b n ≡ At i
+        → (i < suc n) × (p i ≡ true)
+    go ih (At j) q b r z =
+        let s : j ≡ i = cc in
+        let t = ih (q ∙ ap At s) in
+        (omega (arith, t .0), t .1)
+    go ih Nowhere q true r z = let s : n ≡ i = cc in (omega arith, ap p (sym s) ∙ r)
+    go ih Nowhere q false r z = clash (cc)
+
+-- where none was found, none passes it
+pub first-none : (p : ℕ → Bool) (n : ℕ) → firstBelow p n ≡ Nowhere → (i : ℕ) → i < n → p i ≡ false
+first-none p zero e i h = absurd (omega arith)
+first-none p (suc n) e i h = go (first-none p n) (firstBelow p n) refl (p n) refl e (eqb i n) refl
+  where
+    go : (firstBelow p n ≡ Nowhere → (i : ℕ) → i < n → p i ≡ false) → (f : Slot) → firstBelow p n ≡ f → (b : Bool) → p n ≡ b → orAt f b n ≡ Nowhere
+        → (t : Bool) → eqb i n ≡ t → p i ≡ false
+    go ih (At j) q b r z t s = clash (cc)
+    go ih Nowhere q true r z t s = clash (cc)
+    go ih Nowhere q false r z true s = ap p (eqb-true i n s) ∙ r
+    go ih Nowhere q false r z false s = let d = eqb-false i n s in ih q i (omega (arith, d))
+
+module _ {A : Type 0} where
+  one-length : (b : Bool) (a : A) → length (oneIf b a) ≤ 1
+  one-length true a = omega arith
+  one-length false a = omega arith
+
+  pub filter-length : (p : ℕ → Bool) (f : ℕ → A) (n : ℕ) → length (filterBelow p f n) ≤ n
+  filter-length p f zero = omega arith
+  filter-length p f (suc n) =
+      omega (arith, filter-length p f n, length-append (filterBelow p f n) (oneIf (p n) (f n)), one-length (p n) (f n))
+
+  -- lists by tests that agree
+  pub filter-same : (p q : ℕ → Bool) (f : ℕ → A) (n : ℕ) → ((j : ℕ) → j < n → q j ≡ p j) → filterBelow q f n ≡ filterBelow p f n
+  filter-same p q f zero h = refl
+  filter-same p q f (suc n) h =
+      ap₂ (λ (xs : List A) (b : Bool). xs ++ oneIf b (f n)) (filter-same p q f n (λ j l. h j (omega arith))) (h n (omega arith))
