@@ -8,3 +8,5 @@ pub mod Steps
 pub mod Sort
 pub mod Undos
 pub mod Select
+pub mod Passed
+pub mod Recovery

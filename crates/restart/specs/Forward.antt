@@ -60,13 +60,16 @@ abbrev pub goOver : Image → List Group → Went → Went
 goOver image [] w = w
 goOver image (g ∷ gs) w = goOver image gs (onGroup image g w)
 
--- "with the image's number on disk as previous number; it is the last found until a commit is read"
+-- the image's number on disk "is the last found until a commit is read"
 abbrev pub startOf : Image → List ℕ → Went
 startOf image m = wentBy m (record { end = 0; csn = image .ondisk; last = image .lastid; found = replicate 8 0 })
 
--- "Find where the log ends, handing on the log from the image's place"
+-- "Find where the log ends, handing on the log from the image's place, with the image's number on disk as previous number": the groups read
+abbrev pub groupsOf : Image → List ℕ → List Group
+groupsOf image log = readLog (image .ondisk .0) log
+
 unfoldable pub forwardOf : Image → List ℕ → List ℕ → Went
-forwardOf image log m = goOver image (readLog (image .ondisk .0) log) (startOf image m)
+forwardOf image log m = goOver image (groupsOf image log) (startOf image m)
 
 -- one turn of the code: the group at the end reached, if one stands there
 abbrev pub onFound : Image → Option Group → Went → Went
