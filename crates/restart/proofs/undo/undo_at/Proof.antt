@@ -1,0 +1,57 @@
+use native.Mathlib.Omega.{arith}
+use borrow.Author.Needs.{needs}
+use Rattle.restart.specs.Slots.{txAt}
+use Rattle.restart.proofs.Undos.{one-none, one-some}
+use Rattle.restart.proofs.undo.undo_at.Statement.{statement}
+use Rattle.restart.proofs.undo.undo_at.Tie as tie
+
+returns : tie.Need-returns
+returns c =
+    let a = c .before .before .before .args in
+    one-none (a .wanted) (txAt (a .t1) (a .i)) _ _ _ (c .if1 .taken)
+
+mul-t : tie.Need-mul-t
+mul-t c = search needs
+
+element-copy-out-t : tie.Need-element-copy-out-t
+element-copy-out-t c = search needs
+
+lay-back-requires : tie.Need-lay-back-requires
+lay-back-requires c κs =
+    let p = c .before .before .before .before .before .before .pre in
+    (p .0 .0 .ranged (c .before .before .before .before .before .before .args .i) (p .0 .1), p .1 .0)
+
+mul-put-abort : tie.Need-mul-put-abort
+mul-put-abort c = search needs
+
+put-abort-requires : tie.Need-put-abort-requires
+put-abort-requires c κs = search needs
+
+add-result : tie.Need-add-result
+add-result c = search needs
+
+same-length : tie.Need-same-length
+same-length c = search needs
+
+same-length-2 : tie.Need-same-length-2
+same-length-2 c = search needs
+
+returns-2 : tie.Need-returns-2
+returns-2 c =
+    let a = c .before .before .before .before .before .before .before .before .before .before .before .before .before .args in
+    one-some (a .wanted) (txAt (a .t1) (a .i)) _ _ _ _ _ (c .before .before .before .before .before .before .before .before .before .before .if1 .left) (c .before .before .before .before .before .before .lay-back .ensures) (c .before .before .put-abort .ensures)
+
+pub undo-at-spec : {M : Type 1} → statement M
+undo-at-spec =
+    tie.close
+    (tie.spec
+    returns
+    mul-t
+    element-copy-out-t
+    lay-back-requires
+    mul-put-abort
+    put-abort-requires
+    add-result
+    same-length
+    same-length-2
+    returns-2)
