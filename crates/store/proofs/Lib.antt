@@ -11,3 +11,4 @@ pub mod Positions
 pub mod Appending
 pub mod Stepping
 pub mod Views
+pub mod Keeping

@@ -129,7 +129,7 @@ id-nonzero s t id f r =
     let x = txOf s id in
     ap (λ (i : ℕ). eqb i 0) (sym (r .named)) ∙ nonzero (s .lastid .0) (s .assigned .0) (x .id .0) (x .status) (x .csn .0) (and-left _ (recordsOk (rangesOf (x .undo))) (image-at s (f .image) (slotOf s id) (r .listed)))
 
-tail-csn : (s : State) (t : List ℕ) → Fit s t → lastCsn (s .ondisk .0) (readLog (s .ondisk .0) t) ≡ s .assigned .0
+pub tail-csn : (s : State) (t : List ℕ) → Fit s t → lastCsn (s .ondisk .0) (readLog (s .ondisk .0) t) ≡ s .assigned .0
 tail-csn s t f = eqb-true _ _ (and-left _ (allZero (drop (tailLength (s .ondisk .0) t) t)) (f .tail))
 
 pub tail-zeros : (s : State) (t : List ℕ) → Fit s t → allZero (drop (tailLength (s .ondisk .0) t) t) ≡ true
@@ -143,14 +143,20 @@ pub record Appends (s : State) (t : List ℕ) (g : Group) : Type 0 where
 abbrev pub commitOf : State → ℕ → Group
 commitOf s id = committed id (s .assigned .0 + 1) (writesOf (txOf s id .redo))
 
+-- the group's size, by the ranges of the redo records
+pub commit-size : (s : State) (t : List ℕ) (id : ℕ) → SizedState s → Fit s t → Running s id → groupSize (commitOf s id) ≡ rangesSize (rangesOf (txOf s id .redo)) + 8
+commit-size s t id z f r =
+    let u = usable s t id f r in
+    let x = txOf s id .redo in
+    ap (λ (n : ℕ). n + 8) (sized x (z .each (slotOf s id) (r .listed) .redos .space) (counted x (u .redo)) (λ j b. ranged x (u .redo) j b .1))
+
 pub commit-appends : (s : State) (t : List ℕ) (id : ℕ) → SizedState s → length t ≡ 16384 → Fit s t → Running s id → Appends s t (commitOf s id)
 commit-appends s t id z l f r =
     let u = usable s t id f r in
     let x = txOf s id .redo in
     let y = z .each (slotOf s id) (r .listed) .redos in
-    let e = sized x (y .space) (counted x (u .redo)) (λ j b. ranged x (u .redo) j b .1) in
     record {
-      room = omega (arith, e, l, u .fits);
+      room = omega (arith, commit-size s t id z f r, l, u .fits);
       right = rw (tail-csn s t f, eq-eqb (s .assigned .0 + 1) (s .assigned .0 + 1) refl) (body-right x id (s .assigned .0 + 1) y (u .redo) (id-nonzero s t id f r) (x .count) 0 (omega arith));
     }
 
