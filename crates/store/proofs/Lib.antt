@@ -9,3 +9,6 @@ pub mod Choosing
 pub mod Calling
 pub mod Positions
 pub mod Appending
+pub mod Stepping
+pub mod Views
+pub mod Keeping
