@@ -2,7 +2,7 @@
 use Prim.Native.Nat.{ℕ, _<_, _≤_, max}
 use mathlib.Core.Bool.{false}
 use mathlib.Core.List.{List}
-use mathlib.Core.Path.{_≡_, sym, ap, _∙_}
+use mathlib.Core.Path.{_≡_}
 use lib.ListN.{getD, set}
 use lib.Dec.{eqb}
 use borrow.Author.Tests.{eq-eqb, ne-eqb, lt-ltb, le-ltb}
@@ -15,7 +15,7 @@ use Rattle.restart.specs.declared.forward.Pass.{Pass}
 use Rattle.restart.specs.declared.forward.Slot.{Slot}
 use Rattle.restart.specs.declared.forward.Slot.the-variants.{At}
 use Rattle.restart.specs.declared.undo.Best.{Best}
-use Rattle.restart.specs.Slots.{txAt, slotOf}
+use Rattle.restart.specs.Slots.{txAt}
 use Rattle.restart.specs.Forward.{marked, undoLogged, past}
 use Rattle.restart.specs.Undo.{isRunning, isLost, betterAt}
 
@@ -33,11 +33,11 @@ module _ (image : Image) (found m : List ℕ) (i : ℕ) where
   pub undone-miss : (getD found i 0 ≡ 0 → ⊥) → undoLogged image found (At i) m ≡ m
   undone-miss e = simp (ne-eqb _ _ e)
 
-pub past-case : (image : Image) (p : Pass) (id code end : ℕ) (csn : Csn) (l : TxId) (x : Slot) (found : List ℕ)
-    → l .0 ≡ max (p .last .0) id → slotOf image id ≡ x → marked (p .found) code x ≡ found
-    → record { end = end; csn = csn; last = l; found = found } ≡ past image p id (csn .0) code end
+pub past-case : (p : Pass) (slot : Slot) (id code end : ℕ) (csn : Csn) (l : TxId) (found : List ℕ)
+    → l .0 ≡ max (p .last .0) id → marked (p .found) code slot ≡ found
+    → record { end = end; csn = csn; last = l; found = found } ≡ past p slot id (csn .0) code end
 unfolding past
-past-case image p id code end csn l x found largest at e = rw (at, ← e, ← largest)
+past-case p slot id code end csn l found largest e = rw (← e, ← largest)
 
 module _ (image : Image) (found : List ℕ) (i : ℕ) where
   pub running-found : (getD found i 0 ≡ 0 → ⊥) → false ≡ isRunning image found i
