@@ -9,15 +9,15 @@ use borrow.Author.Tests.{eq-eqb, ne-eqb, lt-ltb, le-ltb}
 use Rattle.recovery.specs.Replay.{undoAll, layBytes}
 use Rattle.log.specs.declared.TxId.{TxId}
 use Rattle.log.specs.declared.Csn.{Csn}
+use Rattle.transaction.specs.declared.Tx.{Tx}
 use Rattle.image.specs.declared.Image.{Image}
-use Rattle.image.specs.Slots.{slotAt}
 use Rattle.restart.specs.declared.forward.Pass.{Pass}
 use Rattle.restart.specs.declared.forward.Slot.{Slot}
 use Rattle.restart.specs.declared.forward.Slot.the-variants.{At}
 use Rattle.restart.specs.declared.undo.Best.{Best}
 use Rattle.restart.specs.Slots.{txAt}
 use Rattle.restart.specs.Forward.{marked, undoLogged, past}
-use Rattle.restart.specs.Undo.{isRunning, isLost, betterAt}
+use Rattle.restart.specs.Undo.{isRunning, isLost, betterOf}
 
 module _ (found : List ℕ) (code i : ℕ) where
   pub marked-hit : getD found i 0 ≡ 0 → marked found code (At i) ≡ set found i code
@@ -39,31 +39,30 @@ pub past-case : (p : Pass) (slot : Slot) (id code end : ℕ) (csn : Csn) (l : Tx
 unfolding past
 past-case p slot id code end csn l found largest e = rw (← e, ← largest)
 
-module _ (image : Image) (found : List ℕ) (i : ℕ) where
-  pub running-found : (getD found i 0 ≡ 0 → ⊥) → false ≡ isRunning image found i
+module _ (t : Tx) (code : ℕ) where
+  pub running-found : (code ≡ 0 → ⊥) → false ≡ isRunning code t
   unfolding isRunning
   running-found e = simp (ne-eqb _ _ e)
 
-  pub running-left : getD found i 0 ≡ 0 → eqb (slotAt (image .txs) i .status) 1 ≡ isRunning image found i
+  pub running-left : code ≡ 0 → eqb (t .status) 1 ≡ isRunning code t
   unfolding isRunning
   running-left e = simp (eq-eqb _ _ e)
 
-  module _ (b : Best) where
-    pub better-found : (getD found i 0 ≡ 0 → ⊥) → b ≡ betterAt image found b i
-    unfolding betterAt isLost
+  module _ (b : Best) (i : ℕ) where
+    pub better-found : (code ≡ 0 → ⊥) → b ≡ betterOf t code b i
+    unfolding betterOf isLost
     better-found e = simp (ne-eqb _ _ e)
 
-    module _ (e : getD found i 0 ≡ 0) where
-      pub better-running : (slotAt (image .txs) i .status ≡ 2 → ⊥) → b ≡ betterAt image found b i
-      unfolding betterAt isLost
+    module _ (e : code ≡ 0) where
+      pub better-running : (t .status ≡ 2 → ⊥) → b ≡ betterOf t code b i
+      unfolding betterOf isLost
       better-running s = simp (eq-eqb _ _ e, ne-eqb _ _ s)
 
-      module _ (s : slotAt (image .txs) i .status ≡ 2) where
-        pub better-low : slotAt (image .txs) i .csn .0 ≤ b .top .0 → b ≡ betterAt image found b i
-        unfolding betterAt isLost
+      module _ (s : t .status ≡ 2) where
+        pub better-low : t .csn .0 ≤ b .top .0 → b ≡ betterOf t code b i
+        unfolding betterOf isLost
         better-low h = simp (eq-eqb _ _ e, eq-eqb _ _ s, le-ltb _ _ h)
 
-        pub better-high : b .top .0 < slotAt (image .txs) i .csn .0
-            → record { at = At i; top = slotAt (image .txs) i .csn } ≡ betterAt image found b i
-        unfolding betterAt isLost
+        pub better-high : b .top .0 < t .csn .0 → record { at = At i; top = t .csn } ≡ betterOf t code b i
+        unfolding betterOf isLost
         better-high h = simp (eq-eqb _ _ e, eq-eqb _ _ s, lt-ltb _ _ h)
