@@ -24,7 +24,7 @@ use Rattle.image.specs.Rules.{keepsRules}
 use Rattle.restart.specs.declared.forward.Pass.{Pass}
 use Rattle.restart.specs.Slots.{txAt, txsOf, filterBelow}
 use Rattle.restart.specs.Forward.{Went, startOf, groupsOf, goOver, forwardOf}
-use Rattle.restart.specs.Undo.{isRunning, isLost, lostBy, runningOf, lostOf, undoneOf}
+use Rattle.restart.specs.Undo.{isRunning, isLost, runningAt, lostAt, lostBy, runningOf, lostOf, undoneOf}
 use Rattle.restart.specs.Restart.{restartOf}
 use Rattle.restart.proofs.SlotLaws.{filter-up, all-up, txs-up}
 use Rattle.restart.proofs.Rules.{image-few, ruled}
@@ -55,10 +55,10 @@ module _ (image : Image) (ok : keepsRules image ≡ true) where
     abbrev runs : Tx → Bool
     runs t = not (t .committing) && open? t
 
-    running-is : filterBelow (isRunning image found) (txAt image) (image .count) ≡ unfinished f (running (txsOf image))
+    running-is : filterBelow (runningAt image found) (txAt image) (image .count) ≡ unfinished f (running (txsOf image))
     unfolding isRunning
     running-is =
-        filter-up (isRunning image found) runs (txAt image) (image .count) (λ j h. one (eqb (getD found j 0) 0) (txAt image j .committing) _ _ (marks j h) (ruled image ok j h .kind))
+        filter-up (runningAt image found) runs (txAt image) (image .count) (λ j h. one (eqb (getD found j 0) 0) (txAt image j .committing) _ _ (marks j h) (ruled image ok j h .kind))
         ∙ ap (filter runs) (sym (txs-up image))
         ∙ sym (filter-filter open? (λ t. not (t .committing)) runs (λ t. refl) (txsOf image))
       where
@@ -78,7 +78,7 @@ module _ (image : Image) (ok : keepsRules image ≡ true) where
       lost-is : lostBy image found n ≡ unfinished f (above n (committing (txsOf image)))
       unfolding isLost
       lost-is =
-          filter-up (isLost image found n) lost (txAt image) (image .count) (λ j h. one (eqb (getD found j 0) 0) (txAt image j .committing) (ltb n (txAt image j .csn)) _ (marks j h))
+          filter-up (lostAt image found n) lost (txAt image) (image .count) (λ j h. one (eqb (getD found j 0) 0) (txAt image j .committing) (ltb n (txAt image j .csn)) _ (marks j h))
           ∙ ap (filter lost) (sym (txs-up image))
           ∙ sym
           (ap (filter open?) (filter-filter (λ t. ltb n (t .csn)) (λ t. t .committing) high (λ t. refl) (txsOf image))

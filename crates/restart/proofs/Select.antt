@@ -20,7 +20,7 @@ use Rattle.restart.specs.declared.forward.Slot.{Slot}
 use Rattle.restart.specs.declared.forward.Slot.the-variants.{At, Nowhere}
 use Rattle.restart.specs.declared.undo.Best.{Best}
 use Rattle.restart.specs.Slots.{txAt, oneIf, filterBelow}
-use Rattle.restart.specs.Undo.{isLost, betterAt, bestOf, lostBy}
+use Rattle.restart.specs.Undo.{isLost, lostAt, betterOf, bestOf, lostBy}
 use Rattle.restart.proofs.SlotLaws.{filter-same}
 use Rattle.restart.proofs.Sort.{AllLe, AllLt, sort-pick}
 
@@ -29,14 +29,14 @@ module _ (image : Image) (found : List ℕ) where
   abbrev pending : ℕ → Bool
   pending i = eqb (getD found i 0) 0 && eqb (slotAt (image .txs) i .status) 2
 
-  lost-raise : (m n i : ℕ) → m ≤ n → isLost image found n i ≡ true → (isLost image found m i ≡ true) × (n < txAt image i .csn)
+  lost-raise : (m n i : ℕ) → m ≤ n → lostAt image found n i ≡ true → (lostAt image found m i ≡ true) × (n < txAt image i .csn)
   unfolding isLost
   lost-raise m n i h e =
       let o = and-left (pending i) (ltb n (txAt image i .csn)) e in
       let l : n < txAt image i .csn = ltb-true _ _ (and-right (pending i) (ltb n (txAt image i .csn)) e) in
       (rw (o, lt-ltb m (txAt image i .csn) (omega arith)), l)
 
-  lost-lower : (m n i : ℕ) → isLost image found n i ≡ false → isLost image found m i ≡ true → txAt image i .csn ≤ n
+  lost-lower : (m n i : ℕ) → lostAt image found n i ≡ false → lostAt image found m i ≡ true → txAt image i .csn ≤ n
   unfolding isLost
   lost-lower m n i e h =
       let o = and-left (pending i) (ltb m (txAt image i .csn)) h in
@@ -46,7 +46,7 @@ module _ (image : Image) (found : List ℕ) where
 -- list is without it, by any test that differs at i alone
 module _ (image : Image) (found : List ℕ) (csn : Csn) where
   abbrev sought : ℕ → Bool
-  sought i = isLost image found (csn .0) i
+  sought i = lostAt image found (csn .0) i
 
   abbrev those : (ℕ → Bool) → ℕ → List Tx
   those p n = filterBelow p (txAt image) n
@@ -100,18 +100,18 @@ module _ (image : Image) (found : List ℕ) (csn : Csn) where
       (all-append (all-map (λ t p. omega arith) (w .lower)) (cons h (all-map (λ t p. omega arith) (w .least))))
 
   good : (n : ℕ) → Good n (bestOf image found csn n .at) (bestOf image found csn n .top .0)
-  unfolding betterAt
+  unfolding betterOf
   good zero = (refl, refl)
-  good (suc n) = go (bestOf image found csn n .at) (bestOf image found csn n .top) (good n) (isLost image found (bestOf image found csn n .top .0) n) refl
+  good (suc n) = go (bestOf image found csn n .at) (bestOf image found csn n .top) (good n) (lostAt image found (bestOf image found csn n .top .0) n) refl
     where
-      go : (f : Slot) (top : Csn) → Good n f (top .0) → (b : Bool) → isLost image found (top .0) n ≡ b
+      go : (f : Slot) (top : Csn) → Good n f (top .0) → (b : Bool) → lostAt image found (top .0) n ≡ b
           → Good (suc n) (cond {A = Best} b (record { at = At n; top = slotAt (image .txs) n .csn }) (record { at = f; top = top }) .at)
           (cond {A = Best} b (record { at = At n; top = slotAt (image .txs) n .csn }) (record { at = f; top = top }) .top .0)
       go Nowhere top g true e =
           let r = lost-raise image found (csn .0) (top .0) n (omega (arith, g .0)) e in
           (refl, omega (arith, r .1, g .0), omega arith, new-best n (r .0) (rw (g .1) nil))
       go Nowhere top g false e =
-          let k : sought n ≡ false = ap (λ (x : ℕ). isLost image found x n) (sym (g .0)) ∙ e in
+          let k : sought n ≡ false = ap (λ (x : ℕ). lostAt image found x n) (sym (g .0)) ∙ e in
           (g .0, ap₂ (λ (xs : List Tx) (b : Bool). xs ++ oneIf b (txAt image n)) (g .1) k)
       go (At i) top g true e =
           let r = lost-raise image found (csn .0) (top .0) n (g .1) e in
@@ -121,11 +121,11 @@ module _ (image : Image) (found : List ℕ) (csn : Csn) where
 
 -- a turn of the code's loop: what is found is the next of the sorted list, and marking it leaves the rest
 module _ (image : Image) (found : List ℕ) (csn : Csn) where
-  marked-self : (i : ℕ) → i < length found → isLost image (set found i 2) (csn .0) i ≡ false
+  marked-self : (i : ℕ) → i < length found → lostAt image (set found i 2) (csn .0) i ≡ false
   unfolding isLost
   marked-self i h = rw (getD-set-same found i 2 0 h)
 
-  marked-other : (i j : ℕ) → (j ≡ i → ⊥) → isLost image (set found i 2) (csn .0) j ≡ isLost image found (csn .0) j
+  marked-other : (i j : ℕ) → (j ≡ i → ⊥) → lostAt image (set found i 2) (csn .0) j ≡ lostAt image found (csn .0) j
   unfolding isLost
   marked-other i j h = rw (getD-set-other found i j 2 0 h)
 
@@ -140,7 +140,7 @@ module _ (image : Image) (found : List ℕ) (csn : Csn) where
       at g =
           let w = g .3 in
           let r : lostBy image (set found i 2) (csn .0) ≡ w .before ++ w .after =
-          w .without (isLost image (set found i 2) (csn .0)) (marked-self i (omega (arith, g .2))) (marked-other i) in (
+          w .without (lostAt image (set found i 2) (csn .0)) (marked-self i (omega (arith, g .2))) (marked-other i) in (
             g .2,
             ap sortDesc (w .whole) ∙ sort-pick (w .after) (txAt image i) (w .lower) (w .least)
                 ∙ ap (λ (xs : List Tx). txAt image i ∷ sortDesc xs) (sym r),

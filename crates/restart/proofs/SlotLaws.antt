@@ -21,7 +21,7 @@ use Rattle.image.specs.declared.Image.{Image}
 use Rattle.image.specs.Slots.{slotAt}
 use Rattle.restart.specs.declared.forward.Slot.{Slot}
 use Rattle.restart.specs.declared.forward.Slot.the-variants.{At, Nowhere}
-use Rattle.restart.specs.Slots.{txAt, txsOf, orAt, firstBelow, oneIf, filterBelow}
+use Rattle.restart.specs.Slots.{txAt, txsOf, orAt, firstBelow, hasId, slotOf, Below, oneIf, filterBelow}
 
 module _ (p : ℕ → Bool) (i : ℕ) where
   pub first-miss : firstBelow p i ≡ Nowhere → p i ≡ false → firstBelow p (i + 1) ≡ Nowhere
@@ -43,6 +43,11 @@ first-at p (suc n) i e = go (first-at p n i) (firstBelow p n) refl (p n) refl e
         (omega (arith, t .0), t .1)
     go ih Nowhere q true r z = let s : n ≡ i = cc in (omega arith, ap p (sym s) ∙ r)
     go ih Nowhere q false r z = clash (cc)
+
+-- where an id stands is a slot of the image
+pub slot-below : (image : Image) (id n : ℕ) (x : Slot) → image .count ≤ n → x ≡ slotOf image id → Below n x
+slot-below image id n Nowhere h e = tt {0}
+slot-below image id n (At i) h e = omega (arith, first-at (hasId image id) (image .count) i (sym e) .0)
 
 -- where none was found, none passes it
 pub first-none : (p : ℕ → Bool) (n : ℕ) → firstBelow p n ≡ Nowhere → (i : ℕ) → i < n → p i ≡ false

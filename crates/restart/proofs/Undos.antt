@@ -19,7 +19,7 @@ use Rattle.image.specs.declared.Image.{Image}
 use Rattle.restart.specs.declared.forward.Pass.{Pass}
 use Rattle.restart.specs.Slots.{txAt, oneIf}
 use Rattle.restart.specs.Forward.{Went, wentBy, forwardOf}
-use Rattle.restart.specs.Undo.{isRunning, isLost, lostBy, runningOf, lostOf}
+use Rattle.restart.specs.Undo.{runningAt, lostAt, lostBy, runningOf, lostOf}
 use Rattle.restart.specs.Restart.{Outcome, answerOf, outcome, restartOf}
 use Rattle.restart.proofs.SlotLaws.{filter-length}
 use Rattle.restart.proofs.Sort.{sort-length}
@@ -70,10 +70,10 @@ one-some false t m tail m₁ t₁ n e p q = clash (cc)
 -- there is room for as many abort records as the image has transactions
 pub running-few : (image : Image) (p : Pass) → length (runningOf image p) ≤ image .count
 unfolding runningOf
-running-few image p = filter-length (isRunning image (p .found)) (txAt image) (image .count)
+running-few image p = filter-length (runningAt image (p .found)) (txAt image) (image .count)
 
 pub lost-few : (image : Image) (found : List ℕ) (n : ℕ) → length (sortDesc (lostBy image found n)) ≤ image .count
-lost-few image found n = omega (arith, sort-length (lostBy image found n), filter-length (isLost image found n) (txAt image) (image .count))
+lost-few image found n = omega (arith, sort-length (lostBy image found n), filter-length (lostAt image found n) (txAt image) (image .count))
 
 -- both parts of step 4 after the pass
 module _ (image : Image) (log m tail : List ℕ) (p : Pass) (m₁ : List ℕ) (passed : p ≡ forwardOf image log m .pass) (forwarded : m₁ ≡ forwardOf image log m .memory) where

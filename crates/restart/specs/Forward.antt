@@ -44,13 +44,13 @@ abbrev pub memoryAfter : Image → Group → Went → List ℕ
 memoryAfter image (committed id n ws) w = redoAll layBytes ws (w .memory)
 memoryAfter image (aborted id) w = undoLogged image (w .pass .found) (slotOf image id) (w .memory)
 
--- past a group of this id, with that code, to where it ends; csn is the last commit number then
-unfoldable pub past : Image → Pass → ℕ → ℕ → ℕ → ℕ → Pass
-past image p id csn code end =
-    record { end = end; csn = record { 0 = csn }; last = record { 0 = max (p .last .0) id }; found = marked (p .found) code (slotOf image id) }
+-- past a group of the id in this slot, with that code, to where it ends; csn is the last commit number then
+unfoldable pub past : Pass → Slot → ℕ → ℕ → ℕ → ℕ → Pass
+past p slot id csn code end =
+    record { end = end; csn = record { 0 = csn }; last = record { 0 = max (p .last .0) id }; found = marked (p .found) code slot }
 
 abbrev pub passAfter : Image → Group → Pass → Pass
-passAfter image g p = past image p (groupId g) (csnAfter (p .csn .0) g) (codeOf g) (p .end + groupSize g)
+passAfter image g p = past p (slotOf image (groupId g)) (groupId g) (csnAfter (p .csn .0) g) (codeOf g) (p .end + groupSize g)
 
 abbrev pub onGroup : Image → Group → Went → Went
 onGroup image g w = wentBy (memoryAfter image g w) (passAfter image g (w .pass))

@@ -38,6 +38,11 @@ hasId image id i = eqb (txAt image i .id) id
 abbrev pub slotOf : Image → ℕ → Slot
 slotOf image id = firstBelow (hasId image id) (image .count)
 
+-- a slot, if it is one, lies below n
+abbrev pub Below : ℕ → Slot → Type 0
+Below n Nowhere = Unit {0}
+Below n (At i) = i < n
+
 -- one element, or none
 abbrev pub oneIf : {A : Type 0} → Bool → A → List A
 oneIf true a = a ∷ []

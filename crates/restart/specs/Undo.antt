@@ -7,6 +7,7 @@ use lib.Dec.{eqb, ltb}
 use Rattle.recovery.specs.Transaction.{Tx as Transaction}
 use Rattle.recovery.specs.Restart.{sortDesc}
 use Rattle.log.specs.declared.Csn.{Csn}
+use Rattle.transaction.specs.declared.Tx.{Tx}
 use Rattle.image.specs.declared.Image.{Image}
 use Rattle.image.specs.Slots.{slotAt}
 use Rattle.restart.specs.declared.forward.Pass.{Pass}
@@ -14,21 +15,27 @@ use Rattle.restart.specs.declared.forward.Slot.the-variants.{At, Nowhere
 use Rattle.restart.specs.declared.undo.Best.{Best}
 use Rattle.restart.specs.Slots.{txAt, filterBelow}
 
--- the transaction in slot i is unfinished and running
-unfoldable pub isRunning : Image → List ℕ → ℕ → Bool
-isRunning image found i = eqb (getD found i 0) 0 && eqb (slotAt (image .txs) i .status) 1
+-- a transaction with that code is unfinished and running
+unfoldable pub isRunning : ℕ → Tx → Bool
+isRunning code t = eqb code 0 && eqb (t .status) 1
 
 -- it is unfinished and committing, and its number exceeds n
-unfoldable pub isLost : Image → List ℕ → ℕ → ℕ → Bool
-isLost image found n i = eqb (getD found i 0) 0 && eqb (slotAt (image .txs) i .status) 2 && ltb n (slotAt (image .txs) i .csn .0)
+unfoldable pub isLost : ℕ → ℕ → Tx → Bool
+isLost n code t = eqb code 0 && eqb (t .status) 2 && ltb n (t .csn .0)
+
+abbrev pub runningAt : Image → List ℕ → ℕ → Bool
+runningAt image found i = isRunning (getD found i 0) (slotAt (image .txs) i)
+
+abbrev pub lostAt : Image → List ℕ → ℕ → ℕ → Bool
+lostAt image found n i = isLost n (getD found i 0) (slotAt (image .txs) i)
 
 -- "the unfinished running ones in image order"
 unfoldable pub runningOf : Image → Pass → List Transaction
-runningOf image p = filterBelow (isRunning image (p .found)) (txAt image) (image .count)
+runningOf image p = filterBelow (runningAt image (p .found)) (txAt image) (image .count)
 
 -- "the unfinished committing ones whose number exceeds the last commit number found"
 abbrev pub lostBy : Image → List ℕ → ℕ → List Transaction
-lostBy image found n = filterBelow (isLost image found n) (txAt image) (image .count)
+lostBy image found n = filterBelow (lostAt image found n) (txAt image) (image .count)
 
 -- "highest number first"
 unfoldable pub lostOf : Image → Pass → List Transaction
@@ -38,10 +45,10 @@ lostOf image p = sortDesc (lostBy image (p .found) (p .csn .0))
 abbrev pub undoneOf : Image → Pass → List Transaction
 undoneOf image p = runningOf image p ++ lostOf image p
 
--- as the code looks for the highest: the better of b and the transaction in slot i
-unfoldable pub betterAt : Image → List ℕ → Best → ℕ → Best
-betterAt image found b i = cond (isLost image found (b .top .0) i) (record { at = At i; top = slotAt (image .txs) i .csn }) b
+-- as the code looks for the highest: the better of b and a transaction, which stands in slot i
+unfoldable pub betterOf : Tx → ℕ → Best → ℕ → Best
+betterOf t code b i = cond (isLost (b .top .0) code t) (record { at = At i; top = t .csn }) b
 
 abbrev pub bestOf : Image → List ℕ → Csn → ℕ → Best
 bestOf image found csn zero = record { at = Nowhere; top = csn }
-bestOf image found csn (suc n) = betterAt image found (bestOf image found csn n) n
+bestOf image found csn (suc n) = betterOf (slotAt (image .txs) n) (getD found n 0) (bestOf image found csn n) n

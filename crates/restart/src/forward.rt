@@ -12,7 +12,7 @@ ghost use Prim.Native.Nat.{_≤_, max};
 ghost use lib.ListN.{length};
 ghost use Rattle.recovery.specs.Replay.{redoAll, layBytes};
 ghost use Rattle.log.specs.Record.{readRecord};
-ghost use Rattle.restart.specs.Slots.{Undoable, slotOf};
+ghost use Rattle.restart.specs.Slots.{Undoable, Below, slotOf};
 ghost use Rattle.restart.specs.Redo.{layFront, frontSize, frontWrites};
 ghost use Rattle.restart.specs.Forward.{wentBy, undoLogged, past, stepOf, forwardOf};
 
@@ -96,13 +96,13 @@ fn redo_all(memory: &mut [u8], s: &[u8])
     }
 }
 
-// An abort of this id: its transaction is undone if it is in the image and unfinished.
-fn undo_logged(image: Image, found: [u8; 8], id: TxId, memory: &mut [u8])
-    requires { ⌜ Undoable image ⌝ }
+// An abort of the transaction in this slot: it is undone if it is unfinished.
+fn undo_logged(image: Image, found: [u8; 8], slot: Slot, memory: &mut [u8])
+    requires { ⌜ Undoable image × Below (image .count) slot ⌝ }
     requires { ⌜ length (now memory) ≡ 4096 ⌝ }
-    ensures { λ _. ⌜ now (memory .exit) ≡ undoLogged image found (slotOf image (id .0)) (now (memory .entry)) ⌝ }
+    ensures { λ _. ⌜ now (memory .exit) ≡ undoLogged image found slot (now (memory .entry)) ⌝ }
 {
-    let Slot::At(i) = find(image, id) else {
+    let Slot::At(i) = slot else {
         return;
     };
     if found[i] != 0 {
@@ -113,17 +113,17 @@ fn undo_logged(image: Image, found: [u8; 8], id: TxId, memory: &mut [u8])
     undo.lay_back(memory);
 }
 
-// Past a group of this id, with that code and that commit number after it, to where it ends.
-fn pass_group(image: Image, mut p: Pass, id: TxId, csn: Csn, code: u8, end: usize) -> Pass
-    requires { ⌜ image .count ≤ 8 ⌝ }
-    ensures { λ r. ⌜ r ≡ past image p (id .0) (csn .0) code end ⌝ }
+// Past a group of the id in this slot, with that code and that commit number after it, to where it ends.
+fn pass_group(mut p: Pass, slot: Slot, id: TxId, csn: Csn, code: u8, end: usize) -> Pass
+    requires { ⌜ Below 8 slot ⌝ }
+    ensures { λ r. ⌜ r ≡ past p slot (id .0) (csn .0) code end ⌝ }
 {
     let before = p.last;
     let last = larger(before, id);
     p.end = end;
     p.csn = csn;
     p.last = last;
-    let Slot::At(i) = find(image, id) else {
+    let Slot::At(i) = slot else {
         return p;
     };
     if p.found[i] != 0 {
@@ -146,13 +146,15 @@ fn step(image: Image, p: Pass, log: &[u8], memory: &mut [u8]) -> Pass
     let group = read_group(&log[at..], csn);
     match group {
         GroupEnd::Aborted { id, end } => {
+            let slot = find(image, id);
             let found = p.found;
-            undo_logged(image, found, id, memory);
-            return pass_group(image, p, id, csn, 2, at + end);
+            undo_logged(image, found, slot, memory);
+            return pass_group(p, slot, id, csn, 2, at + end);
         }
         GroupEnd::Committed { id, csn: n, end } => {
+            let slot = find(image, id);
             redo_all(memory, &log[at..]);
-            return pass_group(image, p, id, n, 1, at + end);
+            return pass_group(p, slot, id, n, 1, at + end);
         }
         GroupEnd::NoGroup => {
             return p;

@@ -4,15 +4,19 @@ use crate::forward::Slot;
 use image::Image;
 use log::Csn;
 use log::record::put_abort;
+use transaction::Tx;
 ghost use mathlib.Core.Path.{_≡_};
-ghost use Prim.Native.Nat.{_+_, _*_, _<_, _≤_};
+ghost use mathlib.Core.Bool.{true};
+ghost use Prim.Native.Nat.{_+_, _*_, _≤_};
 ghost use lib.ListN.{length};
 ghost use lib.Seq.{sets};
 ghost use Rattle.recovery.specs.Replay.{undoEach, layBytes};
 ghost use Rattle.recovery.specs.Restart.{aborts};
 ghost use Rattle.log.specs.Log.{encodeLog};
-ghost use Rattle.restart.specs.Slots.{Undoable, txAt, oneIf};
-ghost use Rattle.restart.specs.Undo.{isRunning, runningOf, betterAt, bestOf, lostOf};
+ghost use Rattle.transaction.specs.View.{rangesOf, viewOf};
+ghost use Rattle.transaction.specs.Rules.{recordsOk};
+ghost use Rattle.restart.specs.Slots.{Undoable, oneIf};
+ghost use Rattle.restart.specs.Undo.{isRunning, runningOf, betterOf, bestOf, lostOf};
 
 // The committing transaction with the highest number so far, and that number.
 pub struct Best {
@@ -20,40 +24,30 @@ pub struct Best {
     pub top: Csn,
 }
 
-// Undoes the transaction in slot i, if it is wanted, with its abort record as the n-th of the tail; returns how many the tail then has.
-fn undo_at(
-    image: Image,
-    i: usize,
-    wanted: bool,
-    memory: &mut [u8],
-    tail: &mut [u8],
-    n: usize,
-) -> usize
-    requires { ⌜ Undoable image × (i < image .count) ⌝ }
+// Undoes t, if it is wanted, with its abort record as the n-th of the tail; returns how many the tail then has.
+fn undo_one(t: Tx, wanted: bool, memory: &mut [u8], tail: &mut [u8], n: usize) -> usize
+    requires { ⌜ recordsOk (rangesOf (t .undo)) ≡ true ⌝ }
     requires { ⌜ length (now memory) ≡ 4096 ⌝ }
     requires { ⌜ n * 4 + 4 ≤ length (now tail) ⌝ }
-    ensures { λ r. ⌜ r ≡ n + length (oneIf wanted (txAt image i)) ⌝ }
-    ensures { λ _. ⌜ now (memory .exit) ≡ undoEach layBytes (oneIf wanted (txAt image i)) (now (memory .entry)) ⌝ }
-    ensures { λ _. ⌜ now (tail .exit) ≡ sets (now (tail .entry)) (n * 4) (encodeLog (aborts (oneIf wanted (txAt image i)))) ⌝ }
+    ensures { λ r. ⌜ r ≡ n + length (oneIf wanted (viewOf t)) ⌝ }
+    ensures { λ _. ⌜ now (memory .exit) ≡ undoEach layBytes (oneIf wanted (viewOf t)) (now (memory .entry)) ⌝ }
+    ensures { λ _. ⌜ now (tail .exit) ≡ sets (now (tail .entry)) (n * 4) (encodeLog (aborts (oneIf wanted (viewOf t)))) ⌝ }
 {
     if !wanted {
         return n;
     }
-    let t = image.txs[i];
     let undo = t.undo;
     undo.lay_back(memory);
     put_abort(tail, n * 4, t.id);
     n + 1
 }
 
-fn is_running(image: Image, found: [u8; 8], i: usize) -> bool
-    requires { ⌜ i < 8 ⌝ }
-    ensures { λ r. ⌜ r ≡ isRunning image found i ⌝ }
+fn is_running(t: Tx, code: u8) -> bool
+    ensures { λ r. ⌜ r ≡ isRunning code t ⌝ }
 {
-    if found[i] != 0 {
+    if code != 0 {
         return false;
     }
-    let t = image.txs[i];
     t.status == 1
 }
 
@@ -71,22 +65,21 @@ pub fn undo_running(image: Image, p: Pass, memory: &mut [u8], tail: &mut [u8]) -
     let mut n: usize = 0;
     let mut i: usize = 0;
     while i < m {
-        let wanted = is_running(image, found, i);
-        n = undo_at(image, i, wanted, memory, tail, n);
+        let t = image.txs[i];
+        let wanted = is_running(t, found[i]);
+        n = undo_one(t, wanted, memory, tail, n);
         i += 1;
     }
     n
 }
 
-// The better of b and the transaction in slot i.
-fn better(image: Image, found: [u8; 8], b: Best, i: usize) -> Best
-    requires { ⌜ i < 8 ⌝ }
-    ensures { λ r. ⌜ r ≡ betterAt image found b i ⌝ }
+// The better of b and t, which stands in slot i.
+fn better(t: Tx, code: u8, b: Best, i: usize) -> Best
+    ensures { λ r. ⌜ r ≡ betterOf t code b i ⌝ }
 {
-    if found[i] != 0 {
+    if code != 0 {
         return b;
     }
-    let t = image.txs[i];
     if t.status != 2 {
         return b;
     }
@@ -112,7 +105,8 @@ fn highest(image: Image, found: [u8; 8], csn: Csn) -> Best
     };
     let mut i: usize = 0;
     while i < m {
-        b = better(image, found, b, i);
+        let t = image.txs[i];
+        b = better(t, found[i], b, i);
         i += 1;
     }
     b
@@ -136,7 +130,8 @@ pub fn undo_lost(image: Image, p: Pass, memory: &mut [u8], tail: &mut [u8], n: u
         let Slot::At(i) = at else {
             return k;
         };
-        k = undo_at(image, i, true, memory, tail, k);
+        let t = image.txs[i];
+        k = undo_one(t, true, memory, tail, k);
         found[i] = 2;
     }
 }

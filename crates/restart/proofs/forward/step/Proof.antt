@@ -12,6 +12,7 @@ use Rattle.log.proofs.Basics.{from}
 use Rattle.log.proofs.Answers.{end-aborted, end-committed, end-none}
 use Rattle.restart.specs.Redo.{frontWrites}
 use Rattle.restart.specs.Forward.{wentBy}
+use Rattle.restart.proofs.SlotLaws.{slot-below}
 use Rattle.restart.proofs.Steps.{as-step, step-none, step-abort, step-commit, step-room}
 use Rattle.restart.proofs.forward.step.Statement.{statement}
 use Rattle.restart.proofs.forward.step.Tie as tie
@@ -48,30 +49,40 @@ read-group-requires c κs = search needs
 enum-known-group : tie.Need-enum-known-group
 enum-known-group c = search needs
 
+find-requires : tie.Need-find-requires
+find-requires c κs = search needs
+
 undo-logged-requires : tie.Need-undo-logged-requires
-undo-logged-requires c κs = search needs
+undo-logged-requires c κs =
+    let s = c .before .before .before .before .before .before .before .before .before .before .before in
+    ((s .pre .0, slot-below (s .args .image) _ _ _ (omega arith) (c .before .before .find .ensures)), s .pre .1 .0)
 
 add-pass-group : tie.Need-add-pass-group
 add-pass-group c =
-    let a = c .before .before .before .before .before .before .before .before .before .before .before .before .before .args in
-    let e = abort-at (c .before .before .before .before .before .before) in
-    omega (arith, step-room (a .image) (a .log .now) (wentBy (a .memory .now) (a .p)) _ (c .before .before .before .before .before .before .before .before .before .before .before .before .before .pre .1 .1) (e .0), e .1, c .before .before .before .before .before .before .before .before .before .before .before .before .before .good)
+    let a = c .before .before .before .before .before .before .before .before .before .before .before .before .before .before .args in
+    let e = abort-at (c .before .before .before .before .before .before .before) in
+    omega (arith, step-room (a .image) (a .log .now) (wentBy (a .memory .now) (a .p)) _ (c .before .before .before .before .before .before .before .before .before .before .before .before .before .before .pre .1 .1) (e .0), e .1, c .before .before .before .before .before .before .before .before .before .before .before .before .before .before .good)
 
 pass-group-requires : tie.Need-pass-group-requires
-pass-group-requires c κs = search needs
+pass-group-requires c κs =
+    let s = c .before .before .before .before .before .before .before .before .before .before .before .before .before .before in
+    slot-below (s .args .image) _ 8 _ (s .pre .0 .few) (c .before .before .before .before .before .find .ensures)
 
 same-length : tie.Need-same-length
 same-length c = search needs
 
 returns : tie.Need-returns
 returns c =
-    let a = c .before .before .before .before .before .before .before .before .before .before .before .before .before .before .args in
-    let e = abort-at (c .before .before .before .before .before .before .before) in
-    let s = step-abort (a .image) (a .log .now) (wentBy (a .memory .now) (a .p)) _ _ _ (e .0) (e .1) (c .before .before .before .undo-logged .ensures) in
+    let a = c .before .before .before .before .before .before .before .before .before .before .before .before .before .before .before .args in
+    let e = abort-at (c .before .before .before .before .before .before .before .before) in
+    let s = step-abort (a .image) (a .log .now) (wentBy (a .memory .now) (a .p)) _ _ _ _ (e .0) (e .1) (c .before .before .before .before .before .before .find .ensures) (c .before .before .before .undo-logged .ensures) in
     as-step _ _ _ _ s (c .pass-group .ensures) refl
 
 enum-known-group-2 : tie.Need-enum-known-group-2
 enum-known-group-2 c = search needs
+
+find-requires-2 : tie.Need-find-requires-2
+find-requires-2 c κs = search needs
 
 sub-redo-all : tie.Need-sub-redo-all
 sub-redo-all c = search needs
@@ -87,22 +98,24 @@ redo-all-requires c κs = search needs
 
 add-pass-group-2 : tie.Need-add-pass-group-2
 add-pass-group-2 c =
-    let a = c .before .before .before .before .before .before .before .before .before .before .before .before .before .args in
-    let e = commit-at (c .before .before .before .before .before .before) in
-    omega (arith, step-room (a .image) (a .log .now) (wentBy (a .memory .now) (a .p)) _ (c .before .before .before .before .before .before .before .before .before .before .before .before .before .pre .1 .1) (e .1), e .2, c .before .before .before .before .before .before .before .before .before .before .before .before .before .good)
+    let a = c .before .before .before .before .before .before .before .before .before .before .before .before .before .before .args in
+    let e = commit-at (c .before .before .before .before .before .before .before) in
+    omega (arith, step-room (a .image) (a .log .now) (wentBy (a .memory .now) (a .p)) _ (c .before .before .before .before .before .before .before .before .before .before .before .before .before .before .pre .1 .1) (e .1), e .2, c .before .before .before .before .before .before .before .before .before .before .before .before .before .before .good)
 
 pass-group-requires-2 : tie.Need-pass-group-requires-2
-pass-group-requires-2 c κs = search needs
+pass-group-requires-2 c κs =
+    let s = c .before .before .before .before .before .before .before .before .before .before .before .before .before .before in
+    slot-below (s .args .image) _ 8 _ (s .pre .0 .few) (c .before .before .before .before .before .find2 .ensures)
 
 same-length-2 : tie.Need-same-length-2
 same-length-2 c = search needs
 
 returns-2 : tie.Need-returns-2
 returns-2 c =
-    let a = c .before .before .before .before .before .before .before .before .before .before .before .before .before .before .args in
-    let e = commit-at (c .before .before .before .before .before .before .before) in
+    let a = c .before .before .before .before .before .before .before .before .before .before .before .before .before .before .before .args in
+    let e = commit-at (c .before .before .before .before .before .before .before .before) in
     let m = c .before .before .before .redo-all .ensures ∙ ap (λ (t : List ℕ). redoAll layBytes (frontWrites t) (a .memory .now)) (from (a .log .now) (a .p .end)) in
-    let s = step-commit (a .image) (a .log .now) (wentBy (a .memory .now) (a .p)) _ _ _ (e .0) _ (e .1) (e .2) m in
+    let s = step-commit (a .image) (a .log .now) (wentBy (a .memory .now) (a .p)) _ _ _ _ (e .0) _ (e .1) (e .2) (c .before .before .before .before .before .before .find2 .ensures) m in
     as-step _ _ _ _ s (c .pass-group2 .ensures) refl
 
 enum-told : tie.Need-enum-told
@@ -123,12 +136,14 @@ step-spec =
     part-read-group-end
     read-group-requires
     enum-known-group
+    find-requires
     undo-logged-requires
     add-pass-group
     pass-group-requires
     same-length
     returns
     enum-known-group-2
+    find-requires-2
     sub-redo-all
     part-redo-all-start
     part-redo-all-end
