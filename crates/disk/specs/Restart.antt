@@ -11,7 +11,7 @@ use Rattle.transaction.specs.Flat.{emptyTx}
 use Rattle.store.specs.declared.State.{State}
 use Rattle.store.specs.State.{unrecovered}
 use Rattle.store.specs.Answer.{done, cut, refused, answer}
-use Rattle.disk.specs.declared.restart.Restarted.{Restarted}
+use Rattle.disk.specs.declared.call.Restarted.{Restarted}
 use Rattle.disk.specs.Layout.{whole}
 use Rattle.disk.specs.Examine.{Meaning, examineOf}
 

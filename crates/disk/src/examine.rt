@@ -96,12 +96,14 @@ pub fn examine(disk: &[u8], memory: &mut [u8], tail: &mut [u8]) -> Examined
     if 16384 < end + 4 * found.undone {
         return refuse(5, memory, tail);
     }
+    let csn = found.csn;
+    let last = found.last;
     let codes = found.found;
     Examined {
         number: 0,
         end: end,
-        csn: found.csn,
-        last: found.last,
+        csn: csn,
+        last: last,
         undone: found.undone,
         found: codes,
     }

@@ -160,7 +160,7 @@ module _ (image : Image) (ok : keepsRules image ≡ true) where
 
     -- ---- the tail
 
-    undone-few : length undoneBy ≤ 16
+    pub undone-few : length undoneBy ≤ 16
     unfolding lostOf
     undone-few =
         let p = forwardOf image log m .pass in

@@ -1,4 +1,4 @@
-// Restart.
+// The call that takes no state: restart.
 use crate::examine::examine;
 use log::Csn;
 use log::TxId;
@@ -78,7 +78,9 @@ pub fn restart(disk: &mut [u8], memory: &mut [u8], tail: &mut [u8], allowed: usi
             state: state,
         };
     }
-    let state = recovered(end as u16, found.csn, found.last);
+    let csn = found.csn;
+    let last = found.last;
+    let state = recovered(end as u16, csn, last);
     Restarted {
         answer: Answer::Done,
         undone: found.undone,
