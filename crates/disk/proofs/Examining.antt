@@ -6,7 +6,7 @@ use mathlib.Core.List.{List}
 use mathlib.Core.Path.{_≡_, refl, sym, ap, ap₂, _∙_, subst}
 use lib.ListN.{length, take, drop, replicate, length-drop}
 use lib.Dec.{eqb, leb, ltb}
-use borrow.Author.Tests.{lt-ltb, le-ltb, leb-true}
+use borrow.Author.Tests.{lt-ltb, le-ltb, leb-true, ltb-false}
 use Rattle.log.proofs.Basics.{from, and-left}
 use Rattle.log.proofs.LogLaws.{log-within}
 use Rattle.image.specs.declared.Image.{Image}
@@ -19,7 +19,7 @@ use Rattle.image.proofs.Soundness.{decode-keeps}
 use Rattle.restart.specs.Restart.{Outcome, restartOf}
 use Rattle.restart.proofs.Recovery.{end-is, count-is, undone-few}
 use Rattle.disk.specs.Layout.{pointerOf, imagePart, logFrom}
-use Rattle.disk.specs.Examine.{Loaded, loadOf, Meaning, refusedBy, stepsOf, meant, examineOf}
+use Rattle.disk.specs.Examine.{Loaded, loadOf, Meaning, refusedBy, stepsOf, meant, fitting, ofLoaded, examineOf}
 
 -- ---- what was loaded keeps the image rules
 
@@ -87,3 +87,32 @@ module _ (disk : List ℕ) (p : pointerOf disk ≤ 2) (d : Decoded) (m : List �
   pub means : d .ok ≡ true → d .image .logend + stepsOf (d .image) m disk .answer .end + 4 * stepsOf (d .image) m disk .answer .undone ≤ 16384
       → examineOf disk ≡ meant (d .image .logend) (stepsOf (d .image) m disk)
   means e h = taken e ∙ rw (le-ltb 16384 (d .image .logend + stepsOf (d .image) m disk .answer .end + 4 * stepsOf (d .image) m disk .answer .undone) h)
+
+-- ---- what it leaves room for
+
+abbrev Roomy : Meaning → Type 0
+Roomy m = m .result .end + 4 * m .result .undone ≤ 16384
+
+refused-roomy : (n : ℕ) → Roomy (refusedBy n)
+unfolding refusedBy
+refused-roomy n = omega arith
+
+either : (b : Bool) (x y : Meaning) → Roomy x → Roomy y → Roomy (cond b x y)
+either true x y p q = p
+either false x y p q = q
+
+fitting-roomy : (logEnd : ℕ) (o : Outcome) → Roomy (fitting logEnd o)
+fitting-roomy logEnd o = go (ltb 16384 (logEnd + o .answer .end + 4 * o .answer .undone)) refl
+  where
+    go : (b : Bool) → ltb 16384 (logEnd + o .answer .end + 4 * o .answer .undone) ≡ b → Roomy (cond b (refusedBy 5) (meant logEnd o))
+    go true e = refused-roomy 5
+    go false e = ltb-false 16384 (logEnd + o .answer .end + 4 * o .answer .undone) e
+
+pub roomy : (disk : List ℕ) → examineOf disk .result .end + 4 * examineOf disk .result .undone ≤ 16384
+unfolding examineOf
+roomy disk =
+    let l = loadOf (pointerOf disk) disk in
+    either (ltb 2 (pointerOf disk)) (refusedBy 3) (ofLoaded l disk) (refused-roomy 3)
+    (either (l .decoded .ok) (fitting (l .decoded .image .logend) (stepsOf (l .decoded .image) (l .memory) disk)) (refusedBy 4)
+    (fitting-roomy (l .decoded .image .logend) (stepsOf (l .decoded .image) (l .memory) disk))
+    (refused-roomy 4))
