@@ -1,0 +1,118 @@
+-- What a disk means, by cases.
+use Prim.Native.Nat.{ℕ, _+_, _*_, _-_, _≤_, _<_}
+use native.Mathlib.Omega.{arith}
+use mathlib.Core.Bool.{Bool, true, false, cond, _&&_}
+use mathlib.Core.List.{List}
+use mathlib.Core.Path.{_≡_, refl, sym, ap, ap₂, _∙_, subst}
+use lib.ListN.{length, take, drop, replicate, length-drop}
+use lib.Dec.{eqb, leb, ltb}
+use borrow.Author.Tests.{lt-ltb, le-ltb, leb-true, ltb-false}
+use Rattle.log.proofs.Basics.{from, and-left}
+use Rattle.log.proofs.LogLaws.{log-within}
+use Rattle.image.specs.declared.Image.{Image}
+use Rattle.image.specs.declared.read.Decoded.{Decoded}
+use Rattle.image.specs.Rules.{keepsRules, outlinesOk}
+use Rattle.image.specs.Slots.{outlined}
+use Rattle.image.specs.Reading.{memoryOf}
+use Rattle.image.specs.Calls.{emptyImage, decodeOf}
+use Rattle.image.proofs.Soundness.{decode-keeps}
+use Rattle.restart.specs.Restart.{Outcome, restartOf}
+use Rattle.restart.proofs.Recovery.{end-is, count-is, undone-few}
+use Rattle.disk.specs.Layout.{pointerOf, imagePart, logFrom}
+use Rattle.disk.specs.Examine.{Loaded, loadOf, Meaning, refusedBy, stepsOf, meant, fitting, ofLoaded, examineOf}
+
+-- ---- what was loaded keeps the image rules
+
+loaded-keeps : (pointer : ℕ) (disk : List ℕ) → loadOf pointer disk .decoded .ok ≡ true → keepsRules (loadOf pointer disk .decoded .image) ≡ true
+unfolding loadOf emptyImage
+loaded-keeps pointer disk = go (eqb pointer 0)
+  where
+    choice : Bool → Loaded
+    choice b =
+        cond b (record { decoded = record { ok = true; image = emptyImage }; memory = replicate 4096 0 })
+        (record { decoded = decodeOf (imagePart pointer disk); memory = memoryOf (imagePart pointer disk) })
+
+    go : (b : Bool) → choice b .decoded .ok ≡ true → keepsRules (choice b .decoded .image) ≡ true
+    go true e = refl
+    go false e = decode-keeps (imagePart pointer disk) e
+
+pub keeps-end : (i : Image) → keepsRules i ≡ true → i .logend ≤ 16384
+keeps-end i e =
+    let a = leb (i .logend) 16384 in
+    let b = leb (i .ondisk .0) (i .assigned .0) in
+    let ts = outlined (i .txs) (i .count) in
+    leb-true (i .logend) 16384 (and-left a b (and-left (a && b) (leb (length ts) 8) (and-left (a && b && leb (length ts) 8) (outlinesOk (i .lastid .0) (i .assigned .0) ts) e)))
+
+-- ---- steps 2 to 5 of the part of the log that is lent
+
+pub steps-are : (i : Image) (disk m t : List ℕ) → t ≡ replicate 16384 0
+    → restartOf i (take (length disk - (17307 + i .logend)) (drop (17307 + i .logend) disk)) m t ≡ stepsOf i m disk
+unfolding stepsOf
+steps-are i disk m t e = ap₂ (λ (log tail : List ℕ). restartOf i log m tail) (from disk (17307 + i .logend)) e
+
+-- the end lies within the log, and few are undone
+module _ (i : Image) (ok : keepsRules i ≡ true) (m disk : List ℕ) (l : length disk ≡ 33691) where
+  pub end-within : i .logend + stepsOf i m disk .answer .end ≤ 16384
+  unfolding stepsOf
+  end-within =
+      let log = logFrom (i .logend) disk in
+      let d = length-drop (17307 + i .logend) disk in
+      omega (arith, end-is i ok log m (replicate 16384 0), log-within (i .ondisk .0) _ log refl, keeps-end i ok)
+
+  pub undone-within : stepsOf i m disk .answer .undone ≤ 16
+  unfolding stepsOf
+  undone-within = let log = logFrom (i .logend) disk in omega (arith, count-is i ok log m (replicate 16384 0), undone-few i ok log m)
+
+-- ---- the meaning
+
+pub means-3 : (disk : List ℕ) → 2 < pointerOf disk → examineOf disk ≡ refusedBy 3
+unfolding examineOf
+means-3 disk h = rw (lt-ltb 2 (pointerOf disk) h)
+
+module _ (disk : List ℕ) (p : pointerOf disk ≤ 2) (d : Decoded) (m : List ℕ) (loaded : d ≡ loadOf (pointerOf disk) disk .decoded) (memory : m ≡ loadOf (pointerOf disk) disk .memory) where
+  pub keeps : d .ok ≡ true → keepsRules (d .image) ≡ true
+  keeps e = subst (λ (x : Decoded). keepsRules (x .image) ≡ true) (sym loaded) (loaded-keeps (pointerOf disk) disk (subst (λ (x : Decoded). x .ok ≡ true) loaded e))
+
+  pub means-4 : d .ok ≡ false → examineOf disk ≡ refusedBy 4
+  unfolding examineOf
+  means-4 e = rw (le-ltb 2 (pointerOf disk) p, ← loaded, e)
+
+  taken : d .ok ≡ true → examineOf disk ≡ cond (ltb 16384 (d .image .logend + stepsOf (d .image) m disk .answer .end + 4 * stepsOf (d .image) m disk .answer .undone)) (refusedBy 5) (meant (d .image .logend) (stepsOf (d .image) m disk))
+  unfolding examineOf
+  taken e = rw (le-ltb 2 (pointerOf disk) p, ← loaded, ← memory, e)
+
+  pub means-5 : d .ok ≡ true → 16384 < d .image .logend + stepsOf (d .image) m disk .answer .end + 4 * stepsOf (d .image) m disk .answer .undone → examineOf disk ≡ refusedBy 5
+  means-5 e h = taken e ∙ rw (lt-ltb 16384 (d .image .logend + stepsOf (d .image) m disk .answer .end + 4 * stepsOf (d .image) m disk .answer .undone) h)
+
+  pub means : d .ok ≡ true → d .image .logend + stepsOf (d .image) m disk .answer .end + 4 * stepsOf (d .image) m disk .answer .undone ≤ 16384
+      → examineOf disk ≡ meant (d .image .logend) (stepsOf (d .image) m disk)
+  means e h = taken e ∙ rw (le-ltb 16384 (d .image .logend + stepsOf (d .image) m disk .answer .end + 4 * stepsOf (d .image) m disk .answer .undone) h)
+
+-- ---- what it leaves room for
+
+abbrev Roomy : Meaning → Type 0
+Roomy m = m .result .end + 4 * m .result .undone ≤ 16384
+
+refused-roomy : (n : ℕ) → Roomy (refusedBy n)
+unfolding refusedBy
+refused-roomy n = omega arith
+
+either : (b : Bool) (x y : Meaning) → Roomy x → Roomy y → Roomy (cond b x y)
+either true x y p q = p
+either false x y p q = q
+
+fitting-roomy : (logEnd : ℕ) (o : Outcome) → Roomy (fitting logEnd o)
+fitting-roomy logEnd o = go (ltb 16384 (logEnd + o .answer .end + 4 * o .answer .undone)) refl
+  where
+    go : (b : Bool) → ltb 16384 (logEnd + o .answer .end + 4 * o .answer .undone) ≡ b → Roomy (cond b (refusedBy 5) (meant logEnd o))
+    go true e = refused-roomy 5
+    go false e = ltb-false 16384 (logEnd + o .answer .end + 4 * o .answer .undone) e
+
+pub roomy : (disk : List ℕ) → examineOf disk .result .end + 4 * examineOf disk .result .undone ≤ 16384
+unfolding examineOf
+roomy disk =
+    let l = loadOf (pointerOf disk) disk in
+    either (ltb 2 (pointerOf disk)) (refusedBy 3) (ofLoaded l disk) (refused-roomy 3)
+    (either (l .decoded .ok) (fitting (l .decoded .image .logend) (stepsOf (l .decoded .image) (l .memory) disk)) (refusedBy 4)
+    (fitting-roomy (l .decoded .image .logend) (stepsOf (l .decoded .image) (l .memory) disk))
+    (refused-roomy 4))

@@ -1,0 +1,72 @@
+-- Restart's steps 1 to 5, as a function of the disk alone, with numbers 3, 4 and 5.
+use Prim.Native.Nat.{ℕ, _+_, _*_}
+use mathlib.Core.Bool.{Bool, true, false, cond}
+use mathlib.Core.List.{List}
+use lib.ListN.{replicate}
+use lib.Dec.{eqb, ltb}
+use Rattle.image.specs.declared.Image.{Image}
+use Rattle.image.specs.declared.read.Decoded.{Decoded}
+use Rattle.image.specs.Reading.{memoryOf}
+use Rattle.image.specs.Calls.{emptyImage, decodeOf}
+use Rattle.restart.specs.declared.Recovered.{Recovered}
+use Rattle.restart.specs.Restart.{Outcome, restartOf}
+use Rattle.disk.specs.declared.examine.Examined.{Examined}
+use Rattle.disk.specs.Layout.{pointerOf, imagePart, logFrom}
+
+pub record Loaded : Type 0 where
+  pub decoded : Decoded
+  pub memory : List ℕ
+
+-- Step 1: "Take the image named (none: zero memory, counters 0, no transactions, log end 0)."
+unfoldable pub loadOf : ℕ → List ℕ → Loaded
+loadOf pointer disk =
+    cond (eqb pointer 0) (record { decoded = record { ok = true; image = emptyImage }; memory = replicate 4096 0 })
+    (record { decoded = decodeOf (imagePart pointer disk); memory = memoryOf (imagePart pointer disk) })
+
+-- what is answered, and what stands in memory and tail then
+pub record Meaning : Type 0 where
+  pub result : Examined
+  pub memory : List ℕ
+  pub tail : List ℕ
+
+-- "its 3, 4 and 5 zero memory and tail"
+unfoldable pub refusedBy : ℕ → Meaning
+refusedBy n =
+    record {
+      result = record { number = n; end = 0; csn = record { 0 = 0 }; last = record { 0 = 0 }; undone = 0; found = replicate 8 0 };
+      memory = replicate 4096 0;
+      tail = replicate 16384 0;
+    }
+
+-- steps 2 to 5 from an image and its memory on, with a tail of zeros
+unfoldable pub stepsOf : Image → List ℕ → List ℕ → Outcome
+stepsOf image memory disk = restartOf image (logFrom (image .logend) disk) memory (replicate 16384 0)
+
+-- the end is counted from the log's first byte
+abbrev pub meant : ℕ → Outcome → Meaning
+meant logEnd o =
+    record {
+      result =
+          record {
+            number = 0;
+            end = logEnd + o .answer .end;
+            csn = o .answer .csn;
+            last = o .answer .last;
+            undone = o .answer .undone;
+            found = o .answer .found;
+          };
+      memory = o .memory;
+      tail = o .tail;
+    }
+
+-- "5. Restart: end found + 4 × transactions undone in step 4 exceeds 16,384."
+abbrev pub fitting : ℕ → Outcome → Meaning
+fitting logEnd o = cond (ltb 16384 (logEnd + o .answer .end + 4 * o .answer .undone)) (refusedBy 5) (meant logEnd o)
+
+-- "4. Restart: the image breaks a rule."
+abbrev pub ofLoaded : Loaded → List ℕ → Meaning
+ofLoaded l disk = cond (l .decoded .ok) (fitting (l .decoded .image .logend) (stepsOf (l .decoded .image) (l .memory) disk)) (refusedBy 4)
+
+-- "3. Restart: the pointer byte exceeds 2."
+unfoldable pub examineOf : List ℕ → Meaning
+examineOf disk = cond (ltb 2 (pointerOf disk)) (refusedBy 3) (ofLoaded (loadOf (pointerOf disk) disk) disk)

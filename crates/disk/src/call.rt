@@ -1,0 +1,90 @@
+// The call that takes no state: restart.
+use crate::examine::examine;
+use log::Csn;
+use log::TxId;
+use log::stores::clear_down;
+use log::stores::fill_zero;
+use store::Answer;
+use store::State;
+use transaction::Tx;
+ghost use mathlib.Core.Path.{_≡_};
+ghost use Rattle.disk.specs.Restart.{recoveredState, refusedRestart, restartOf};
+
+// Refused or cut, undone is 0 and the state is the unrecovered one.
+pub struct Restarted {
+    pub answer: Answer,
+    pub undone: usize,
+    pub stores: usize,
+    pub state: State,
+}
+
+// Step 5's state. "No transaction is left."
+fn recovered(end: u16, csn: Csn, last: TxId) -> State
+    ensures { λ r. ⌜ r ≡ recoveredState end csn last ⌝ }
+{
+    let none = Tx::empty();
+    State {
+        recovered: true,
+        logend: end,
+        ondisk: csn,
+        assigned: csn,
+        lastid: last,
+        count: 0,
+        txs: [none; 8],
+    }
+}
+
+fn refused(number: u8) -> Restarted
+    ensures { λ r. ⌜ r ≡ refusedRestart number ⌝ }
+{
+    let state = State::unrecovered();
+    Restarted {
+        answer: Answer::Refused(number),
+        undone: 0,
+        stores: 0,
+        state: state,
+    }
+}
+
+pub fn restart(disk: &mut [u8], memory: &mut [u8], tail: &mut [u8], allowed: usize) -> Restarted
+    ensures { λ r. ⌜ r ≡ restartOf (now (disk .entry)) (now (memory .entry)) (now (tail .entry)) allowed .result ⌝ }
+    ensures { λ _. ⌜ now (disk .exit) ≡ restartOf (now (disk .entry)) (now (memory .entry)) (now (tail .entry)) allowed .disk ⌝ }
+    ensures { λ _. ⌜ now (memory .exit) ≡ restartOf (now (disk .entry)) (now (memory .entry)) (now (tail .entry)) allowed .memory ⌝ }
+    ensures { λ _. ⌜ now (tail .exit) ≡ restartOf (now (disk .entry)) (now (memory .entry)) (now (tail .entry)) allowed .tail ⌝ }
+{
+    if disk.len() != 33691 {
+        return refused(1);
+    }
+    if memory.len() != 4096 {
+        return refused(1);
+    }
+    if tail.len() != 16384 {
+        return refused(1);
+    }
+    let found = examine(&*disk, memory, tail);
+    if found.number != 0 {
+        return refused(found.number);
+    }
+    let end = found.end;
+    let made = clear_down(&mut disk[17307..], end, allowed);
+    if made < 16384 - end {
+        fill_zero(memory);
+        fill_zero(tail);
+        let state = State::unrecovered();
+        return Restarted {
+            answer: Answer::Cut,
+            undone: 0,
+            stores: made,
+            state: state,
+        };
+    }
+    let csn = found.csn;
+    let last = found.last;
+    let state = recovered(end as u16, csn, last);
+    Restarted {
+        answer: Answer::Done,
+        undone: found.undone,
+        stores: made,
+        state: state,
+    }
+}

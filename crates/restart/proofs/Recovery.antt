@@ -1,0 +1,193 @@
+-- Restart is recovery: what `restartOf` leaves, in recovery's terms, for the image's transactions and the groups read.
+use Prim.Native.Nat.{ℕ, zero, suc, _+_, _*_, _-_, _≤_, _<_, max}
+use native.Mathlib.Omega.{arith}
+use mathlib.Core.Bool.{Bool, true, false, not, cond, _&&_}
+use mathlib.Core.List.{List, [], _∷_, _++_}
+use mathlib.Core.Path.{_≡_, refl, sym, ap, ap₂, _∙_, subst}
+use lib.ListN.{length, getD, drop, replicate, length-replicate, length-append}
+use lib.Dec.{eqb, ltb}
+use lib.Seq.{sets, sets-eq}
+use borrow.Author.Tests.{ne-eqb}
+use Rattle.recovery.specs.Group.{Group, groupsSize, lastCsn}
+use Rattle.recovery.specs.Lists.{All, nil, cons, filter, has}
+use Rattle.recovery.specs.Transaction.{Tx, running, committing}
+use Rattle.recovery.specs.Replay.{undoEach, layBytes}
+use Rattle.recovery.specs.Restart.{groupId, finished, unfinished, sortDesc, above, undoOrder, undone, aborts, forward, recover}
+use Rattle.recovery.proofs.Lists.{all-map, all-filter, filter-append, filter-filter}
+use Rattle.recovery.proofs.AbortLaw.{order-all}
+use Rattle.log.specs.Log.{readLog, encodeLog, wellFormedLog}
+use Rattle.log.proofs.Torn.{log-padded}
+use Rattle.transaction.specs.Lists.{upFrom}
+use Rattle.image.specs.declared.Image.{Image}
+use Rattle.image.specs.Slots.{slotAt}
+use Rattle.image.specs.Rules.{keepsRules}
+use Rattle.restart.specs.declared.forward.Pass.{Pass}
+use Rattle.restart.specs.Slots.{txAt, txsOf, filterBelow}
+use Rattle.restart.specs.Forward.{Went, startOf, groupsOf, goOver, forwardOf}
+use Rattle.restart.specs.Undo.{isRunning, isLost, runningAt, lostAt, lostBy, runningOf, lostOf, undoneOf}
+use Rattle.restart.specs.Restart.{restartOf}
+use Rattle.restart.proofs.SlotLaws.{filter-up, all-up, txs-up}
+use Rattle.restart.proofs.Rules.{image-few, ruled}
+use Rattle.restart.proofs.Sort.{filter-sort}
+use Rattle.restart.proofs.Undos.{aborts-length, running-few, lost-few}
+use Rattle.restart.proofs.Passed.{highestId, ids-below, counted, firstCode, codes-from, unused-codes, Marks, Seen, seen}
+
+abbrev pub zeros : ℕ → List ℕ
+zeros n = replicate n 0
+
+zero-at : (k i : ℕ) → getD (zeros k) i 0 ≡ 0
+zero-at zero i = refl
+zero-at (suc k) zero = refl
+zero-at (suc k) (suc i) = zero-at k i
+
+drop-zeros : (n k : ℕ) → k ≤ n → drop k (zeros n) ≡ zeros (n - k)
+drop-zeros n zero h = let e : n ≡ n - 0 = omega arith in ap zeros e
+drop-zeros zero (suc k) h = absurd (omega arith)
+drop-zeros (suc n) (suc k) h = let e : n - k ≡ suc n - suc k = omega arith in drop-zeros n k (omega arith) ∙ ap zeros e
+
+module _ (image : Image) (ok : keepsRules image ≡ true) where
+  -- ---- step 4, for codes that mark the finished ids
+
+  module _ (found f : List ℕ) (marks : Marks image ok found f) where
+    abbrev open? : Tx → Bool
+    open? t = not (has (t .id) f)
+
+    abbrev runs : Tx → Bool
+    runs t = not (t .committing) && open? t
+
+    running-is : filterBelow (runningAt image found) (txAt image) (image .count) ≡ unfinished f (running (txsOf image))
+    unfolding isRunning
+    running-is =
+        filter-up (runningAt image found) runs (txAt image) (image .count) (λ j h. one (eqb (getD found j 0) 0) (txAt image j .committing) _ _ (marks j h) (ruled image ok j h .kind))
+        ∙ ap (filter runs) (sym (txs-up image))
+        ∙ sym (filter-filter open? (λ t. not (t .committing)) runs (λ t. refl) (txsOf image))
+      where
+        one : (a b x y : Bool) → x ≡ not a → y ≡ not b → (a && y) ≡ (not b && not x)
+        one true true x y p q = q
+        one true false x y p q = rw (p, q)
+        one false true x y p q = refl
+        one false false x y p q = rw p
+
+    module _ (n : ℕ) where
+      abbrev high : Tx → Bool
+      high t = t .committing && ltb n (t .csn)
+
+      abbrev lost : Tx → Bool
+      lost t = high t && open? t
+
+      lost-is : lostBy image found n ≡ unfinished f (above n (committing (txsOf image)))
+      unfolding isLost
+      lost-is =
+          filter-up (lostAt image found n) lost (txAt image) (image .count) (λ j h. one (eqb (getD found j 0) 0) (txAt image j .committing) (ltb n (txAt image j .csn)) _ (marks j h))
+          ∙ ap (filter lost) (sym (txs-up image))
+          ∙ sym
+          (ap (filter open?) (filter-filter (λ t. ltb n (t .csn)) (λ t. t .committing) high (λ t. refl) (txsOf image))
+          ∙ filter-filter open? high lost (λ t. refl) (txsOf image))
+        where
+          one : (a b l x : Bool) → x ≡ not a → (a && b && l) ≡ (b && l && not x)
+          one true true true x p = rw p
+          one true true false x p = refl
+          one true false l x p = refl
+          one false true true x p = rw p
+          one false true false x p = refl
+          one false false l x p = refl
+
+  undone-by : (p : Pass) (f : List ℕ) → Marks image ok (p .found) f → undoneOf image p ≡ unfinished f (undoOrder (txsOf image) (p .csn .0))
+  unfolding runningOf lostOf undoOrder
+  undone-by p f marks =
+      let late = above (p .csn .0) (committing (txsOf image)) in
+      ap₂ (λ (xs ys : List Tx). xs ++ ys) (running-is (p .found) f marks)
+      (ap sortDesc (lost-is (p .found) f marks (p .csn .0)) ∙ sym (filter-sort (λ t. not (has (t .id) f)) late))
+      ∙ sym (filter-append (λ t. not (has (t .id) f)) (running (txsOf image)) (sortDesc late))
+
+  -- ---- the whole
+
+  module _ (log m : List ℕ) where
+    passed : Seen image ok (groupsOf image log) (startOf image m) []
+    passed = seen image ok (groupsOf image log) (startOf image m) [] refl (λ i h. sym (ap (λ (x : ℕ). not (eqb x 0)) (zero-at 8 i)))
+
+    -- what step 4 undoes, by recovery
+    abbrev pub undoneBy : List Tx
+    undoneBy = undone (txsOf image) (image .ondisk .0) (groupsOf image log)
+
+    -- those undone in step 4, in order
+    pub undone-is : undoneOf image (forwardOf image log m .pass) ≡ undoneBy
+    unfolding forwardOf
+    undone-is =
+        undone-by (forwardOf image log m .pass) (finished (groupsOf image log) []) (passed .marks)
+        ∙ ap (λ (n : ℕ). unfinished (finished (groupsOf image log) []) (undoOrder (txsOf image) n)) (counted image (groupsOf image log) (startOf image m) .csn)
+
+    module _ (tail : List ℕ) where
+      pub memory-is : restartOf image log m tail .memory ≡ recover layBytes (txsOf image) (image .ondisk .0) (groupsOf image log) m
+      unfolding restartOf forwardOf
+      memory-is = ap₂ (λ (ts : List Tx) (x : List ℕ). undoEach layBytes ts x) undone-is (passed .memory)
+
+      pub count-is : restartOf image log m tail .answer .undone ≡ length undoneBy
+      unfolding restartOf
+      count-is = ap length undone-is
+
+      pub end-is : restartOf image log m tail .answer .end ≡ groupsSize (groupsOf image log)
+      unfolding restartOf forwardOf
+      end-is = omega (arith, counted image (groupsOf image log) (startOf image m) .end)
+
+      pub csn-is : restartOf image log m tail .answer .csn .0 ≡ lastCsn (image .ondisk .0) (groupsOf image log)
+      unfolding restartOf forwardOf
+      csn-is = counted image (groupsOf image log) (startOf image m) .csn
+
+      -- the last id: "the larger of the image's and the highest in the groups read"
+      pub last-is : restartOf image log m tail .answer .last .0 ≡ max (image .lastid .0) (highestId (groupsOf image log))
+      unfolding restartOf forwardOf
+      last-is = counted image (groupsOf image log) (startOf image m) .last
+
+      -- it is at least each id in the image and in the groups read
+      pub last-above-image : All (λ t. t .id ≤ restartOf image log m tail .answer .last .0) (txsOf image)
+      last-above-image =
+          rw txs-up (all-up (txAt image) (image .count) 0 (λ j a b. let g = ruled image ok j (omega arith) .given in let l = last-is in omega arith))
+
+      pub last-above-groups : All (λ g. groupId g ≤ restartOf image log m tail .answer .last .0) (groupsOf image log)
+      last-above-groups = let l = last-is in all-map (λ g h. omega arith) (ids-below (groupsOf image log))
+
+      -- the codes: the first group of the transaction's id decides; 0 in slots that are not used
+      pub code-is : (i : ℕ) → i < image .count → getD (restartOf image log m tail .answer .found) i 0 ≡ firstCode (txAt image i .id) (groupsOf image log)
+      unfolding restartOf forwardOf
+      code-is i h =
+          codes-from image ok (groupsOf image log) (startOf image m) i refl h
+          ∙ ap (λ (x : ℕ). cond (eqb x 0) (firstCode (txAt image i .id) (groupsOf image log)) x) (zero-at 8 i)
+
+      pub code-unused : (i : ℕ) → image .count ≤ i → getD (restartOf image log m tail .answer .found) i 0 ≡ 0
+      unfolding restartOf forwardOf
+      code-unused i h = unused-codes image (groupsOf image log) (startOf image m) i h ∙ zero-at 8 i
+
+    -- ---- the tail
+
+    pub undone-few : length undoneBy ≤ 16
+    unfolding lostOf
+    undone-few =
+        let p = forwardOf image log m .pass in
+        omega (arith, ap length undone-is, length-append (runningOf image p) (lostOf image p), running-few image p, lost-few image (p .found) (p .csn .0), image-few image ok)
+
+    -- a tail of zeros has the abort records of those undone, and zeros after them
+    pub tail-is : restartOf image log m (zeros 16384) .tail ≡ encodeLog (aborts undoneBy) ++ zeros (16384 - 4 * length undoneBy)
+    unfolding restartOf
+    tail-is =
+        let xs = encodeLog (aborts undoneBy) in
+        let l = aborts-length undoneBy in
+        let few = undone-few in
+        let z : 0 + length xs ≤ length (zeros 16384) = omega (arith, length-replicate {A = ℕ} 16384 0) in
+        let e : 0 + length xs ≡ 4 * length undoneBy = omega arith in
+        ap (λ (ts : List Tx). sets (zeros 16384) 0 (encodeLog (aborts ts))) undone-is
+        ∙ sets-eq xs (zeros 16384) 0 z
+        ∙ ap (λ (k : ℕ). xs ++ drop k (zeros 16384)) e
+        ∙ ap (λ (ys : List ℕ). xs ++ ys) (drop-zeros 16384 (4 * length undoneBy) (omega arith))
+
+    aborts-well : (prev : ℕ) {ts : List Tx} → All (λ t. 1 ≤ t .id) ts → wellFormedLog prev (aborts ts) ≡ true
+    aborts-well prev nil = refl
+    aborts-well prev (cons {x} h hs) = rw (ne-eqb (x .id) 0 (λ e. omega arith)) (aborts-well prev hs)
+
+    -- it is read back as exactly those groups, after any commit number
+    pub tail-read : (prev : ℕ) → readLog prev (restartOf image log m (zeros 16384) .tail) ≡ aborts undoneBy
+    tail-read prev =
+        let named : All (λ t. 1 ≤ t .id) (txsOf image) = rw txs-up (all-up (txAt image) (image .count) 0 (λ j a b. ruled image ok j (omega arith) .named)) in
+        ap (readLog prev) tail-is
+        ∙ log-padded prev (aborts undoneBy) (16384 - 4 * length undoneBy)
+        (aborts-well prev (all-filter (λ t. not (has (t .id) (finished (groupsOf image log) []))) (order-all (txsOf image) (lastCsn (image .ondisk .0) (groupsOf image log)) named)))

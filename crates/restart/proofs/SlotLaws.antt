@@ -1,0 +1,110 @@
+-- Laws of the first slot that passes a test, of lists over slots, and of the image's transactions as a list.
+use Prim.Native.Nat.{ℕ, zero, suc, _+_, _≤_, _<_}
+use native.Mathlib.Decide.{le-ind}
+use native.Mathlib.Nat.{zero-add}
+use native.Mathlib.Numerals.{add-one}
+use native.Mathlib.Omega.{arith}
+use mathlib.Core.Bool.{Bool, true, false, cond}
+use mathlib.Core.List.{List, [], _∷_, _++_, map}
+use mathlib.Core.Path.{_≡_, refl, sym, ap, ap₂, _∙_, subst}
+use lib.ListN.{length, length-append}
+use lib.Dec.{eqb}
+use borrow.Author.Tests.{eqb-true, eqb-false}
+use Rattle.recovery.specs.Lists.{All, nil, cons, filter}
+use Rattle.recovery.specs.Transaction.{Tx as Transaction}
+use Rattle.recovery.proofs.Lists.{filter-append}
+use Rattle.log.proofs.Basics.{clash}
+use Rattle.transaction.specs.Lists.{upFrom}
+use Rattle.transaction.specs.View.{viewOf}
+use Rattle.transaction.proofs.Lists.{up-snoc}
+use Rattle.image.specs.declared.Image.{Image}
+use Rattle.image.specs.Slots.{slotAt}
+use Rattle.restart.specs.declared.forward.Slot.{Slot}
+use Rattle.restart.specs.declared.forward.Slot.the-variants.{At, Nowhere}
+use Rattle.restart.specs.Slots.{txAt, txsOf, orAt, firstBelow, hasId, slotOf, Below, oneIf, filterBelow}
+
+module _ (p : ℕ → Bool) (i : ℕ) where
+  pub first-miss : firstBelow p i ≡ Nowhere → p i ≡ false → firstBelow p (i + 1) ≡ Nowhere
+  first-miss a b = rw (add-one, a, b)
+
+  pub first-hit : firstBelow p i ≡ Nowhere → p i ≡ true → (n : ℕ) → i < n → firstBelow p n ≡ At i
+  first-hit a e n h = le-ind (λ (m : ℕ). firstBelow p m ≡ At i) (rw (a, e)) (λ m k d. rw d) n h
+
+-- a slot that was found lies below the bound, and passes the test
+pub first-at : (p : ℕ → Bool) (n i : ℕ) → firstBelow p n ≡ At i → (i < n) × (p i ≡ true)
+first-at p zero i e = clash (cc)
+first-at p (suc n) i e = go (first-at p n i) (firstBelow p n) refl (p n) refl e
+  where
+    go : (firstBelow p n ≡ At i → (i < n) × (p i ≡ true)) → (f : Slot) → firstBelow p n ≡ f → (b : Bool) → p n ≡ b → orAt f b n ≡ At i
+        → (i < suc n) × (p i ≡ true)
+    go ih (At j) q b r z =
+        let s : j ≡ i = cc in
+        let t = ih (q ∙ ap At s) in
+        (omega (arith, t .0), t .1)
+    go ih Nowhere q true r z = let s : n ≡ i = cc in (omega arith, ap p (sym s) ∙ r)
+    go ih Nowhere q false r z = clash (cc)
+
+-- where an id stands is a slot of the image
+pub slot-below : (image : Image) (id n : ℕ) (x : Slot) → image .count ≤ n → x ≡ slotOf image id → Below n x
+slot-below image id n Nowhere h e = tt {0}
+slot-below image id n (At i) h e = omega (arith, first-at (hasId image id) (image .count) i (sym e) .0)
+
+-- where none was found, none passes it
+pub first-none : (p : ℕ → Bool) (n : ℕ) → firstBelow p n ≡ Nowhere → (i : ℕ) → i < n → p i ≡ false
+first-none p zero e i h = absurd (omega arith)
+first-none p (suc n) e i h = go (first-none p n) (firstBelow p n) refl (p n) refl e (eqb i n) refl
+  where
+    go : (firstBelow p n ≡ Nowhere → (i : ℕ) → i < n → p i ≡ false) → (f : Slot) → firstBelow p n ≡ f → (b : Bool) → p n ≡ b → orAt f b n ≡ Nowhere
+        → (t : Bool) → eqb i n ≡ t → p i ≡ false
+    go ih (At j) q b r z t s = clash (cc)
+    go ih Nowhere q true r z t s = clash (cc)
+    go ih Nowhere q false r z true s = ap p (eqb-true i n s) ∙ r
+    go ih Nowhere q false r z false s = let d = eqb-false i n s in ih q i (omega (arith, d))
+
+module _ {A : Type 0} where
+  one-length : (b : Bool) (a : A) → length (oneIf b a) ≤ 1
+  one-length true a = omega arith
+  one-length false a = omega arith
+
+  pub filter-length : (p : ℕ → Bool) (f : ℕ → A) (n : ℕ) → length (filterBelow p f n) ≤ n
+  filter-length p f zero = omega arith
+  filter-length p f (suc n) =
+      omega (arith, filter-length p f n, length-append (filterBelow p f n) (oneIf (p n) (f n)), one-length (p n) (f n))
+
+  -- lists by tests that agree
+  pub filter-same : (p q : ℕ → Bool) (f : ℕ → A) (n : ℕ) → ((j : ℕ) → j < n → q j ≡ p j) → filterBelow q f n ≡ filterBelow p f n
+  filter-same p q f zero h = refl
+  filter-same p q f (suc n) h =
+      ap₂ (λ (xs : List A) (b : Bool). xs ++ oneIf b (f n)) (filter-same p q f n (λ j l. h j (omega arith))) (h n (omega arith))
+
+  one-cond : (b : Bool) (x : A) → oneIf b x ≡ cond b (x ∷ []) []
+  one-cond true x = refl
+  one-cond false x = refl
+
+  -- as a test of what stands in the slots
+  pub filter-up : (p : ℕ → Bool) (q : A → Bool) (f : ℕ → A) (n : ℕ) → ((j : ℕ) → j < n → p j ≡ q (f j)) → filterBelow p f n ≡ filter q (upFrom f n 0)
+  filter-up p q f zero h = refl
+  filter-up p q f (suc n) h =
+      ap₂ (λ (xs : List A) (b : Bool). xs ++ oneIf b (f n)) (filter-up p q f n (λ j l. h j (omega arith))) (h n (omega arith))
+      ∙ ap (λ (xs : List A). filter q (upFrom f n 0) ++ xs) (one-cond (q (f n)) (f n))
+      ∙ sym (ap (filter q) (up-snoc f n 0 ∙ ap (λ (j : ℕ). upFrom f n 0 ++ (f j ∷ [])) (zero-add n)) ∙ filter-append q (upFrom f n 0) (f n ∷ []))
+
+  pub all-at : {p : A → Type 0} (f : ℕ → A) (k i : ℕ) → All p (upFrom f k i) → (j : ℕ) → i ≤ j → j < i + k → p (f j)
+  all-at f zero i h j a b = absurd (omega arith)
+  all-at {p} f (suc k) i (cons h hs) j a b = go (eqb j i) refl (λ l. all-at f k (suc i) hs j l (omega arith))
+    where
+      go : (t : Bool) → eqb j i ≡ t → (suc i ≤ j → p (f j)) → p (f j)
+      go true q later = subst (λ (x : ℕ). p (f x)) (sym (eqb-true j i q)) h
+      go false q later = let d = eqb-false j i q in later (omega (arith, d))
+
+  pub all-up : {p : A → Type 0} (f : ℕ → A) (k i : ℕ) → ((j : ℕ) → i ≤ j → j < i + k → p (f j)) → All p (upFrom f k i)
+  all-up f zero i h = nil
+  all-up f (suc k) i h = cons (h i (omega arith) (omega arith)) (all-up f k (suc i) (λ j a b. h j (omega arith) (omega arith)))
+
+-- the image's transactions by slot
+pub txs-up : (image : Image) → txsOf image ≡ upFrom (txAt image) (image .count) 0
+txs-up image = go (image .count) 0
+  where
+    go : (k i : ℕ) → map viewOf (upFrom (slotAt (image .txs)) k i) ≡ upFrom (txAt image) k i
+    go zero i = refl
+    go (suc k) i = ap (λ (ts : List Transaction). txAt image i ∷ ts) (go k (suc i))

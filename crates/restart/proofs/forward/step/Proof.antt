@@ -1,0 +1,156 @@
+use Prim.Native.Nat.{ℕ, _+_}
+use native.Mathlib.Omega.{arith}
+use mathlib.Core.List.{List}
+use mathlib.Core.Option.{some}
+use mathlib.Core.Path.{_≡_, refl, sym, ap, _∙_}
+use lib.ListN.{drop}
+use borrow.Author.Needs.{needs}
+use Rattle.recovery.specs.Group.{Write, aborted, committed, redoSize}
+use Rattle.recovery.specs.Replay.{redoAll, layBytes}
+use Rattle.log.specs.Group.{readGroup, endOf}
+use Rattle.log.proofs.Basics.{from}
+use Rattle.log.proofs.Answers.{end-aborted, end-committed, end-none}
+use Rattle.restart.specs.Redo.{frontWrites}
+use Rattle.restart.specs.Forward.{wentBy}
+use Rattle.restart.proofs.SlotLaws.{slot-below}
+use Rattle.restart.proofs.Steps.{as-step, step-none, step-abort, step-commit, step-room}
+use Rattle.restart.proofs.forward.step.Statement.{statement}
+use Rattle.restart.proofs.forward.step.Tie as tie
+
+-- what was read at the end reached
+read-at : (c : tie.After-read-group) → let a = c .before .before .before .before .before .args in c .read-group .result ≡ endOf 0 (readGroup (a .p .csn .0) (drop (a .p .end) (a .log .now)))
+read-at c =
+    let a = c .before .before .before .before .before .args in
+    c .read-group .ensures ∙ ap (λ (t : List ℕ). endOf 0 (readGroup (a .p .csn .0) t)) (from (a .log .now) (a .p .end))
+
+abort-at : (c : tie.After-group)
+    → let a = c .before .before .before .before .before .before .before .args in
+    (readGroup (a .p .csn .0) (drop (a .p .end) (a .log .now)) ≡ some (aborted (c .group .given .0 .0 .0))) × (c .group .given .0 .1 .0 ≡ 4)
+abort-at c = end-aborted _ _ _ (sym (read-at (c .before .before)) ∙ c .group .given .1)
+
+commit-at : (c : tie.After-group2)
+    → let a = c .before .before .before .before .before .before .before .args in
+    (ws : List Write) × (readGroup (a .p .csn .0) (drop (a .p .end) (a .log .now)) ≡ some (committed (c .group2 .given .0 .0 .0) (c .group2 .given .0 .1 .0 .0) ws))
+    × (c .group2 .given .0 .1 .1 .0 ≡ redoSize ws + 8)
+commit-at c = end-committed _ _ _ _ (sym (read-at (c .before .before)) ∙ c .group2 .given .1)
+
+sub-read-group : tie.Need-sub-read-group
+sub-read-group c = search needs
+
+part-read-group-start : tie.Need-part-read-group-start
+part-read-group-start c = search needs
+
+part-read-group-end : tie.Need-part-read-group-end
+part-read-group-end c = search needs
+
+read-group-requires : tie.Need-read-group-requires
+read-group-requires c κs = search needs
+
+enum-known-group : tie.Need-enum-known-group
+enum-known-group c = search needs
+
+find-requires : tie.Need-find-requires
+find-requires c κs = search needs
+
+undo-logged-requires : tie.Need-undo-logged-requires
+undo-logged-requires c κs =
+    let s = c .before .before .before .before .before .before .before .before .before .before .before in
+    ((s .pre .0, slot-below (s .args .image) _ _ _ (omega arith) (c .before .before .find .ensures)), s .pre .1 .0)
+
+add-pass-group : tie.Need-add-pass-group
+add-pass-group c =
+    let a = c .before .before .before .before .before .before .before .before .before .before .before .before .before .before .args in
+    let e = abort-at (c .before .before .before .before .before .before .before) in
+    omega (arith, step-room (a .image) (a .log .now) (wentBy (a .memory .now) (a .p)) _ (c .before .before .before .before .before .before .before .before .before .before .before .before .before .before .pre .1 .1) (e .0), e .1, c .before .before .before .before .before .before .before .before .before .before .before .before .before .before .good)
+
+pass-group-requires : tie.Need-pass-group-requires
+pass-group-requires c κs =
+    let s = c .before .before .before .before .before .before .before .before .before .before .before .before .before .before in
+    slot-below (s .args .image) _ 8 _ (s .pre .0 .few) (c .before .before .before .before .before .find .ensures)
+
+same-length : tie.Need-same-length
+same-length c = search needs
+
+returns : tie.Need-returns
+returns c =
+    let a = c .before .before .before .before .before .before .before .before .before .before .before .before .before .before .before .args in
+    let e = abort-at (c .before .before .before .before .before .before .before .before) in
+    let s = step-abort (a .image) (a .log .now) (wentBy (a .memory .now) (a .p)) _ _ _ _ (e .0) (e .1) (c .before .before .before .before .before .before .find .ensures) (c .before .before .before .undo-logged .ensures) in
+    as-step _ _ _ _ s (c .pass-group .ensures) refl
+
+enum-known-group-2 : tie.Need-enum-known-group-2
+enum-known-group-2 c = search needs
+
+find-requires-2 : tie.Need-find-requires-2
+find-requires-2 c κs = search needs
+
+sub-redo-all : tie.Need-sub-redo-all
+sub-redo-all c = search needs
+
+part-redo-all-start : tie.Need-part-redo-all-start
+part-redo-all-start c = search needs
+
+part-redo-all-end : tie.Need-part-redo-all-end
+part-redo-all-end c = search needs
+
+redo-all-requires : tie.Need-redo-all-requires
+redo-all-requires c κs = search needs
+
+add-pass-group-2 : tie.Need-add-pass-group-2
+add-pass-group-2 c =
+    let a = c .before .before .before .before .before .before .before .before .before .before .before .before .before .before .args in
+    let e = commit-at (c .before .before .before .before .before .before .before) in
+    omega (arith, step-room (a .image) (a .log .now) (wentBy (a .memory .now) (a .p)) _ (c .before .before .before .before .before .before .before .before .before .before .before .before .before .before .pre .1 .1) (e .1), e .2, c .before .before .before .before .before .before .before .before .before .before .before .before .before .before .good)
+
+pass-group-requires-2 : tie.Need-pass-group-requires-2
+pass-group-requires-2 c κs =
+    let s = c .before .before .before .before .before .before .before .before .before .before .before .before .before .before in
+    slot-below (s .args .image) _ 8 _ (s .pre .0 .few) (c .before .before .before .before .before .find2 .ensures)
+
+same-length-2 : tie.Need-same-length-2
+same-length-2 c = search needs
+
+returns-2 : tie.Need-returns-2
+returns-2 c =
+    let a = c .before .before .before .before .before .before .before .before .before .before .before .before .before .before .before .args in
+    let e = commit-at (c .before .before .before .before .before .before .before .before) in
+    let m = c .before .before .before .redo-all .ensures ∙ ap (λ (t : List ℕ). redoAll layBytes (frontWrites t) (a .memory .now)) (from (a .log .now) (a .p .end)) in
+    let s = step-commit (a .image) (a .log .now) (wentBy (a .memory .now) (a .p)) _ _ _ _ (e .0) _ (e .1) (e .2) (c .before .before .before .before .before .before .find2 .ensures) m in
+    as-step _ _ _ _ s (c .pass-group2 .ensures) refl
+
+enum-told : tie.Need-enum-told
+enum-told c = search needs
+
+returns-3 : tie.Need-returns-3
+returns-3 c =
+    let a = c .before .before .before .before .before .before .before .args in
+    let s = step-none (a .image) (a .log .now) (wentBy (a .memory .now) (a .p)) (end-none _ (sym (read-at (c .before .before)) ∙ c .enum-told .given .1)) in
+    as-step _ _ _ _ s refl refl
+
+pub step-spec : {M : Type 1} → statement M
+step-spec =
+    tie.close
+    (tie.spec
+    sub-read-group
+    part-read-group-start
+    part-read-group-end
+    read-group-requires
+    enum-known-group
+    find-requires
+    undo-logged-requires
+    add-pass-group
+    pass-group-requires
+    same-length
+    returns
+    enum-known-group-2
+    find-requires-2
+    sub-redo-all
+    part-redo-all-start
+    part-redo-all-end
+    redo-all-requires
+    add-pass-group-2
+    pass-group-requires-2
+    same-length-2
+    returns-2
+    enum-told
+    returns-3)

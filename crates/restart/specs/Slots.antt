@@ -1,0 +1,59 @@
+-- The image's transactions by slot and by id, and lists over its slots.
+use Prim.Native.Nat.{ℕ, zero, suc, _≤_, _<_}
+use mathlib.Core.Bool.{Bool, true, false}
+use mathlib.Core.List.{List, [], _∷_, _++_, map}
+use mathlib.Core.Path.{_≡_}
+use lib.Dec.{eqb}
+use Rattle.recovery.specs.Transaction.{Tx as Transaction}
+use Rattle.transaction.specs.View.{rangesOf, viewOf}
+use Rattle.transaction.specs.Rules.{recordsOk}
+use Rattle.image.specs.declared.Image.{Image}
+use Rattle.image.specs.Slots.{slotAt, listed}
+use Rattle.restart.specs.declared.forward.Slot.{Slot}
+use Rattle.restart.specs.declared.forward.Slot.the-variants.{At, Nowhere}
+
+-- the transaction in slot i, as recovery has it
+abbrev pub txAt : Image → ℕ → Transaction
+txAt image i = viewOf (slotAt (image .txs) i)
+
+-- those of the image, in order of begin
+abbrev pub txsOf : Image → List Transaction
+txsOf image = map viewOf (listed (image .txs) (image .count))
+
+-- what was found, else n where the test holds of it
+abbrev pub orAt : Slot → Bool → ℕ → Slot
+orAt (At i) b n = At i
+orAt Nowhere true n = At n
+orAt Nowhere false n = Nowhere
+
+-- the first slot below n of which p holds
+abbrev pub firstBelow : (ℕ → Bool) → ℕ → Slot
+firstBelow p zero = Nowhere
+firstBelow p (suc n) = orAt (firstBelow p n) (p n) n
+
+abbrev pub hasId : Image → ℕ → ℕ → Bool
+hasId image id i = eqb (txAt image i .id) id
+
+-- where an id stands in the image
+abbrev pub slotOf : Image → ℕ → Slot
+slotOf image id = firstBelow (hasId image id) (image .count)
+
+-- a slot, if it is one, lies below n
+abbrev pub Below : ℕ → Slot → Type 0
+Below n Nowhere = Unit {0}
+Below n (At i) = i < n
+
+-- one element, or none
+abbrev pub oneIf : {A : Type 0} → Bool → A → List A
+oneIf true a = a ∷ []
+oneIf false a = []
+
+-- f of each slot below n of which p holds, in order
+abbrev pub filterBelow : {A : Type 0} → (ℕ → Bool) → (ℕ → A) → ℕ → List A
+filterBelow p f zero = []
+filterBelow p f (suc n) = filterBelow p f n ++ oneIf (p n) (f n)
+
+-- of the image rules, what the inner functions rest on
+pub record Undoable (image : Image) : Type 0 where
+  pub few : image .count ≤ 8
+  pub ranged : (i : ℕ) → i < image .count → recordsOk (rangesOf (slotAt (image .txs) i .undo)) ≡ true

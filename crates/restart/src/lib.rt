@@ -1,0 +1,49 @@
+// Restart's core, steps 2 to 5, from a decoded image on: once over the log, then what is left unfinished is undone.
+mod forward;
+mod undo;
+
+use crate::forward::forward;
+use crate::undo::undo_lost;
+use crate::undo::undo_running;
+use image::Image;
+use log::Csn;
+use log::TxId;
+ghost use mathlib.Core.Path.{_≡_};
+ghost use mathlib.Core.Bool.{true};
+ghost use lib.ListN.{length};
+ghost use Rattle.image.specs.Rules.{keepsRules};
+ghost use Rattle.restart.specs.Restart.{restartOf};
+
+// Where the log ends, counted from the front of the part handed in, the last commit number found, the last id given, how many transactions
+// step 4 undid, and for each transaction of the image a code: 0 no group of its id found, 1 a commit first, 2 an abort first.
+pub struct Recovered {
+    pub end: usize,
+    pub csn: Csn,
+    pub last: TxId,
+    pub undone: usize,
+    pub found: [u8; 8],
+}
+
+// log is the log from the image's log end on; memory comes in as the image's, and tail as zeros.
+pub fn recover(image: Image, log: &[u8], memory: &mut [u8], tail: &mut [u8]) -> Recovered
+    requires { ⌜ keepsRules image ≡ true ⌝ }
+    requires { ⌜ length (now memory) ≡ 4096 ⌝ }
+    requires { ⌜ length (now tail) ≡ 16384 ⌝ }
+    ensures { λ r. ⌜ r ≡ restartOf image (now (log .entry)) (now (memory .entry)) (now (tail .entry)) .answer ⌝ }
+    ensures { λ _. ⌜ now (memory .exit) ≡ restartOf image (now (log .entry)) (now (memory .entry)) (now (tail .entry)) .memory ⌝ }
+    ensures { λ _. ⌜ now (tail .exit) ≡ restartOf image (now (log .entry)) (now (memory .entry)) (now (tail .entry)) .tail ⌝ }
+{
+    let p = forward(image, log, memory);
+    let n = undo_running(image, p, memory, tail);
+    let k = undo_lost(image, p, memory, tail, n);
+    let csn = p.csn;
+    let last = p.last;
+    let found = p.found;
+    Recovered {
+        end: p.end,
+        csn: csn,
+        last: last,
+        undone: k,
+        found: found,
+    }
+}

@@ -1,0 +1,256 @@
+-- The cases of numbers 1 and 2, each from the tests that lead there.
+use Prim.Native.Nat.{ℕ, zero, suc, _+_, _-_, _*_, _≤_, _<_}
+use native.Mathlib.Omega.{arith}
+use mathlib.Core.Bool.{Bool, true, false, cond, not, _&&_, _||_, or-true, and-false}
+use mathlib.Core.List.{List, [], _∷_, _++_}
+use mathlib.Core.Path.{_≡_, refl, sym, ap, _∙_, subst}
+use lib.ListN.{length, drop}
+use lib.Dec.{eqb, leb, ltb}
+use borrow.Author.Tests.{eq-eqb, ne-eqb, lt-ltb, leb-true, eqb-true, not-false}
+use Rattle.recovery.specs.Group.{lastCsn}
+use Rattle.recovery.specs.Lists.{any}
+use Rattle.log.specs.Log.{readLog}
+use Rattle.transaction.specs.Lists.{upFrom, every, sumOf}
+use Rattle.transaction.specs.declared.Tx.{Tx}
+use Rattle.transaction.specs.View.{Range, rangesOf}
+use Rattle.transaction.specs.Rules.{headOk as headRules, recordsOk, outlineOk, alike, redoOk, rangesSize, roomOf}
+use Rattle.transaction.proofs.Lists.{and-left, and-right, every-at, length-up, up-turn}
+use Rattle.transaction.proofs.Ranges.{size-bound}
+use Rattle.store.specs.declared.State.{State}
+use Rattle.store.specs.declared.admit.Measured.{Measured}
+use Rattle.store.specs.declared.admit.Admission.{Admission}
+use Rattle.store.specs.State.{txAt, txsOf, outlineAt, outlinesOf}
+use Rattle.store.specs.Rules.{distinct, outlinesOk, keepsImageRules, allZero, tailLength, tailOk, roomUsed, unfit, headOk}
+use Rattle.store.specs.Numbers.{Check, firstNumber, sharedChecks}
+use Rattle.store.specs.Admission.{measuredIf, measuredTxs, measuredTail, admission}
+use Rattle.store.proofs.Fits.{Fit, fit, unfit-no, running-redo}
+use Rattle.store.proofs.Checks.{stops, passes}
+
+abbrev pub refusedBy : ℕ → Admission
+refusedBy n = record { number = n; end = 0; room = 0 }
+
+-- ---- what was measured
+
+if-ok : (b : Bool) (n : ℕ) → measuredIf b n .ok ≡ b
+if-ok true n = refl
+if-ok false n = refl
+
+if-room : (b : Bool) (n : ℕ) → b ≡ true → measuredIf b n .room ≡ n
+if-room b n e = rw e
+
+module _ (d a : ℕ) (t : List ℕ) where
+  pub other-csn : (lastCsn d (readLog d t) ≡ a → ⊥) → measuredTail d a t ≡ record { ok = false; room = 0 }
+  unfolding measuredTail
+  other-csn h = rw (ne-eqb (lastCsn d (readLog d t)) a h)
+
+  pub other-rest : allZero (drop (tailLength d t) t) ≡ false → measuredTail d a t ≡ record { ok = false; room = 0 }
+  unfolding measuredTail
+  other-rest e = rw (e, and-false)
+
+  pub tail-right : lastCsn d (readLog d t) ≡ a → allZero (drop (tailLength d t) t) ≡ true → measuredTail d a t ≡ record { ok = true; room = tailLength d t }
+  unfolding measuredTail
+  tail-right h e = rw (eq-eqb (lastCsn d (readLog d t)) a h, e)
+
+  pub tail-measured : (r : Measured) → r ≡ measuredTail d a t → r .ok ≡ tailOk d a t
+  unfolding measuredTail
+  tail-measured r e = ap (λ (x : Measured). x .ok) e ∙ if-ok (tailOk d a t) (tailLength d t)
+
+  pub tail-room : (r : Measured) → r ≡ measuredTail d a t → r .ok ≡ true → r .room ≡ tailLength d t
+  unfolding measuredTail
+  tail-room r e o = ap (λ (x : Measured). x .room) e ∙ if-room (tailOk d a t) (tailLength d t) (sym (tail-measured r e) ∙ o)
+
+module _ (s : State) where
+  abbrev outlined : Bool
+  outlined = outlinesOk (s .lastid .0) (s .assigned .0) (outlinesOf s)
+
+  pub bad-outline : every (outlineOk (s .lastid .0) (s .assigned .0)) (outlinesOf s) ≡ false → measuredTxs s ≡ record { ok = false; room = 0 }
+  unfolding measuredTxs
+  bad-outline e = rw e
+
+  pub bad-alike : distinct (outlinesOf s) ≡ false → measuredTxs s ≡ record { ok = false; room = 0 }
+  unfolding measuredTxs
+  bad-alike e = rw (e, and-false)
+
+  pub bad-redo : every redoOk (txsOf s) ≡ false → measuredTxs s ≡ record { ok = false; room = 0 }
+  unfolding measuredTxs
+  bad-redo e = rw (e, and-false)
+
+  pub good-txs : every (outlineOk (s .lastid .0) (s .assigned .0)) (outlinesOf s) ≡ true → distinct (outlinesOf s) ≡ true → every redoOk (txsOf s) ≡ true
+      → measuredTxs s ≡ record { ok = true; room = sumOf roomOf (txsOf s) }
+  unfolding measuredTxs
+  good-txs e f g = rw (e, f, g)
+
+  pub txs-measured : (r : Measured) → r ≡ measuredTxs s → r .ok ≡ outlined && every redoOk (txsOf s)
+  unfolding measuredTxs
+  txs-measured r e = ap (λ (x : Measured). x .ok) e ∙ if-ok (outlined && every redoOk (txsOf s)) (sumOf roomOf (txsOf s))
+
+  pub txs-room : (r : Measured) → r ≡ measuredTxs s → r .ok ≡ true → r .room ≡ sumOf roomOf (txsOf s)
+  unfolding measuredTxs
+  txs-room r e o =
+      ap (λ (x : Measured). x .room) e ∙ if-room (outlined && every redoOk (txsOf s)) (sumOf roomOf (txsOf s)) (sym (txs-measured r e) ∙ o)
+
+-- a turn of the loop over the transactions
+module _ (s : State) (n i : ℕ) (h : i < n) where
+  distinct-turn : distinct (upFrom (outlineAt s) (n - i) i)
+      ≡ not (any (alike (txAt s i .id .0) (txAt s i .csn .0)) (upFrom (outlineAt s) (n - (i + 1)) (i + 1))) && distinct (upFrom (outlineAt s) (n - (i + 1)) (i + 1))
+  distinct-turn = ap distinct (up-turn (outlineAt s) n i h)
+
+  pub distinct-bad : any (alike (txAt s i .id .0) (txAt s i .csn .0)) (upFrom (outlineAt s) (n - (i + 1)) (i + 1)) ≡ true → distinct (upFrom (outlineAt s) (n - i) i) ≡ false
+  distinct-bad e = distinct-turn ∙ ap (λ (b : Bool). not b && distinct (upFrom (outlineAt s) (n - (i + 1)) (i + 1))) e
+
+  pub distinct-good : any (alike (txAt s i .id .0) (txAt s i .csn .0)) (upFrom (outlineAt s) (n - (i + 1)) (i + 1)) ≡ false
+      → distinct (upFrom (outlineAt s) (n - i) i) ≡ distinct (upFrom (outlineAt s) (n - (i + 1)) (i + 1))
+  distinct-good e = distinct-turn ∙ ap (λ (b : Bool). not b && distinct (upFrom (outlineAt s) (n - (i + 1)) (i + 1))) e
+
+-- ---- number 2
+
+module _ (s : State) (t : List ℕ) where
+  abbrev head : Bool
+  head = headOk (s .recovered) (s .logend) (s .ondisk .0) (s .assigned .0) (s .count)
+
+  pub unfit-head : head ≡ false → unfit s t ≡ true
+  unfolding unfit headOk
+  unfit-head e =
+      rw (length-up (outlineAt s) (s .count) 0)
+      (go (s .recovered) (leb (s .logend) 16384) (leb (s .ondisk .0) (s .assigned .0)) (leb (s .count) 8) (outlinesOk (s .lastid .0) (s .assigned .0) (outlinesOf s))
+      (ltb 16384 (roomUsed s t)) (not (every redoOk (txsOf s))) (not (tailOk (s .ondisk .0) (s .assigned .0) t)) e)
+    where
+      go : (r a b k o x y z : Bool) → r && a && b && k ≡ false → not r || not (a && b && k && o) || x || y || z ≡ true
+      go false a b k o x y z e = refl
+      go true false b k o x y z e = refl
+      go true true false k o x y z e = refl
+      go true true true false o x y z e = refl
+      go true true true true o x y z e = let w : true ≡ false = e in cc
+
+  pub unfit-txs : outlinesOk (s .lastid .0) (s .assigned .0) (outlinesOf s) && every redoOk (txsOf s) ≡ false → unfit s t ≡ true
+  unfolding unfit
+  unfit-txs e =
+      go (not (s .recovered)) (leb (s .logend) 16384 && leb (s .ondisk .0) (s .assigned .0) && leb (length (outlinesOf s)) 8) (outlinesOk (s .lastid .0) (s .assigned .0) (outlinesOf s))
+      (every redoOk (txsOf s)) (ltb 16384 (roomUsed s t)) (not (tailOk (s .ondisk .0) (s .assigned .0) t)) e
+    where
+      go : (r i o d x z : Bool) → o && d ≡ false → r || not (i && o) || x || not d || z ≡ true
+      go r i false d x z e = rw (and-false, or-true)
+      go r i true false x z e = rw or-true
+      go r i true true x z e = let w : true ≡ false = e in cc
+
+  pub unfit-tail : tailOk (s .ondisk .0) (s .assigned .0) t ≡ false → unfit s t ≡ true
+  unfolding unfit
+  unfit-tail e = rw (e, or-true)
+
+  pub unfit-room : 16384 < roomUsed s t → unfit s t ≡ true
+  unfolding unfit
+  unfit-room h = rw (lt-ltb _ _ h, or-true)
+
+  module _ (e : head ≡ true) where
+    pub head-count : s .count ≤ 8
+    unfolding headOk
+    head-count = leb-true _ _ (and-right (s .recovered && leb (s .logend) 16384 && leb (s .ondisk .0) (s .assigned .0)) (leb (s .count) 8) e)
+
+    pub unfit-none : outlinesOk (s .lastid .0) (s .assigned .0) (outlinesOf s) && every redoOk (txsOf s) ≡ true → tailOk (s .ondisk .0) (s .assigned .0) t ≡ true
+        → roomUsed s t ≤ 16384 → unfit s t ≡ false
+    unfolding headOk
+    unfit-none m q h =
+        let a = s .recovered in
+        let b = leb (s .logend) 16384 in
+        let c = leb (s .ondisk .0) (s .assigned .0) in
+        let d = leb (s .count) 8 in
+        let x₂ : a && b && c ≡ true = and-left (a && b && c) d e in
+        let x₁ : a && b ≡ true = and-left (a && b) c x₂ in
+        let o : outlinesOk (s .lastid .0) (s .assigned .0) (outlinesOf s) ≡ true = and-left _ (every redoOk (txsOf s)) m in
+        unfit-no s t
+        (record {
+          recovered = and-left a b x₁;
+          image = rw (length-up (outlineAt s) (s .count) 0, and-right a b x₁, and-right (a && b) c x₂, and-right (a && b && c) d e, o);
+          room = h;
+          redo = and-right (outlinesOk (s .lastid .0) (s .assigned .0) (outlinesOf s)) (every redoOk (txsOf s)) m;
+          tail = q;
+        })
+
+-- ---- bounds, so that no sum wraps
+
+pub redo-records : (t : Tx) → recordsOk (rangesOf (t .undo)) ≡ true → redoOk t ≡ true → t .status ≡ 1 → recordsOk (rangesOf (t .redo)) ≡ true
+redo-records t e f h = subst (λ (rs : List Range). recordsOk rs ≡ true) (running-redo t f h) e
+
+pub room-bound : (t : Tx) → recordsOk (rangesOf (t .undo)) ≡ true → redoOk t ≡ true → roomOf t ≤ 632
+room-bound t e f = go (eqb (t .status) 1) refl
+  where
+    go : (b : Bool) → eqb (t .status) 1 ≡ b → cond b (rangesSize (rangesOf (t .redo)) + 8) 0 ≤ 632
+    go true p = let h = size-bound (rangesOf (t .redo)) (redo-records t e f (eqb-true _ _ p)) in omega arith
+    go false p = omega arith
+
+sum-bound : (f : ℕ → Tx) (k i : ℕ) → ((j : ℕ) → i ≤ j → j < i + k → roomOf (f j) ≤ 632) → sumOf roomOf (upFrom f k i) ≤ 632 * k
+sum-bound f zero i h = omega arith
+sum-bound f (suc k) i h =
+    let a = h i (omega arith) (omega arith) in
+    let b = sum-bound f k (suc i) (λ j p q. h j (omega arith) (omega arith)) in
+    omega arith
+
+abbrev headOf : State → ℕ → Bool
+headOf s j = headRules (s .lastid .0) (s .assigned .0) (txAt s j .id .0) (txAt s j .status) (txAt s j .csn .0)
+
+-- what the transactions of a state have reserved together
+pub reserved-bound : (s : State) → s .count ≤ 8 → outlinesOk (s .lastid .0) (s .assigned .0) (outlinesOf s) && every redoOk (txsOf s) ≡ true → sumOf roomOf (txsOf s) ≤ 5056
+reserved-bound s h e =
+    let o : every (outlineOk (s .lastid .0) (s .assigned .0)) (outlinesOf s) ≡ true = and-left _ (distinct (outlinesOf s)) (and-left _ (every redoOk (txsOf s)) e) in
+    let d : every redoOk (txsOf s) ≡ true = and-right (outlinesOk (s .lastid .0) (s .assigned .0) (outlinesOf s)) _ e in
+    let b = sum-bound (txAt s) (s .count) 0
+    (λ j p q. room-bound (txAt s j) (and-right (headOf s j) (recordsOk (rangesOf (txAt s j .undo))) (every-at (outlineAt s) (outlineOk (s .lastid .0) (s .assigned .0)) (s .count) 0 o j p q))
+    (every-at (txAt s) redoOk (s .count) 0 d j p q)) in
+    omega arith
+
+-- ---- the admission
+
+module _ (s : State) (m : ℕ) (t : List ℕ) where
+  pub admit-memory : (m ≡ 4096 → ⊥) → admission s m t ≡ refusedBy 1
+  unfolding admission
+  admit-memory h = rw (ne-eqb m 4096 h)
+
+  pub admit-tail : (length t ≡ 16384 → ⊥) → admission s m t ≡ refusedBy 1
+  unfolding admission
+  admit-tail h = rw (ne-eqb (length t) 16384 h, and-false)
+
+  module _ (e : m ≡ 4096) (f : length t ≡ 16384) where
+    pub admit-unfit : unfit s t ≡ true → admission s m t ≡ refusedBy 2
+    unfolding admission
+    admit-unfit h = rw (eq-eqb m 4096 e, eq-eqb (length t) 16384 f, h)
+
+    pub admit-fit : unfit s t ≡ false → admission s m t ≡ record { number = 0; end = tailLength (s .ondisk .0) t; room = roomUsed s t }
+    unfolding admission
+    admit-fit h = rw (eq-eqb m 4096 e, eq-eqb (length t) 16384 f, h)
+
+  -- what a call learns of an admission that did not refuse
+  pub record Admitted (x : Admission) : Type 0 where
+    pub memory : m ≡ 4096
+    pub tail : length t ≡ 16384
+    pub fits : Fit s t
+    pub passed : firstNumber (sharedChecks s m t) ≡ 0
+    pub end : x .end ≡ tailLength (s .ondisk .0) t
+    pub room : x .room ≡ roomUsed s t
+
+  pub number-of : (x : Admission) → x ≡ admission s m t → x .number ≡ firstNumber (sharedChecks s m t)
+  unfolding admission
+  number-of x e = ap (λ (y : Admission). y .number) e
+
+  pub admitted : (x : Admission) → x ≡ admission s m t → x .number ≡ 0 → Admitted x
+  unfolding admission
+  admitted x e h =
+      let z : firstNumber (sharedChecks s m t) ≡ 0 = sym (number-of x e) ∙ h in
+      go (eqb m 4096) (eqb (length t) 16384) (unfit s t) refl refl refl z
+      (ap (λ (y : Admission). y .end) e ∙ rw (eq-eqb _ _ z)) (ap (λ (y : Admission). y .room) e ∙ rw (eq-eqb _ _ z))
+    where
+      go : (a b c : Bool) → eqb m 4096 ≡ a → eqb (length t) 16384 ≡ b → unfit s t ≡ c → _≡_ {A = ℕ} (cond (not (a && b)) 1 (cond c 2 0)) 0
+          → x .end ≡ tailLength (s .ondisk .0) t → x .room ≡ roomUsed s t → Admitted x
+      go true true false p q r z u v =
+          record { memory = eqb-true _ _ p; tail = eqb-true _ _ q; fits = fit s t r; passed = rw (p, q, r); end = u; room = v }
+      go true true true p q r z u v = absurd (omega arith)
+      go true false c p q r z u v = absurd (omega arith)
+      go false b c p q r z u v = absurd (omega arith)
+
+-- a refusal by 1 or 2 is the call's, whatever it would check besides
+pub shared-stops : (s : State) (m : ℕ) (t : List ℕ) (cs : List Check) (x : Admission) → x ≡ admission s m t → (x .number ≡ 0 → ⊥) → firstNumber (sharedChecks s m t ++ cs) ≡ x .number
+shared-stops s m t cs x e h =
+    let n = number-of s m t x e in
+    stops (sharedChecks s m t) cs (omega arith, (omega arith, Prim.tt)) (λ z. h (n ∙ z)) ∙ sym n
+
+pub shared-passes : (s : State) (m : ℕ) (t : List ℕ) (cs : List Check) → firstNumber (sharedChecks s m t) ≡ 0 → firstNumber (sharedChecks s m t ++ cs) ≡ firstNumber cs
+shared-passes s m t cs z = passes (sharedChecks s m t) cs (omega arith, (omega arith, Prim.tt)) z

@@ -1,0 +1,74 @@
+use borrow.Author.Needs.{needs}
+use Prim.Native.Nat.{ℕ, _+_, _≤_, _<_}
+use native.Mathlib.Omega.{arith}
+use mathlib.Core.List.{List, [], _∷_}
+use mathlib.Core.Path.{_≡_, refl, sym, ap, _∙_, subst}
+use lib.ListN.{length}
+use Rattle.store.specs.State.{slotOf}
+use lib.Dec.{eqb, ltb}
+use mir.Val.{Fits}
+use mir.Syntax.{w16}
+use borrow.Author.Tests.{eqb-false}
+use Rattle.store.specs.declared.State.{State}
+use Rattle.store.specs.Answer.{done, answer}
+use Rattle.store.specs.Rules.{roomUsed}
+use Rattle.store.specs.Numbers.{check, firstNumber, beginChecks}
+use Rattle.store.specs.Steps.{begunState}
+use Rattle.store.specs.Calls.{beginNumber}
+use Rattle.store.proofs.Checks.{passed}
+use Rattle.store.proofs.Fits.{image-count}
+use Rattle.store.proofs.Admitting.{Admitted, admitted, shared-stops, shared-passes}
+use Rattle.store.proofs.Calling.{begin-refused, begin-done}
+use Rattle.store.proofs.State.begin.Statement.{statement}
+use Rattle.store.proofs.State.begin.Tie as tie
+
+admit-requires : tie.Need-admit-requires
+admit-requires c κs = search needs
+
+returns : tie.Need-returns
+returns c =
+    let s = c .before .before .before .before .before .args .self in
+    let m = c .before .before .before .before .before .args .memory .now in
+    let t = c .before .before .before .before .before .args .tail .now in
+    sym (begin-refused s m t (c .before .before .admit .result .number) (shared-stops s (length m) t (beginChecks (s .count) (s .lastid .0) (roomUsed s t)) _ (c .before .before .admit .ensures) (c .if1 .taken)) (c .if1 .taken))
+
+admission-of : (c : tie.Else1) → Admitted (c .before .before .before .before .before .args .self) (length (c .before .before .before .before .before .args .memory .now)) (c .before .before .before .before .before .args .tail .now) (c .before .before .admit .result)
+admission-of c = admitted (c .before .before .before .before .before .args .self) (length (c .before .before .before .before .before .args .memory .now)) (c .before .before .before .before .before .args .tail .now) (c .before .before .admit .result) (c .before .before .admit .ensures) (c .if1 .left)
+
+begin-number-requires : tie.Need-begin-number-requires
+begin-number-requires c κs = let x = admission-of (c) in omega (arith, x .room, x .fits .room)
+
+-- the number is begin's own
+own : (c : tie.After-begin-number) → beginNumber (c .before .before .before .before .before .before .args .self) (c .before .before .before .before .before .before .args .memory .now) (c .before .before .before .before .before .before .args .tail .now) ≡ c .begin-number .result
+own c =
+    let s = c .before .before .before .before .before .before .args .self in
+    let x = admission-of (c .before) in
+    shared-passes s (length (c .before .before .before .before .before .before .args .memory .now)) (c .before .before .before .before .before .before .args .tail .now) (beginChecks (s .count) (s .lastid .0) (roomUsed s (c .before .before .before .before .before .before .args .tail .now))) (x .passed)
+    ∙ sym (c .begin-number .ensures ∙ ap (λ (r : ℕ). firstNumber (beginChecks (s .count) (s .lastid .0) r)) (x .room))
+
+returns-2 : tie.Need-returns-2
+returns-2 c = sym (begin-refused (c .before .before .before .before .before .before .before .args .self) (c .before .before .before .before .before .before .before .args .memory .now) (c .before .before .before .before .before .before .before .args .tail .now) (c .before .begin-number .result) (own (c .before)) (c .if2 .taken))
+
+free : (c : tie.Else2) → (c .before .before .before .before .before .before .before .args .self .count < 8) × (c .before .before .before .before .before .before .before .args .self .lastid .0 < 65535)
+free c =
+    let s = c .before .before .before .before .before .before .before .args .self in
+    let x = admission-of (c .before .before) in
+    let r = c .before .before .before .before .admit .result .room in
+    let p = passed 11 (eqb (s .count) 8) (check 12 (eqb (s .lastid .0) 65535) ∷ check 13 (ltb 16384 (r + 8)) ∷ []) (omega arith) (sym (c .before .begin-number .ensures) ∙ c .if2 .left) in
+    let q = passed 12 (eqb (s .lastid .0) 65535) (check 13 (ltb 16384 (r + 8)) ∷ []) (omega arith) (p .1) in
+    let w : Fits w16 (s .lastid .0) = search needs in
+    (omega (arith, image-count s (x .fits .image), eqb-false (s .count) 8 (p .0)), omega (arith, w, eqb-false (s .lastid .0) 65535 (q .0)))
+
+begin-step-requires : tie.Need-begin-step-requires
+begin-step-requires c κs = free (c)
+
+returns-3 : tie.Need-returns-3
+unfolding begunState
+returns-3 c =
+    ap (λ (u : State). record { answer = answer done; id = u .lastid; state = u }) (c .before .begin-step .ensures)
+    ∙ sym (begin-done (c .before .before .before .before .before .before .before .before .before .args .self) (c .before .before .before .before .before .before .before .before .before .args .memory .now) (c .before .before .before .before .before .before .before .before .before .args .tail .now) (own (c .before .before .before) ∙ c .before .before .if2 .left))
+
+pub begin-spec : {M : Type 1} → statement M
+begin-spec =
+    tie.close
+    (tie.spec admit-requires returns begin-number-requires returns-2 begin-step-requires returns-3)

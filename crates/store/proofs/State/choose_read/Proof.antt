@@ -1,0 +1,75 @@
+use borrow.Author.Needs.{needs}
+use Prim.Native.Nat.{ℕ, _+_, _≤_, _<_}
+use native.Mathlib.Omega.{arith}
+use mathlib.Core.List.{List, [], _∷_}
+use mathlib.Core.Path.{_≡_, refl, sym, ap, _∙_}
+use mathlib.Core.Bool.{true, false}
+use borrow.Author.Tests.{not-true, not-false}
+use Rattle.recovery.specs.Lists.{any}
+use Rattle.transaction.specs.Rules.{heldAgainst}
+use Rattle.transaction.proofs.Ranges.{in-range}
+use Rattle.store.specs.State.{txsOf}
+use Rattle.store.specs.Numbers.{abortChecks, check8, check9}
+use Rattle.store.proofs.Choosing.{choice-stops, choice-refuses, choice-goes, refused-8, passes-8}
+use Rattle.store.proofs.State.choose_read.Statement.{statement}
+use Rattle.store.proofs.State.choose_read.Tie as tie
+
+choose-running-requires : tie.Need-choose-running-requires
+choose-running-requires c κs = search needs
+
+returns : tie.Need-returns
+returns c = choice-stops _ (abortChecks (c .before .before .before .args .self) (c .before .before .before .args .id .0)) (check8 (c .before .before .before .args .addr) (c .before .before .before .args .len) ∷ check9 (c .before .before .before .args .self) (c .before .before .before .args .id .0) (c .before .before .before .args .addr) (c .before .before .before .args .len) ∷ []) _ (omega arith, (omega arith, Prim.tt)) (c .before .before .choose-running .ensures) (c .if1 .taken)
+
+in-range-requires : tie.Need-in-range-requires
+in-range-requires c κs = search needs
+
+refuse-requires : tie.Need-refuse-requires
+refuse-requires c κs = search needs
+
+returns-2 : tie.Need-returns-2
+returns-2 c =
+    let s = c .before .before .before .before .before .before .args .self in
+    let id = c .before .before .before .before .before .before .args .id .0 in
+    let more = check9 s id (c .before .before .before .before .before .before .args .addr) (c .before .before .before .before .before .before .args .len) ∷ [] in
+    choice-refuses _ _ (abortChecks s id) (check8 (c .before .before .before .before .before .before .args .addr) (c .before .before .before .before .before .before .args .len) ∷ more) _ 8 (omega arith, (omega arith, Prim.tt)) (c .before .before .before .before .before .choose-running .ensures) (c .before .before .before .if1 .left)
+    (refused-8 (c .before .before .before .before .before .before .args .addr) (c .before .before .before .before .before .before .args .len) more (sym (c .before .before .in-range .ensures) ∙ not-true _ (c .before .if2 .taken))) (λ e. omega (arith, e)) (c .refuse .ensures)
+
+held-requires : tie.Need-held-requires
+held-requires c κs =
+    let g = in-range (c .before .before .before .before .before .args .addr) (c .before .before .before .before .before .args .len) (sym (c .before .in-range .ensures) ∙ not-false _ (c .if2 .left)) in
+    (c .before .before .before .before .before .pre, omega (arith, g .2), g .1)
+
+refuse-requires-2 : tie.Need-refuse-requires-2
+refuse-requires-2 c κs = search needs
+
+returns-3 : tie.Need-returns-3
+returns-3 c =
+    let s = c .before .before .before .before .before .before .before .before .args .self in
+    let id = c .before .before .before .before .before .before .before .before .args .id .0 in
+    let more = check9 s id (c .before .before .before .before .before .before .before .before .args .addr) (c .before .before .before .before .before .before .before .before .args .len) ∷ [] in
+    let held : any (heldAgainst id (c .before .before .before .before .before .before .before .before .args .addr) (c .before .before .before .before .before .before .before .before .args .len)) (txsOf s) ≡ true = sym (c .before .before .held .ensures) ∙ c .before .if3 .taken in
+    choice-refuses _ _ (abortChecks s id) (check8 (c .before .before .before .before .before .before .before .before .args .addr) (c .before .before .before .before .before .before .before .before .args .len) ∷ more) _ 9 (omega arith, (omega arith, Prim.tt)) (c .before .before .before .before .before .before .before .choose-running .ensures) (c .before .before .before .before .before .if1 .left)
+    (passes-8 (c .before .before .before .before .before .before .before .before .args .addr) (c .before .before .before .before .before .before .before .before .args .len) more (sym (c .before .before .before .before .in-range .ensures) ∙ not-false _ (c .before .before .before .if2 .left)) ∙ rw held) (λ e. omega (arith, e)) (c .refuse2 .ensures)
+
+returns-4 : tie.Need-returns-4
+returns-4 c =
+    let s = c .before .before .before .before .before .before .before .args .self in
+    let id = c .before .before .before .before .before .before .before .args .id .0 in
+    let more = check9 s id (c .before .before .before .before .before .before .before .args .addr) (c .before .before .before .before .before .before .before .args .len) ∷ [] in
+    let held : any (heldAgainst id (c .before .before .before .before .before .before .before .args .addr) (c .before .before .before .before .before .before .before .args .len)) (txsOf s) ≡ false = sym (c .before .held .ensures) ∙ c .if3 .left in
+    choice-goes _ (abortChecks s id) (check8 (c .before .before .before .before .before .before .before .args .addr) (c .before .before .before .before .before .before .before .args .len) ∷ more) _ (omega arith, (omega arith, Prim.tt)) (c .before .before .before .before .before .before .choose-running .ensures) (c .before .before .before .before .if1 .left)
+    (passes-8 (c .before .before .before .before .before .before .before .args .addr) (c .before .before .before .before .before .before .before .args .len) more (sym (c .before .before .before .in-range .ensures) ∙ not-false _ (c .before .before .if2 .left)) ∙ rw held)
+
+pub choose-read-spec : {M : Type 1} → statement M
+choose-read-spec =
+    tie.close
+    (tie.spec
+    choose-running-requires
+    returns
+    in-range-requires
+    refuse-requires
+    returns-2
+    held-requires
+    refuse-requires-2
+    returns-3
+    returns-4)

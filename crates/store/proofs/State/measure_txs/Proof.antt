@@ -1,0 +1,147 @@
+use borrow.Author.Needs.{needs}
+use Prim.Native.Nat.{ℕ, _+_, _-_, _*_, _≤_, _<_}
+use native.Mathlib.Nat.{sub-zero}
+use native.Mathlib.Omega.{arith}
+use mathlib.Core.Path.{_≡_, refl, sym, ap, _∙_}
+use mathlib.Core.Bool.{Bool, true}
+use borrow.Author.Tests.{not-true, not-false}
+use Rattle.transaction.specs.Lists.{upFrom, every, sumOf}
+use Rattle.transaction.specs.View.{rangesOf}
+use Rattle.transaction.specs.Rules.{recordsOk, headOk, outlineOk, redoOk, roomOf}
+use Rattle.transaction.proofs.Lists.{and-right, up-done, every-bad, every-good, sum-turn}
+use Rattle.transaction.proofs.Ranges.{counted}
+use Rattle.store.specs.State.{txAt, txsOf, outlineAt, outlinesOf}
+use Rattle.store.specs.Rules.{distinct}
+use Rattle.store.proofs.Admitting.{bad-outline, bad-alike, bad-redo, good-txs, distinct-bad, distinct-good, redo-records, room-bound}
+use Rattle.store.proofs.State.measure_txs.Statement.{statement}
+use Rattle.store.proofs.State.measure_txs.Tie as tie
+
+abbrev Inv-loop : tie.InvT-loop
+Inv-loop self n last assigned room₀ i₀ room i =
+    (i ≤ n)
+    × (room ≤ 632 * i)
+    × (every (outlineOk (self .lastid .0) (self .assigned .0)) (outlinesOf self) ≡ every (outlineOk (self .lastid .0) (self .assigned .0)) (upFrom (outlineAt self) (n - i) i))
+    × (distinct (outlinesOf self) ≡ distinct (upFrom (outlineAt self) (n - i) i))
+    × (every redoOk (txsOf self) ≡ every redoOk (upFrom (txAt self) (n - i) i))
+    × (sumOf roomOf (txsOf self) ≡ room + sumOf roomOf (upFrom (txAt self) (n - i) i))
+
+abbrev μ-loop : tie.MeasureT-loop
+μ-loop self n last assigned room₀ i₀ room i = n - i
+
+cast-n : tie.Need-cast-n Inv-loop μ-loop
+cast-n c = search needs
+
+loop-holds : tie.Need-loop-holds Inv-loop μ-loop
+loop-holds c =
+    let s = c .before .before .args .t1 in
+    let z = sub-zero (s .count) in
+    (omega arith, omega arith, rw z, rw z, rw z, rw z (omega arith))
+
+mul-t : tie.Need-mul-t Inv-loop μ-loop
+mul-t c = search needs
+
+element-copy-out-t : tie.Need-element-copy-out-t Inv-loop μ-loop
+element-copy-out-t c = search needs
+
+image-ok-requires : tie.Need-image-ok-requires Inv-loop μ-loop
+image-ok-requires c κs = search needs
+
+returns : tie.Need-returns Inv-loop μ-loop
+returns c =
+    let s = c .before .before .before .before .before .before .before .args .t1 in
+    sym
+    (bad-outline s
+    (c .before .before .before .before .loop .inv .2 ∙ every-bad (outlineAt s) _ _ (c .before .before .before .loop-test .taken) (outlineOk (s .lastid .0) (s .assigned .0)) (sym (c .before .image-ok .ensures) ∙ not-true _ (c .if1 .taken))))
+
+-- in a turn: what the rules that were tested say of the transaction at hand
+undo : (c : tie.After-t Inv-loop μ-loop) → outlineOk (c .before .before .before .before .before .args .t1 .lastid .0) (c .before .before .before .before .before .args .t1 .assigned .0) (outlineAt (c .before .before .before .before .before .args .t1) (c .before .before .loop .i)) ≡ true → recordsOk (rangesOf (txAt (c .before .before .before .before .before .args .t1) (c .before .before .loop .i) .undo)) ≡ true
+undo c e = let t = txAt (c .before .before .before .before .before .args .t1) (c .before .before .loop .i) in and-right (headOk (c .before .before .before .before .before .args .t1 .lastid .0) (c .before .before .before .before .before .args .t1 .assigned .0) (t .id .0) (t .status) (t .csn .0)) _ e
+
+redo-ok-requires : tie.Need-redo-ok-requires Inv-loop μ-loop
+redo-ok-requires c κs = counted (txAt (c .before .before .before .before .before .before .before .args .t1) (c .before .before .before .before .loop .i) .undo) (undo (c .before .before) (sym (c .before .image-ok .ensures) ∙ not-false _ (c .if1 .left)))
+
+returns-2 : tie.Need-returns-2 Inv-loop μ-loop
+returns-2 c =
+    let s = c .before .before .before .before .before .before .before .before .before .args .t1 in
+    sym (bad-redo s (c .before .before .before .before .before .before .loop .inv .4 ∙ every-bad (txAt s) _ _ (c .before .before .before .before .before .loop-test .taken) redoOk (sym (c .before .redo-ok .ensures) ∙ not-true _ (c .if2 .taken))))
+
+add-alike-from : tie.Need-add-alike-from Inv-loop μ-loop
+add-alike-from c = search needs
+
+alike-from-requires : tie.Need-alike-from-requires Inv-loop μ-loop
+alike-from-requires c κs = search needs
+
+good-undo : (c : tie.Else2 Inv-loop μ-loop) → recordsOk (rangesOf (txAt (c .before .before .before .before .before .before .before .before .before .args .t1) (c .before .before .before .before .before .before .loop .i) .undo)) ≡ true
+good-undo c = undo (c .before .before .before .before) (sym (c .before .before .before .image-ok .ensures) ∙ not-false _ (c .before .before .if1 .left))
+
+good-redo : (c : tie.Else2 Inv-loop μ-loop) → redoOk (txAt (c .before .before .before .before .before .before .before .before .before .args .t1) (c .before .before .before .before .before .before .loop .i)) ≡ true
+good-redo c = sym (c .before .redo-ok .ensures) ∙ not-false _ (c .if2 .left)
+
+returns-3 : tie.Need-returns-3 Inv-loop μ-loop
+returns-3 c =
+    let s = c .before .before .before .before .before .before .before .before .before .before .before .args .t1 in
+    sym (bad-alike s (c .before .before .before .before .before .before .before .before .loop .inv .3 ∙ distinct-bad s _ _ (c .before .before .before .before .before .before .before .loop-test .taken) (sym (c .before .alike-from .ensures) ∙ c .if3 .taken)))
+
+room-requires : tie.Need-room-requires Inv-loop μ-loop
+room-requires c κs = redo-records (txAt (c .before .before .before .before .before .before .before .before .before .before .before .args .t1) (c .before .before .before .before .before .before .before .before .loop .i)) (good-undo (c .before .before)) (good-redo (c .before .before))
+
+small : (c : tie.After-room Inv-loop μ-loop) → c .room .result ≤ 632
+small c = omega (arith, c .room .ensures, room-bound (txAt (c .before .before .before .before .before .before .before .before .before .before .before .before .args .t1) (c .before .before .before .before .before .before .before .before .before .loop .i)) (good-undo (c .before .before .before)) (good-redo (c .before .before .before)))
+
+add-room : tie.Need-add-room Inv-loop μ-loop
+add-room c = let h = small (c) in let g = c .before .before .before .before .before .before .before .before .before .before .before .before .pre in omega arith
+
+add-i : tie.Need-add-i Inv-loop μ-loop
+add-i c = search needs
+
+loop-less : tie.Need-loop-less Inv-loop μ-loop
+loop-less c = search needs
+
+loop-again : tie.Need-loop-again Inv-loop μ-loop
+loop-again c =
+    let s = c .before .before .before .before .before .before .before .before .before .before .before .before .args .t1 in
+    let h = c .before .before .before .before .before .before .before .before .loop-test .taken in
+    let t = sum-turn (txAt s) (s .count) (c .before .before .before .before .before .before .before .before .before .loop .i) h roomOf in (
+      omega arith,
+      (let b = small (c) in omega arith),
+      c .before .before .before .before .before .before .before .before .before .loop .inv .2 ∙ every-good (outlineAt s) _ _ h (outlineOk (s .lastid .0) (s .assigned .0)) (sym (c .before .before .before .before .before .before .image-ok .ensures) ∙ not-false _ (c .before .before .before .before .before .if1 .left)),
+      c .before .before .before .before .before .before .before .before .before .loop .inv .3 ∙ distinct-good s _ _ h (sym (c .before .before .alike-from .ensures) ∙ c .before .if3 .left),
+      c .before .before .before .before .before .before .before .before .before .loop .inv .4 ∙ every-good (txAt s) _ _ h redoOk (good-redo (c .before .before .before)),
+      omega (arith, t, c .before .before .before .before .before .before .before .before .before .loop .inv .5, c .room .ensures),
+    )
+
+returns-4 : tie.Need-returns-4 Inv-loop μ-loop
+returns-4 c =
+    let s = c .before .before .before .before .args .t1 in
+    let i = c .before .loop .i in
+    let h = c .loop-test .left in
+    let o = up-done (outlineAt s) (s .count) i h in
+    let t = up-done (txAt s) (s .count) i h in
+    let z : sumOf roomOf (upFrom (txAt s) (s .count - i) i) ≡ 0 = ap (sumOf roomOf) t in
+    ap (λ (n : ℕ). record { ok = true; room = n }) (omega (arith, z, c .before .loop .inv .5))
+    ∙ sym
+    (good-txs s (c .before .loop .inv .2 ∙ ap (every (outlineOk (s .lastid .0) (s .assigned .0))) o) (c .before .loop .inv .3 ∙ ap distinct o) (c .before .loop .inv .4 ∙ ap (every redoOk) t))
+
+pub measure-txs-spec : {M : Type 1} → statement M
+measure-txs-spec =
+    tie.close
+    (tie.spec
+    Inv-loop
+    μ-loop
+    cast-n
+    loop-holds
+    mul-t
+    element-copy-out-t
+    image-ok-requires
+    returns
+    redo-ok-requires
+    returns-2
+    add-alike-from
+    alike-from-requires
+    returns-3
+    room-requires
+    add-room
+    add-i
+    loop-less
+    loop-again
+    returns-4)

@@ -1,0 +1,68 @@
+use borrow.Author.Needs.{needs}
+use Prim.Native.Nat.{ℕ, _+_, _≤_, _<_}
+use native.Mathlib.Omega.{arith}
+use mathlib.Core.List.{List, [], _∷_}
+use mathlib.Core.Path.{_≡_, refl, sym, ap, _∙_, subst}
+use lib.ListN.{length}
+use Rattle.store.specs.State.{slotOf}
+use mathlib.Core.Bool.{_||_}
+use lib.Dec.{eqb, ltb}
+use Rattle.store.specs.declared.State.{State}
+use Rattle.store.specs.declared.choose.Choice.{Choice}
+use Rattle.store.specs.Answer.{done, answer}
+use Rattle.store.specs.Numbers.{check, txOf, settleChecks}
+use Rattle.store.specs.Steps.{droppedState}
+use Rattle.store.specs.Calls.{settleNumber}
+use Rattle.store.proofs.Fits.{image-count}
+use Rattle.store.proofs.Admitting.{Admitted, admitted, shared-stops, shared-passes}
+use Rattle.store.proofs.Choosing.{choice-slot, listed-slot}
+use Rattle.store.proofs.Calling.{settle-refused, settle-done}
+use Rattle.store.proofs.State.settle.Statement.{statement}
+use Rattle.store.proofs.State.settle.Tie as tie
+
+admit-requires : tie.Need-admit-requires
+admit-requires c κs = search needs
+
+returns : tie.Need-returns
+returns c =
+    let s = c .before .before .before .before .before .args .self in
+    let m = c .before .before .before .before .before .args .memory .now in
+    let t = c .before .before .before .before .before .args .tail .now in
+    sym (settle-refused s m t (c .before .before .before .before .before .args .id) (c .before .before .admit .result .number) (shared-stops s (length m) t (settleChecks s (c .before .before .before .before .before .args .id .0)) _ (c .before .before .admit .ensures) (c .if1 .taken)) (c .if1 .taken))
+
+admission-of : (c : tie.Else1) → Admitted (c .before .before .before .before .before .args .self) (length (c .before .before .before .before .before .args .memory .now)) (c .before .before .before .before .before .args .tail .now) (c .before .before .admit .result)
+admission-of c = admitted (c .before .before .before .before .before .args .self) (length (c .before .before .before .before .before .args .memory .now)) (c .before .before .before .before .before .args .tail .now) (c .before .before .admit .result) (c .before .before .admit .ensures) (c .if1 .left)
+
+choose-settle-requires : tie.Need-choose-settle-requires
+choose-settle-requires c κs = admission-of (c) .fits .image
+
+-- the number is settle's own
+own : (c : tie.After-choose-settle) → settleNumber (c .before .before .before .before .before .before .args .self) (c .before .before .before .before .before .before .args .memory .now) (c .before .before .before .before .before .before .args .tail .now) (c .before .before .before .before .before .before .args .id) ≡ c .choose-settle .result .number
+own c =
+    let s = c .before .before .before .before .before .before .args .self in
+    shared-passes s (length (c .before .before .before .before .before .before .args .memory .now)) (c .before .before .before .before .before .before .args .tail .now) (settleChecks s (c .before .before .before .before .before .before .args .id .0)) (admission-of (c .before) .passed) ∙ sym (ap (λ (y : Choice). y .number) (c .choose-settle .ensures))
+
+returns-2 : tie.Need-returns-2
+returns-2 c = sym (settle-refused (c .before .before .before .before .before .before .before .before .args .self) (c .before .before .before .before .before .before .before .before .args .memory .now) (c .before .before .before .before .before .before .before .before .args .tail .now) (c .before .before .before .before .before .before .before .before .args .id) (c .before .before .choose-settle .result .number) (own (c .before .before)) (c .if2 .taken))
+
+chosen : (c : tie.Else2) → c .before .before .choose-settle .result .slot ≡ slotOf (c .before .before .before .before .before .before .before .before .args .self) (c .before .before .before .before .before .before .before .before .args .id .0)
+chosen c = ap (λ (y : Choice). y .slot) (choice-slot _ (settleChecks (c .before .before .before .before .before .before .before .before .args .self) (c .before .before .before .before .before .before .before .before .args .id .0)) _ (c .before .before .choose-settle .ensures) (c .if2 .left))
+
+drop-step-requires : tie.Need-drop-step-requires
+drop-step-requires c κs =
+    let s = c .before .before .before .before .before .before .before .before .args .self in
+    let id = c .before .before .before .before .before .before .before .before .args .id .0 in
+    let z = sym (ap (λ (y : Choice). y .number) (c .before .before .choose-settle .ensures)) ∙ c .if2 .left in
+    let last = check 14 (eqb (txOf s id .status) 1 || ltb (s .ondisk .0) (txOf s id .csn .0)) ∷ [] in
+    (omega (arith, chosen (c), listed-slot s id last z .0), image-count s (admission-of (c .before .before .before) .fits .image))
+
+returns-3 : tie.Need-returns-3
+returns-3 c =
+    let s = c .before .before .before .before .before .before .before .before .before .args .self in
+    ap (λ (u : State). record { answer = answer done; state = u }) (c .drop-step .ensures ∙ ap (droppedState s) (chosen (c .before)))
+    ∙ sym (settle-done s (c .before .before .before .before .before .before .before .before .before .args .memory .now) (c .before .before .before .before .before .before .before .before .before .args .tail .now) (c .before .before .before .before .before .before .before .before .before .args .id) (own (c .before .before .before) ∙ c .before .if2 .left))
+
+pub settle-spec : {M : Type 1} → statement M
+settle-spec =
+    tie.close
+    (tie.spec admit-requires returns choose-settle-requires returns-2 drop-step-requires returns-3)

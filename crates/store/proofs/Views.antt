@@ -1,0 +1,284 @@
+-- What each call that is not refused does to the view, in the words of `recovery`'s abstract store.
+use Prim.Native.Nat.{ℕ, zero, suc, _+_, _-_, _≤_, _<_}
+use native.Mathlib.Nat.{zero-add}
+use native.Mathlib.Numerals.{add-one}
+use native.Mathlib.Omega.{arith}
+use mathlib.Core.Bool.{Bool, true, false, cond, not, _&&_, _||_}
+use mathlib.Core.List.{List, [], _∷_, _++_}
+use mathlib.Core.Option.{some}
+use mathlib.Core.Path.{_≡_, refl, sym, ap, ap₂, _∙_, subst}
+use lib.ListN.{length, getD, take, drop, length-take}
+use lib.Seq.{sets}
+use lib.Dec.{eqb, leb, ltb}
+use borrow.Author.Tests.{eqb-true, eqb-false, eq-eqb, ne-eqb, le-leb, leb-true, ltb-false, not-false}
+use Rattle.recovery.specs.Group.{Write, Group, committed, aborted, groupSize, groupsSize, redoSize, lastCsn}
+use Rattle.recovery.specs.Transaction.{Tx as Transaction, lookup, edit, remove}
+use Rattle.recovery.specs.Machine.{Live, newTx, oldBytes, withWrite, inCommit, afterBegin, afterWrite, afterPrecommit, afterAbort, afterSettle}
+use Rattle.recovery.specs.Replay.{undoAll, layBytes}
+use Rattle.log.specs.declared.TxId.{TxId}
+use Rattle.log.specs.Record.{inRange}
+use Rattle.log.specs.Flat.{writesFrom}
+use Rattle.log.specs.Group.{wellFormedBody, wellFormedGroup}
+use Rattle.log.specs.Log.{readLog}
+use Rattle.transaction.specs.declared.Records.{Records}
+use Rattle.transaction.specs.declared.Tx.{Tx}
+use Rattle.transaction.specs.Lists.{upFrom}
+use Rattle.transaction.specs.Flat.{emptyRecords}
+use Rattle.transaction.specs.View.{rangesOf, writesOf, viewOf}
+use Rattle.transaction.specs.Rules.{recordsOk, headOk, rangesSize}
+use Rattle.transaction.specs.Steps.{freshTx, written, precommitted}
+use Rattle.transaction.proofs.Lists.{and-left, and-right, up-snoc, up-same}
+use Rattle.transaction.proofs.Ranges.{counted, ranged}
+use Rattle.transaction.proofs.Writes.{bytes-length, sized}
+use Rattle.transaction.proofs.Pushed.{Sized, pushed-writes}
+use Rattle.store.specs.declared.State.{State}
+use Rattle.store.specs.declared.call.Begun.{Begun}
+use Rattle.store.specs.declared.call.Precommitted.{Precommitted}
+use Rattle.store.specs.declared.call.Returned.{Returned}
+use Rattle.store.specs.State.{txAt, slotOf}
+use Rattle.store.specs.Rules.{tailLength, allZero, roomUsed, unfit}
+use Rattle.store.specs.Numbers.{Check, check, firstNumber, txOf, sharedChecks, beginChecks, writeChecks, precommitChecks, abortChecks, settleChecks, check8, check9, check10}
+use Rattle.store.specs.Steps.{begunState, writtenState, precommittedState, droppedState}
+use Rattle.store.specs.Calls.{Outcome, beginNumber, beginOf, writeNumber, writeOf, appended, precommitNumber, precommitOf, abortNumber, abortOf, settleNumber, settleOf}
+use Rattle.store.specs.View.{viewAt, live}
+use Rattle.store.proofs.Slots.{slot}
+use Rattle.store.proofs.Checks.{passed}
+use Rattle.store.proofs.Fits.{Fit, fit, image-count, image-at}
+use Rattle.store.proofs.Choosing.{Running, running, listed-slot}
+use Rattle.store.proofs.Calling.{Usable, usable, Writable, writable, begin-done, write-done, precommit-done, abort-done, settle-done}
+use Rattle.store.proofs.Positions.{Changed, Dropped, First, found, edited, removed}
+use Rattle.store.proofs.Appending.{appended-log}
+use Rattle.store.proofs.Stepping.{SizedTx, SizedState, begun-slot, written-slot, precommitted-slot, dropped-slot}
+
+-- ---- what a call that is not refused has passed
+
+pub record Accepted (s : State) (m t : List ℕ) (cs : List Check) : Type 0 where
+  pub memory : length m ≡ 4096
+  pub tail : length t ≡ 16384
+  pub fits : Fit s t
+  pub own : firstNumber cs ≡ 0
+
+pub accepted : (s : State) (m t : List ℕ) (cs : List Check) → firstNumber (sharedChecks s (length m) t ++ cs) ≡ 0 → Accepted s m t cs
+accepted s m t cs e =
+    let a = passed 1 (not (eqb (length m) 4096 && eqb (length t) 16384)) (check 2 (unfit s t) ∷ cs) (omega arith) e in
+    let b = passed 2 (unfit s t) cs (omega arith) (a .1) in
+    let l : eqb (length m) 4096 && eqb (length t) 16384 ≡ true = not-false _ (a .0) in
+    record {
+      memory = eqb-true _ _ (and-left (eqb (length m) 4096) _ l);
+      tail = eqb-true _ _ (and-right (eqb (length m) 4096) _ l);
+      fits = fit s t (b .0);
+      own = b .1;
+    }
+
+pub begin-free : (s : State) (room : ℕ) → s .count ≤ 8 → firstNumber (beginChecks (s .count) (s .lastid .0) room) ≡ 0 → (s .count < 8) × (room + 8 ≤ 16384)
+begin-free s room h e =
+    let last = check 13 (ltb 16384 (room + 8)) ∷ [] in
+    let a = passed 11 (eqb (s .count) 8) (check 12 (eqb (s .lastid .0) 65535) ∷ last) (omega arith) e in
+    let b = passed 12 (eqb (s .lastid .0) 65535) last (omega arith) (a .1) in
+    let c = passed 13 (ltb 16384 (room + 8)) [] (omega arith) (b .1) in
+    (omega (arith, h, eqb-false (s .count) 8 (a .0)), ltb-false _ _ (c .0))
+
+-- ---- one transaction
+
+fresh-view : (id : TxId) → viewOf (freshTx id) ≡ newTx (id .0)
+unfolding freshTx emptyRecords
+fresh-view id = refl
+
+precommitted-view : (t : Tx) (n : ℕ) → viewOf (precommitted t (record { 0 = n })) ≡ inCommit n (viewOf t)
+unfolding precommitted emptyRecords
+precommitted-view t n = refl
+
+written-view : (t : Tx) (a : ℕ) (old new : List ℕ) → SizedTx t → recordsOk (rangesOf (t .undo)) ≡ true → recordsOk (rangesOf (t .redo)) ≡ true
+    → t .undo .count < 16 → t .redo .count < 16 → length old ≤ 32 → length new ≤ 32
+    → viewOf (written t a old new) ≡ withWrite (record { addr = a; bytes = old }) (record { addr = a; bytes = new }) (viewOf t)
+unfolding written
+written-view t a old new z u r cu cr lo ln =
+    ap₂ (λ (us rs : List Write). record { id = t .id .0; committing = eqb (t .status) 2; csn = t .csn .0; undo = us; redo = rs })
+    (pushed-writes (t .undo) a old (z .undos) cu lo (λ j h. ranged (t .undo) u j h .1)) (pushed-writes (t .redo) a new (z .redos) cr ln (λ j h. ranged (t .redo) r j h .1))
+
+view-changed : (s r : State) (j : ℕ) (u : Tx) → Changed (txAt s) (txAt r) j u → Changed (viewAt s) (viewAt r) j (viewOf u)
+view-changed s r j u c = record { here = ap viewOf (c .here); other = λ x n. ap viewOf (c .other x n) }
+
+view-dropped : (s r : State) (j n : ℕ) → Dropped (txAt s) (txAt r) j n → Dropped (viewAt s) (viewAt r) j n
+view-dropped s r j n d = record { before = λ x a. ap viewOf (d .before x a); after = λ x a b. ap viewOf (d .after x a b) }
+
+first : (s : State) (id : ℕ) → slotOf s id < s .count → First (viewAt s) id 0 (slotOf s id)
+first s id h = let x = slot s id in record { low = x .low; there = x .there (omega arith); before = x .before }
+
+-- a listed transaction is what the view has under its id
+pub listed-view : (s : State) (m t : List ℕ) (id : ℕ) → slotOf s id < s .count → lookup id (live s m t .txs) ≡ some (viewOf (txOf s id))
+listed-view s m t id h = found (viewAt s) id (slotOf s id) (s .count) 0 (first s id h) (omega arith)
+
+-- ---- the group that precommit appends may stand in a log
+
+body-right : (r : Records) (id csn : ℕ) → Sized r → recordsOk (rangesOf r) ≡ true → eqb id 0 ≡ false → (k i : ℕ) → i + k ≤ r .count
+    → wellFormedBody id csn (writesFrom (r .addr) (r .len) (r .bytes) k i) ≡ true
+body-right r id csn z e n zero i h = rw n
+body-right r id csn z e n (suc k) i h =
+    let g = ranged r e i (omega arith) in
+    let c = counted r e in
+    let l = bytes-length r i (z .space) (omega arith) (g .1) in
+    rw (n, l, le-leb _ _ (g .0), le-leb _ _ (g .1), le-leb _ _ (g .2)) (body-right r id csn z e n k (suc i) (omega arith))
+
+nonzero : (last assigned id status csn : ℕ) → headOk last assigned id status csn ≡ true → eqb id 0 ≡ false
+unfolding headOk
+nonzero last assigned id status csn e = ne-eqb id 0 (λ z. omega (arith, z, leb-true 1 id (and-left (leb 1 id) _ e)))
+
+id-nonzero : (s : State) (t : List ℕ) (id : ℕ) → Fit s t → Running s id → eqb id 0 ≡ false
+id-nonzero s t id f r =
+    let x = txOf s id in
+    ap (λ (i : ℕ). eqb i 0) (sym (r .named)) ∙ nonzero (s .lastid .0) (s .assigned .0) (x .id .0) (x .status) (x .csn .0) (and-left _ (recordsOk (rangesOf (x .undo))) (image-at s (f .image) (slotOf s id) (r .listed)))
+
+pub tail-csn : (s : State) (t : List ℕ) → Fit s t → lastCsn (s .ondisk .0) (readLog (s .ondisk .0) t) ≡ s .assigned .0
+tail-csn s t f = eqb-true _ _ (and-left _ (allZero (drop (tailLength (s .ondisk .0) t) t)) (f .tail))
+
+pub tail-zeros : (s : State) (t : List ℕ) → Fit s t → allZero (drop (tailLength (s .ondisk .0) t) t) ≡ true
+tail-zeros s t f = and-right (eqb (lastCsn (s .ondisk .0) (readLog (s .ondisk .0) t)) (s .assigned .0)) _ (f .tail)
+
+-- all that appending a group asks
+pub record Appends (s : State) (t : List ℕ) (g : Group) : Type 0 where
+  pub room : tailLength (s .ondisk .0) t + groupSize g ≤ length t
+  pub right : wellFormedGroup (lastCsn (s .ondisk .0) (readLog (s .ondisk .0) t)) g ≡ true
+
+abbrev pub commitOf : State → ℕ → Group
+commitOf s id = committed id (s .assigned .0 + 1) (writesOf (txOf s id .redo))
+
+-- the group's size, by the ranges of the redo records
+pub commit-size : (s : State) (t : List ℕ) (id : ℕ) → SizedState s → Fit s t → Running s id → groupSize (commitOf s id) ≡ rangesSize (rangesOf (txOf s id .redo)) + 8
+commit-size s t id z f r =
+    let u = usable s t id f r in
+    let x = txOf s id .redo in
+    ap (λ (n : ℕ). n + 8) (sized x (z .each (slotOf s id) (r .listed) .redos .space) (counted x (u .redo)) (λ j b. ranged x (u .redo) j b .1))
+
+pub commit-appends : (s : State) (t : List ℕ) (id : ℕ) → SizedState s → length t ≡ 16384 → Fit s t → Running s id → Appends s t (commitOf s id)
+commit-appends s t id z l f r =
+    let u = usable s t id f r in
+    let x = txOf s id .redo in
+    let y = z .each (slotOf s id) (r .listed) .redos in
+    record {
+      room = omega (arith, commit-size s t id z f r, l, u .fits);
+      right = rw (tail-csn s t f, eq-eqb (s .assigned .0 + 1) (s .assigned .0 + 1) refl) (body-right x id (s .assigned .0 + 1) y (u .redo) (id-nonzero s t id f r) (x .count) 0 (omega arith));
+    }
+
+pub abort-appends : (s : State) (t : List ℕ) (id : ℕ) → length t ≡ 16384 → Fit s t → Running s id → Appends s t (aborted id)
+abort-appends s t id l f r =
+    let u = usable s t id f r in
+    record { room = omega (arith, l, u .fits); right = rw (id-nonzero s t id f r) }
+
+-- ---- the calls
+
+abbrev with-txs : State → List ℕ → List ℕ → List Transaction → Live
+with-txs s m t ts = record { txs = ts; memory = m; tail = readLog (s .ondisk .0) t; csn = s .ondisk .0; lastId = s .lastid .0 }
+
+written-numbers : (s : State) (m t : List ℕ) (j a : ℕ) (bs : List ℕ) → live (writtenState s j m a bs) (sets m a bs) t ≡ with-txs s (sets m a bs) t (upFrom (viewAt (writtenState s j m a bs)) (s .count) 0)
+unfolding writtenState
+written-numbers s m t j a bs = refl
+
+precommitted-numbers : (s : State) (m t : List ℕ) (j : ℕ) → live (precommittedState s j) m t ≡ with-txs s m t (upFrom (viewAt (precommittedState s j)) (s .count) 0)
+unfolding precommittedState
+precommitted-numbers s m t j = refl
+
+dropped-numbers : (s : State) (m t : List ℕ) (j : ℕ) → live (droppedState s j) m t ≡ with-txs s m t (upFrom (viewAt (droppedState s j)) (s .count - 1) 0)
+unfolding droppedState
+dropped-numbers s m t j = refl
+
+dropped-txs : (s : State) (id : ℕ) → SizedState s → s .count ≤ 8 → slotOf s id < s .count
+    → upFrom (viewAt (droppedState s (slotOf s id))) (s .count - 1) 0 ≡ remove id (upFrom (viewAt s) (s .count) 0)
+dropped-txs s id z few l =
+    let j = slotOf s id in
+    let n : suc (s .count - 1) ≡ s .count = omega arith in
+    removed (viewAt s) (viewAt (droppedState s j)) id j (s .count) (s .count - 1) 0 (first s id l) (view-dropped s (droppedState s j) j (s .count) (dropped-slot s z j l few)) (omega arith) (omega arith)
+    ∙ ap (λ (k : ℕ). remove id (upFrom (viewAt s) k 0)) n
+
+module _ (s : State) (m t : List ℕ) (z : SizedState s) where
+  begun-live : s .count < 8 → live (begunState s) m t ≡ afterBegin (live s m t)
+  unfolding begunState
+  begun-live h =
+      let c = view-changed s (begunState s) (s .count) (freshTx (record { 0 = s .lastid .0 + 1 })) (begun-slot s z h) in
+      let n : viewAt (begunState s) (0 + s .count) ≡ newTx (suc (s .lastid .0)) =
+      ap (viewAt (begunState s)) (zero-add (s .count)) ∙ c .here ∙ fresh-view (record { 0 = s .lastid .0 + 1 }) ∙ ap newTx (add-one (s .lastid .0)) in
+      ap₂ (λ (ts : List Transaction) (i : ℕ). record { txs = ts; memory = m; tail = readLog (s .ondisk .0) t; csn = s .ondisk .0; lastId = i })
+      (ap (λ (k : ℕ). upFrom (viewAt (begunState s)) k 0) (add-one (s .count))
+      ∙ up-snoc (viewAt (begunState s)) (s .count) 0
+      ∙ ap₂ (λ (ts : List Transaction) (r : Transaction). ts ++ (r ∷ [])) (up-same (viewAt (begunState s)) (viewAt s) (s .count) 0 (λ x p q. c .other x (λ e. omega (arith, q, e)))) n)
+      (add-one (s .lastid .0))
+
+  -- Begin adds a running transaction without records, of the next id.
+  pub begin-live : beginNumber s m t ≡ 0 → live (beginOf s m t .state) m t ≡ afterBegin (live s m t)
+  begin-live e =
+      let a = accepted s m t (beginChecks (s .count) (s .lastid .0) (roomUsed s t)) e in
+      ap (λ (r : State). live r m t) (ap (λ (b : Begun). b .state) (begin-done s m t e)) ∙ begun-live (begin-free s (roomUsed s t) (image-count s (a .fits .image)) (a .own) .0)
+
+  module _ (id : TxId) where
+    abbrev j : ℕ
+    j = slotOf s (id .0)
+
+    abbrev tx : Transaction
+    tx = viewOf (txOf s (id .0))
+
+    -- Write adds an undo record with the old bytes and a redo record, and lays the new bytes.
+    pub write-live : (a : ℕ) (bs : List ℕ) → writeNumber s m t id a (length bs) ≡ 0
+        → live (writeOf s m t id a bs .result .state) (writeOf s m t id a bs .memory) (writeOf s m t id a bs .tail) ≡ afterWrite tx (record { addr = a; bytes = bs }) (live s m t)
+    write-live a bs e =
+        let x = accepted s m t (writeChecks s (roomUsed s t) (id .0) a (length bs)) e in
+        let last = check9 s (id .0) a (length bs) ∷ check10 s (id .0) ∷ check 13 (ltb 16384 (roomUsed s t + (7 + length bs))) ∷ [] in
+        let r = running s (id .0) (check8 a (length bs) ∷ last) (x .own) .0 in
+        let u = usable s t (id .0) (x .fits) r in
+        let w = writable s t (roomUsed s t) (id .0) a (length bs) (x .fits) (x .own) in
+        let old = take (length bs) (drop a m) in
+        let l : length old ≤ 32 = rw length-take (omega (arith, w .short)) in
+        let v = written-view (txAt s j) a old bs (z .each j (r .listed)) (u .undo) (u .redo) (w .undo) (w .redo) l (w .short) in
+        let c = view-changed s (writtenState s j m a bs) j _ (written-slot s z j (r .listed) (u .few) m a bs) in
+        let g = withWrite (record { addr = a; bytes = old }) (record { addr = a; bytes = bs }) in
+        let d : Changed (viewAt s) (viewAt (writtenState s j m a bs)) j (g (viewAt s j)) = record { here = c .here ∙ v; other = c .other } in
+        ap (λ (o : Outcome Returned). live (o .result .state) (o .memory) (o .tail)) (write-done s m t id a bs e)
+        ∙ written-numbers s m t j a bs
+        ∙ ap (with-txs s (sets m a bs) t)
+        (edited (viewAt s) (viewAt (writtenState s j m a bs)) (id .0) j g (s .count) 0 (first s (id .0) (r .listed)) d (omega (arith, r .listed))
+        ∙ ap (λ (i : ℕ). edit i g (upFrom (viewAt s) (s .count) 0)) (sym (r .named)))
+
+    -- Precommit turns the redo list into the group at the tail's end, and marks the transaction committing.
+    pub precommit-live : precommitNumber s m t id ≡ 0
+        → live (precommitOf s m t id .result .state) (precommitOf s m t id .memory) (precommitOf s m t id .tail) ≡ afterPrecommit tx (live s m t)
+    precommit-live e =
+        let x = accepted s m t (precommitChecks s (id .0)) e in
+        let r = running s (id .0) (check 12 (eqb (s .assigned .0) 4294967295) ∷ []) (x .own) .0 in
+        let u = usable s t (id .0) (x .fits) r in
+        let y = commit-appends s t (id .0) z (x .tail) (x .fits) r in
+        let n : s .assigned .0 + 1 ≡ suc (lastCsn (s .ondisk .0) (readLog (s .ondisk .0) t)) = add-one (s .assigned .0) ∙ ap suc (sym (tail-csn s t (x .fits))) in
+        let c = view-changed s (precommittedState s j) j _ (precommitted-slot s z j (r .listed) (u .few)) in
+        let d : Changed (viewAt s) (viewAt (precommittedState s j)) j (inCommit (s .assigned .0 + 1) (viewAt s j)) =
+        record { here = c .here ∙ precommitted-view (txAt s j) (s .assigned .0 + 1); other = c .other } in
+        ap (λ (o : Outcome Precommitted). live (o .result .state) (o .memory) (o .tail)) (precommit-done s m t id e)
+        ∙ precommitted-numbers s m (appended s t (commitOf s (id .0))) j
+        ∙ ap₂ (λ (ts : List Transaction) (gs : List Group). record { txs = ts; memory = m; tail = gs; csn = s .ondisk .0; lastId = s .lastid .0 })
+        (edited (viewAt s) (viewAt (precommittedState s j)) (id .0) j (inCommit (s .assigned .0 + 1)) (s .count) 0 (first s (id .0) (r .listed)) d (omega (arith, r .listed))
+        ∙ ap₂ (λ (i k : ℕ). edit i (inCommit k) (upFrom (viewAt s) (s .count) 0)) (sym (r .named)) n)
+        (appended-log (s .ondisk .0) t (commitOf s (id .0)) (tail-zeros s t (x .fits)) (y .room) (y .right)
+        ∙ ap₂ (λ (i k : ℕ). readLog (s .ondisk .0) t ++ (committed i k (writesOf (txOf s (id .0) .redo)) ∷ [])) (sym (r .named)) n)
+
+    -- Abort undoes newest first, appends the abort record and drops the transaction.
+    pub abort-live : abortNumber s m t id ≡ 0
+        → live (abortOf s m t id .result .state) (abortOf s m t id .memory) (abortOf s m t id .tail) ≡ afterAbort tx (live s m t)
+    abort-live e =
+        let x = accepted s m t (abortChecks s (id .0)) e in
+        let r = running s (id .0) [] (x .own) .0 in
+        let u = usable s t (id .0) (x .fits) r in
+        let y = abort-appends s t (id .0) (x .tail) (x .fits) r in
+        let m' = undoAll layBytes (writesOf (txOf s (id .0) .undo)) m in
+        ap (λ (o : Outcome Returned). live (o .result .state) (o .memory) (o .tail)) (abort-done s m t id e)
+        ∙ dropped-numbers s m' (appended s t (aborted (id .0))) j
+        ∙ ap₂ (λ (ts : List Transaction) (gs : List Group). record { txs = ts; memory = m'; tail = gs; csn = s .ondisk .0; lastId = s .lastid .0 })
+        (dropped-txs s (id .0) z (u .few) (r .listed) ∙ ap (λ (i : ℕ). remove i (upFrom (viewAt s) (s .count) 0)) (sym (r .named)))
+        (appended-log (s .ondisk .0) t (aborted (id .0)) (tail-zeros s t (x .fits)) (y .room) (y .right)
+        ∙ ap (λ (i : ℕ). readLog (s .ondisk .0) t ++ (aborted i ∷ [])) (sym (r .named)))
+
+    -- Settle drops the transaction.
+    pub settle-live : settleNumber s m t id ≡ 0 → live (settleOf s m t id .state) m t ≡ afterSettle tx (live s m t)
+    settle-live e =
+        let x = accepted s m t (settleChecks s (id .0)) e in
+        let l = listed-slot s (id .0) (check 14 (eqb (txOf s (id .0) .status) 1 || ltb (s .ondisk .0) (txOf s (id .0) .csn .0)) ∷ []) (x .own) in
+        ap (λ (o : Returned). live (o .state) m t) (settle-done s m t id e)
+        ∙ dropped-numbers s m t j
+        ∙ ap (with-txs s m t)
+        (dropped-txs s (id .0) z (image-count s (x .fits .image)) (l .0) ∙ ap (λ (i : ℕ). remove i (upFrom (viewAt s) (s .count) 0)) (sym (l .1)))

@@ -1,0 +1,29 @@
+-- Numbers 1 and 2 as the code goes about them: what it measures on the way is handed on to the call.
+use Prim.Native.Nat.{ℕ}
+use mathlib.Core.Bool.{Bool, true, false, cond, _&&_}
+use mathlib.Core.List.{List, [], _∷_}
+use lib.ListN.{length}
+use lib.Dec.{eqb}
+use Rattle.transaction.specs.Lists.{every, sumOf}
+use Rattle.transaction.specs.Rules.{redoOk, roomOf}
+use Rattle.store.specs.declared.State.{State}
+use Rattle.store.specs.declared.admit.Measured.{Measured}
+use Rattle.store.specs.declared.admit.Admission.{Admission}
+use Rattle.store.specs.State.{txsOf, outlinesOf}
+use Rattle.store.specs.Rules.{outlinesOk, tailLength, tailOk, roomUsed}
+use Rattle.store.specs.Numbers.{firstNumber, sharedChecks}
+
+abbrev pub measuredIf : Bool → ℕ → Measured
+measuredIf true n = record { ok = true; room = n }
+measuredIf false n = record { ok = false; room = 0 }
+
+unfoldable pub measuredTxs : State → Measured
+measuredTxs s = measuredIf (outlinesOk (s .lastid .0) (s .assigned .0) (outlinesOf s) && every redoOk (txsOf s)) (sumOf roomOf (txsOf s))
+
+unfoldable pub measuredTail : ℕ → ℕ → List ℕ → Measured
+measuredTail ondisk assigned tail = measuredIf (tailOk ondisk assigned tail) (tailLength ondisk tail)
+
+unfoldable pub admission : State → ℕ → List ℕ → Admission
+admission s m tail =
+    let n = firstNumber (sharedChecks s m tail) in
+    record { number = n; end = cond (eqb n 0) (tailLength (s .ondisk .0) tail) 0; room = cond (eqb n 0) (roomUsed s tail) 0 }

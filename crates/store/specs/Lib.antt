@@ -1,0 +1,9 @@
+-- The store in memory: the state, number 2, the refusals of each call in the list's order, and what each call leaves.
+pub mod State
+pub mod Answer
+pub mod Rules
+pub mod Admission
+pub mod Numbers
+pub mod Steps
+pub mod Calls
+pub mod View

@@ -1,0 +1,79 @@
+-- The numbers that refuse a call, in checking order, each under its stated condition alone.
+use Prim.Native.Nat.{ℕ, _+_}
+use mathlib.Core.Bool.{Bool, not, cond, _&&_, _||_}
+use mathlib.Core.List.{List, [], _∷_, _++_}
+use lib.ListN.{length}
+use lib.Dec.{eqb, ltb}
+use Rattle.recovery.specs.Lists.{any}
+use Rattle.transaction.specs.declared.Tx.{Tx}
+use Rattle.transaction.specs.Rules.{heldAgainst}
+use Rattle.store.specs.declared.State.{State}
+use Rattle.store.specs.declared.choose.Choice.{Choice}
+use Rattle.store.specs.State.{txAt, txsOf, hasId, slotOf}
+use Rattle.store.specs.Rules.{unfit}
+
+-- a number and the condition under which it refuses
+pub data Check : Type 0 where
+  check : ℕ → Bool → Check
+
+-- the first number of the list whose condition holds; 0 if none does
+abbrev pub firstNumber : List Check → ℕ
+firstNumber [] = 0
+firstNumber (check n b ∷ cs) = cond b n (firstNumber cs)
+
+-- what the code answers of checks: the number, and the slot of the transaction if there is none
+abbrev pub refusal : ℕ → Choice
+refusal n = record { number = n; slot = 0 }
+
+abbrev pub choice : List Check → ℕ → Choice
+choice cs slot = record { number = firstNumber cs; slot = cond (eqb (firstNumber cs) 0) slot 0 }
+
+-- the transaction of an id that is listed
+abbrev pub txOf : State → ℕ → Tx
+txOf s id = txAt s (slotOf s id)
+
+-- "1. All calls: a lent buffer hasn't its length." "2. Calls handed a state: .." (m: the length of the lent memory)
+abbrev pub sharedChecks : State → ℕ → List ℕ → List Check
+sharedChecks s m tail = check 1 (not (eqb m 4096 && eqb (length tail) 16384)) ∷ check 2 (unfit s tail) ∷ []
+
+-- "6. .. the id isn't in the list."
+abbrev pub check6 : State → ℕ → Check
+check6 s id = check 6 (not (any (hasId id) (txsOf s)))
+
+-- "7. .. it is committing."
+abbrev pub check7 : State → ℕ → Check
+check7 s id = check 7 (eqb (txOf s id .status) 2)
+
+-- "8. .. length 0 or above 32, or address + length above 4,096."
+abbrev pub check8 : ℕ → ℕ → Check
+check8 a n = check 8 (eqb n 0 || ltb 32 n || ltb 4096 (a + n))
+
+-- "9. .. a byte of the range is held by another."
+abbrev pub check9 : State → ℕ → ℕ → ℕ → Check
+check9 s id a n = check 9 (any (heldAgainst id a n) (txsOf s))
+
+-- "10. Write: it has 16 undo records."
+abbrev pub check10 : State → ℕ → Check
+check10 s id = check 10 (eqb (txOf s id .undo .count) 16)
+
+-- Begin: "11. .. 8 transactions are listed." "12. .. last id 65,535." "13. .. room used + 8 above 16,384."
+abbrev pub beginChecks : ℕ → ℕ → ℕ → List Check
+beginChecks count last room = check 11 (eqb count 8) ∷ check 12 (eqb last 65535) ∷ check 13 (ltb 16384 (room + 8)) ∷ []
+
+abbrev pub readChecks : State → ℕ → ℕ → ℕ → List Check
+readChecks s id a n = check6 s id ∷ check7 s id ∷ check8 a n ∷ check9 s id a n ∷ []
+
+-- "13. .. Write: room used + 7 + length above it."
+abbrev pub writeChecks : State → ℕ → ℕ → ℕ → ℕ → List Check
+writeChecks s room id a n = check6 s id ∷ check7 s id ∷ check8 a n ∷ check9 s id a n ∷ check10 s id ∷ check 13 (ltb 16384 (room + (7 + n))) ∷ []
+
+-- "12. .. Precommit: last commit number 4,294,967,295."
+abbrev pub precommitChecks : State → ℕ → List Check
+precommitChecks s id = check6 s id ∷ check7 s id ∷ check 12 (eqb (s .assigned .0) 4294967295) ∷ []
+
+abbrev pub abortChecks : State → ℕ → List Check
+abortChecks s id = check6 s id ∷ check7 s id ∷ []
+
+-- "14. Settle: running, or its commit number isn't on disk."
+abbrev pub settleChecks : State → ℕ → List Check
+settleChecks s id = check6 s id ∷ check 14 (eqb (txOf s id .status) 1 || ltb (s .ondisk .0) (txOf s id .csn .0)) ∷ []

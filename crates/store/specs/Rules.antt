@@ -1,0 +1,71 @@
+-- Number 2: what a state and the tail lent with it have to be.
+use Prim.Native.Nat.{ℕ, _+_}
+use mathlib.Core.Bool.{Bool, true, not, _&&_, _||_}
+use mathlib.Core.List.{List, [], _∷_}
+use lib.ListN.{length, drop}
+use lib.Dec.{eqb, leb, ltb}
+use Rattle.recovery.specs.Group.{groupsSize, lastCsn}
+use Rattle.recovery.specs.Lists.{any}
+use Rattle.log.specs.Log.{readLog}
+use Rattle.transaction.specs.Lists.{every, sumOf}
+use Rattle.transaction.specs.View.{Outline, outline}
+use Rattle.transaction.specs.Rules.{outlineOk, alike, redoOk, roomOf}
+use Rattle.store.specs.declared.State.{State}
+use Rattle.store.specs.State.{txsOf, outlinesOf}
+
+-- ---- the image rules, for numbers 2 and 4
+
+-- "ids distinct", commit numbers "no two alike": each differs from those after it
+abbrev pub alikeTo : Outline → Outline → Bool
+alikeTo (outline id status csn undo) t = alike id csn t
+
+abbrev pub distinct : List Outline → Bool
+distinct [] = true
+distinct (t ∷ ts) = not (any (alikeTo t) ts) && distinct ts
+
+abbrev pub outlinesOk : ℕ → ℕ → List Outline → Bool
+outlinesOk last assigned ts = every (outlineOk last assigned) ts && distinct ts
+
+-- "log end ≤ 16,384; number on disk ≤ number assigned; at most 8 transactions", and the rules of the transactions
+abbrev pub imageOk : ℕ → ℕ → ℕ → ℕ → List Outline → Bool
+imageOk logEnd ondisk assigned last ts = leb logEnd 16384 && leb ondisk assigned && leb (length ts) 8 && outlinesOk last assigned ts
+
+abbrev pub keepsImageRules : State → Bool
+keepsImageRules s = imageOk (s .logend) (s .ondisk .0) (s .assigned .0) (s .lastid .0) (outlinesOf s)
+
+-- ---- the tail and log room
+
+abbrev pub isZero : ℕ → Bool
+isZero b = eqb b 0
+
+abbrev pub allZero : List ℕ → Bool
+allZero bs = every isZero bs
+
+-- the tail's length: where its whole groups end, read from the commit number on disk
+abbrev pub tailLength : ℕ → List ℕ → ℕ
+tailLength ondisk tail = groupsSize (readLog ondisk tail)
+
+-- "whole groups, commit numbers going on from the one on disk up to the one assigned, then zeros"
+abbrev pub tailOk : ℕ → ℕ → List ℕ → Bool
+tailOk ondisk assigned tail = eqb (lastCsn ondisk (readLog ondisk tail)) assigned && allZero (drop (tailLength ondisk tail) tail)
+
+-- "Log room used = log end + tail length + for each running transaction its redo bytes + 8."
+abbrev pub roomUsed : State → List ℕ → ℕ
+roomUsed s tail = s .logend + tailLength (s .ondisk .0) tail + sumOf roomOf (txsOf s)
+
+-- ---- number 2
+
+-- It is unrecovered, breaks an image rule, uses more than 16,384 bytes of log room, or has a running transaction whose redo records
+-- differ from its undo records in count or ranges; or the lent tail isn't whole groups, commit numbers going on from the one on disk
+-- up to the one assigned, then zeros.
+unfoldable pub unfit : State → List ℕ → Bool
+unfit s tail =
+    not (s .recovered)
+    || not (keepsImageRules s)
+    || ltb 16384 (roomUsed s tail)
+    || not (every redoOk (txsOf s))
+    || not (tailOk (s .ondisk .0) (s .assigned .0) tail)
+
+-- the part of the rules that looks at the counters alone
+unfoldable pub headOk : Bool → ℕ → ℕ → ℕ → ℕ → Bool
+headOk recovered logEnd ondisk assigned count = recovered && leb logEnd 16384 && leb ondisk assigned && leb count 8

@@ -1,0 +1,184 @@
+// Numbers 1 and 2, which every call that is handed a state checks first.
+use crate::State;
+use log::Csn;
+use log::TxId;
+use log::scan::read_log;
+ghost use mathlib.Core.Path.{_≡_};
+ghost use Prim.Native.Nat.{_+_, _-_, _≤_};
+ghost use Rattle.recovery.specs.Lists.{any};
+ghost use Rattle.transaction.specs.Lists.{upFrom, every};
+ghost use Rattle.transaction.specs.Rules.{alike};
+ghost use Rattle.store.specs.State.{outlineAt};
+ghost use Rattle.store.specs.Rules.{headOk, allZero};
+ghost use Rattle.store.specs.Admission.{measuredTxs, measuredTail, admission};
+
+// Whether what was looked at keeps its rules, and the log room that it takes.
+pub struct Measured {
+    pub ok: bool,
+    pub room: usize,
+}
+
+// The number that refuses, 0 for none; if none, where the tail's groups end and the log room used.
+pub struct Admission {
+    pub number: u8,
+    pub end: usize,
+    pub room: usize,
+}
+
+// An or over all bytes instead of a stop at the first one that is not 0: it runs in wide registers.
+fn all_zero(s: &[u8]) -> bool
+    ensures { λ r. ⌜ r ≡ allZero (now (s .entry)) ⌝ }
+{
+    let mut seen: u8 = 0;
+    let mut i: usize = 0;
+    while i < s.len() {
+        seen = seen | s[i];
+        i += 1;
+    }
+    seen == 0
+}
+
+// The counters: recovered, and the image rules of the log's end, the two commit numbers and the count.
+fn head_ok(recovered: bool, logend: u16, ondisk: Csn, assigned: Csn, count: u8) -> bool
+    ensures { λ r. ⌜ r ≡ headOk recovered logend (ondisk .0) (assigned .0) count ⌝ }
+{
+    if !recovered {
+        return false;
+    }
+    if 16384 < logend {
+        return false;
+    }
+    if assigned.0 < ondisk.0 {
+        return false;
+    }
+    count <= 8
+}
+
+// Whole groups with commit numbers from the one on disk up to the one assigned, then zeros.
+fn measure_tail(tail: &[u8], ondisk: Csn, assigned: Csn) -> Measured
+    ensures { λ r. ⌜ r ≡ measuredTail (ondisk .0) (assigned .0) (now (tail .entry)) ⌝ }
+{
+    let log = read_log(tail, ondisk);
+    let end = log.end;
+    if log.csn.0 != assigned.0 {
+        return Measured { ok: false, room: 0 };
+    }
+    if !all_zero(&tail[end..]) {
+        return Measured { ok: false, room: 0 };
+    }
+    Measured {
+        ok: true,
+        room: end,
+    }
+}
+
+impl State {
+    // Whether a transaction from slot i on has this id or this commit number.
+    fn alike_from(self, i: usize, id: TxId, csn: Csn) -> bool
+        requires { ⌜ (i ≤ self .count) × (self .count ≤ 8) ⌝ }
+        ensures { λ r. ⌜ r ≡ any (alike (id .0) (csn .0)) (upFrom (outlineAt self) (self .count - i) i) ⌝ }
+    {
+        let n = self.count as usize;
+        let mut j = i;
+        while j < n {
+            let t = self.txs[j];
+            if t.alike(id, csn) {
+                return true;
+            }
+            j += 1;
+        }
+        false
+    }
+
+    // The rules of the transactions, and the log room that they have reserved.
+    fn measure_txs(self) -> Measured
+        requires { ⌜ self .count ≤ 8 ⌝ }
+        ensures { λ r. ⌜ r ≡ measuredTxs self ⌝ }
+    {
+        let n = self.count as usize;
+        let last = self.lastid;
+        let assigned = self.assigned;
+        let mut room: usize = 0;
+        let mut i: usize = 0;
+        while i < n {
+            let t = self.txs[i];
+            if !t.image_ok(last, assigned) {
+                return Measured { ok: false, room: 0 };
+            }
+            if !t.redo_ok() {
+                return Measured { ok: false, room: 0 };
+            }
+            if self.alike_from(i + 1, t.id, t.csn) {
+                return Measured { ok: false, room: 0 };
+            }
+            room = room + t.room();
+            i += 1;
+        }
+        Measured {
+            ok: true,
+            room: room,
+        }
+    }
+
+    // memory is the length of the memory that was lent.
+    pub fn admit(self, memory: usize, tail: &[u8]) -> Admission
+        ensures { λ r. ⌜ r ≡ admission self memory (now (tail .entry)) ⌝ }
+    {
+        if memory != 4096 {
+            return Admission {
+                number: 1,
+                end: 0,
+                room: 0,
+            };
+        }
+        if tail.len() != 16384 {
+            return Admission {
+                number: 1,
+                end: 0,
+                room: 0,
+            };
+        }
+        if !head_ok(
+            self.recovered,
+            self.logend,
+            self.ondisk,
+            self.assigned,
+            self.count,
+        ) {
+            return Admission {
+                number: 2,
+                end: 0,
+                room: 0,
+            };
+        }
+        let txs = self.measure_txs();
+        if !txs.ok {
+            return Admission {
+                number: 2,
+                end: 0,
+                room: 0,
+            };
+        }
+        let log = measure_tail(tail, self.ondisk, self.assigned);
+        if !log.ok {
+            return Admission {
+                number: 2,
+                end: 0,
+                room: 0,
+            };
+        }
+        let room = self.logend as usize + log.room + txs.room;
+        if 16384 < room {
+            return Admission {
+                number: 2,
+                end: 0,
+                room: 0,
+            };
+        }
+        Admission {
+            number: 0,
+            end: log.room,
+            room: room,
+        }
+    }
+}

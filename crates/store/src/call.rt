@@ -1,0 +1,219 @@
+// The calls. Each is handed the state by value and gives it back, with its answer beside it.
+use crate::Answer;
+use crate::State;
+use crate::choose::begin_number;
+use log::Csn;
+use log::TxId;
+ghost use mathlib.Core.Path.{_≡_};
+ghost use Rattle.store.specs.Calls.{beginOf, writeOf, readOf, readAnswerOf, precommitOf, abortOf, settleOf};
+
+pub struct Begun {
+    pub answer: Answer,
+    pub id: TxId,
+    pub state: State,
+}
+
+pub struct Precommitted {
+    pub answer: Answer,
+    pub csn: Csn,
+    pub state: State,
+}
+
+pub struct Returned {
+    pub answer: Answer,
+    pub state: State,
+}
+
+impl State {
+    pub fn begin(self, memory: &[u8], tail: &[u8]) -> Begun
+        ensures { λ r. ⌜ r ≡ beginOf self (now (memory .entry)) (now (tail .entry)) ⌝ }
+    {
+        let admitted = self.admit(memory.len(), tail);
+        if admitted.number != 0 {
+            return Begun {
+                answer: Answer::Refused(admitted.number),
+                id: TxId(0),
+                state: self,
+            };
+        }
+        let number = begin_number(self.count, self.lastid, admitted.room);
+        if number != 0 {
+            return Begun {
+                answer: Answer::Refused(number),
+                id: TxId(0),
+                state: self,
+            };
+        }
+        let s = self.begin_step();
+        let id = s.lastid;
+        Begun {
+            answer: Answer::Done,
+            id: id,
+            state: s,
+        }
+    }
+
+    pub fn write(
+        self,
+        memory: &mut [u8],
+        tail: &[u8],
+        id: TxId,
+        addr: usize,
+        bytes: &[u8],
+    ) -> Returned
+        ensures { λ r. ⌜ r ≡ writeOf self (now (memory .entry)) (now (tail .entry)) id addr (now (bytes .entry)) .result ⌝ }
+        ensures { λ _. ⌜ now (memory .exit) ≡ writeOf self (now (memory .entry)) (now (tail .entry)) id addr (now (bytes .entry)) .memory ⌝ }
+    {
+        let admitted = self.admit(memory.len(), tail);
+        if admitted.number != 0 {
+            return Returned {
+                answer: Answer::Refused(admitted.number),
+                state: self,
+            };
+        }
+        let chosen = self.choose_write(admitted.room, id, addr, bytes.len());
+        if chosen.number != 0 {
+            return Returned {
+                answer: Answer::Refused(chosen.number),
+                state: self,
+            };
+        }
+        let s = self.write_step(memory, chosen.slot, addr, bytes);
+        Returned {
+            answer: Answer::Done,
+            state: s,
+        }
+    }
+
+    // The part of memory itself; an empty part if refused.
+    pub fn read<'a>(
+        self,
+        memory: &'a [u8],
+        tail: &[u8],
+        id: TxId,
+        addr: usize,
+        len: usize,
+    ) -> &'a [u8]
+        ensures { λ r. ⌜ now r ≡ readOf self (now (memory .entry)) (now (tail .entry)) id addr len ⌝ }
+    {
+        let admitted = self.admit(memory.len(), tail);
+        if admitted.number != 0 {
+            return &memory[0..0];
+        }
+        let chosen = self.choose_read(id, addr, len);
+        if chosen.number != 0 {
+            return &memory[0..0];
+        }
+        &memory[addr..addr + len]
+    }
+
+    // Read's sister: the number that read refuses with.
+    pub fn read_answer(
+        self,
+        memory: &[u8],
+        tail: &[u8],
+        id: TxId,
+        addr: usize,
+        len: usize,
+    ) -> Returned
+        ensures { λ r. ⌜ r ≡ readAnswerOf self (now (memory .entry)) (now (tail .entry)) id addr len ⌝ }
+    {
+        let admitted = self.admit(memory.len(), tail);
+        if admitted.number != 0 {
+            return Returned {
+                answer: Answer::Refused(admitted.number),
+                state: self,
+            };
+        }
+        let chosen = self.choose_read(id, addr, len);
+        if chosen.number != 0 {
+            return Returned {
+                answer: Answer::Refused(chosen.number),
+                state: self,
+            };
+        }
+        Returned {
+            answer: Answer::Done,
+            state: self,
+        }
+    }
+
+    pub fn precommit(self, memory: &[u8], tail: &mut [u8], id: TxId) -> Precommitted
+        ensures { λ r. ⌜ r ≡ precommitOf self (now (memory .entry)) (now (tail .entry)) id .result ⌝ }
+        ensures { λ _. ⌜ now (tail .exit) ≡ precommitOf self (now (memory .entry)) (now (tail .entry)) id .tail ⌝ }
+    {
+        let admitted = self.admit(memory.len(), &*tail);
+        if admitted.number != 0 {
+            return Precommitted {
+                answer: Answer::Refused(admitted.number),
+                csn: Csn(0),
+                state: self,
+            };
+        }
+        let chosen = self.choose_precommit(id);
+        if chosen.number != 0 {
+            return Precommitted {
+                answer: Answer::Refused(chosen.number),
+                csn: Csn(0),
+                state: self,
+            };
+        }
+        let s = self.precommit_step(tail, admitted.end, chosen.slot);
+        let csn = s.assigned;
+        Precommitted {
+            answer: Answer::Done,
+            csn: csn,
+            state: s,
+        }
+    }
+
+    pub fn abort(self, memory: &mut [u8], tail: &mut [u8], id: TxId) -> Returned
+        ensures { λ r. ⌜ r ≡ abortOf self (now (memory .entry)) (now (tail .entry)) id .result ⌝ }
+        ensures { λ _. ⌜ now (memory .exit) ≡ abortOf self (now (memory .entry)) (now (tail .entry)) id .memory ⌝ }
+        ensures { λ _. ⌜ now (tail .exit) ≡ abortOf self (now (memory .entry)) (now (tail .entry)) id .tail ⌝ }
+    {
+        let admitted = self.admit(memory.len(), &*tail);
+        if admitted.number != 0 {
+            return Returned {
+                answer: Answer::Refused(admitted.number),
+                state: self,
+            };
+        }
+        let chosen = self.choose_running(id);
+        if chosen.number != 0 {
+            return Returned {
+                answer: Answer::Refused(chosen.number),
+                state: self,
+            };
+        }
+        let s = self.abort_step(memory, tail, admitted.end, chosen.slot);
+        Returned {
+            answer: Answer::Done,
+            state: s,
+        }
+    }
+
+    pub fn settle(self, memory: &[u8], tail: &[u8], id: TxId) -> Returned
+        ensures { λ r. ⌜ r ≡ settleOf self (now (memory .entry)) (now (tail .entry)) id ⌝ }
+    {
+        let admitted = self.admit(memory.len(), tail);
+        if admitted.number != 0 {
+            return Returned {
+                answer: Answer::Refused(admitted.number),
+                state: self,
+            };
+        }
+        let chosen = self.choose_settle(id);
+        if chosen.number != 0 {
+            return Returned {
+                answer: Answer::Refused(chosen.number),
+                state: self,
+            };
+        }
+        let s = self.drop_step(chosen.slot);
+        Returned {
+            answer: Answer::Done,
+            state: s,
+        }
+    }
+}

@@ -1,0 +1,170 @@
+// Numbers 6 to 14: a call's own refusals, and the slot of the transaction that it is about.
+use crate::State;
+use log::TxId;
+use log::record::in_range;
+ghost use mathlib.Core.Path.{_≡_};
+ghost use mathlib.Core.Bool.{true};
+ghost use Prim.Native.Nat.{_≤_};
+ghost use Rattle.recovery.specs.Lists.{any};
+ghost use Rattle.transaction.specs.Rules.{heldAgainst};
+ghost use Rattle.store.specs.State.{txsOf, slotOf};
+ghost use Rattle.store.specs.Rules.{keepsImageRules};
+ghost use Rattle.store.specs.Numbers.{firstNumber, refusal, choice, beginChecks, readChecks, writeChecks, precommitChecks, abortChecks, settleChecks};
+
+// The number that refuses, 0 for none; if none, the slot.
+pub struct Choice {
+    pub number: u8,
+    pub slot: usize,
+}
+
+fn refuse(number: u8) -> Choice
+    ensures { λ r. ⌜ r ≡ refusal number ⌝ }
+{
+    Choice {
+        number: number,
+        slot: 0,
+    }
+}
+
+// Numbers 11, 12 and 13.
+pub fn begin_number(count: u8, last: TxId, room: usize) -> u8
+    requires { ⌜ room ≤ 16384 ⌝ }
+    ensures { λ r. ⌜ r ≡ firstNumber (beginChecks count (last .0) room) ⌝ }
+{
+    if count == 8 {
+        return 11;
+    }
+    if last.0 == 65535 {
+        return 12;
+    }
+    if 16384 < room + 8 {
+        return 13;
+    }
+    0
+}
+
+impl State {
+    // The slot of the transaction of this id; the count if it isn't listed.
+    fn find(self, id: TxId) -> usize
+        requires { ⌜ self .count ≤ 8 ⌝ }
+        ensures { λ r. ⌜ r ≡ slotOf self (id .0) ⌝ }
+    {
+        let n = self.count as usize;
+        let mut i: usize = 0;
+        while i < n {
+            if id.0 == self.txs[i].id.0 {
+                return i;
+            }
+            i += 1;
+        }
+        n
+    }
+
+    // Number 9.
+    fn held(self, id: TxId, addr: usize, len: usize) -> bool
+        requires { ⌜ (keepsImageRules self ≡ true) × (addr ≤ 4096) × (len ≤ 32) ⌝ }
+        ensures { λ r. ⌜ r ≡ any (heldAgainst (id .0) addr len) (txsOf self) ⌝ }
+    {
+        let n = self.count as usize;
+        let mut i: usize = 0;
+        while i < n {
+            let t = self.txs[i];
+            if t.holds_against(id, addr, len) {
+                return true;
+            }
+            i += 1;
+        }
+        false
+    }
+
+    // Numbers 6 and 7.
+    pub fn choose_running(self, id: TxId) -> Choice
+        requires { ⌜ keepsImageRules self ≡ true ⌝ }
+        ensures { λ r. ⌜ r ≡ choice (abortChecks self (id .0)) (slotOf self (id .0)) ⌝ }
+    {
+        let slot = self.find(id);
+        if slot == self.count as usize {
+            return refuse(6);
+        }
+        if self.txs[slot].status == 2 {
+            return refuse(7);
+        }
+        Choice {
+            number: 0,
+            slot: slot,
+        }
+    }
+
+    // Numbers 6, 7, 8 and 9.
+    pub fn choose_read(self, id: TxId, addr: usize, len: usize) -> Choice
+        requires { ⌜ keepsImageRules self ≡ true ⌝ }
+        ensures { λ r. ⌜ r ≡ choice (readChecks self (id .0) addr len) (slotOf self (id .0)) ⌝ }
+    {
+        let running = self.choose_running(id);
+        if running.number != 0 {
+            return running;
+        }
+        if !in_range(addr, len) {
+            return refuse(8);
+        }
+        if self.held(id, addr, len) {
+            return refuse(9);
+        }
+        running
+    }
+
+    // Numbers 6 to 10 and 13.
+    pub fn choose_write(self, room: usize, id: TxId, addr: usize, len: usize) -> Choice
+        requires { ⌜ (keepsImageRules self ≡ true) × (room ≤ 16384) ⌝ }
+        ensures { λ r. ⌜ r ≡ choice (writeChecks self room (id .0) addr len) (slotOf self (id .0)) ⌝ }
+    {
+        let free = self.choose_read(id, addr, len);
+        if free.number != 0 {
+            return free;
+        }
+        let slot = free.slot;
+        if self.txs[slot].undo.count == 16 {
+            return refuse(10);
+        }
+        if 16384 < room + (7 + len) {
+            return refuse(13);
+        }
+        free
+    }
+
+    // Numbers 6, 7 and 12.
+    pub fn choose_precommit(self, id: TxId) -> Choice
+        requires { ⌜ keepsImageRules self ≡ true ⌝ }
+        ensures { λ r. ⌜ r ≡ choice (precommitChecks self (id .0)) (slotOf self (id .0)) ⌝ }
+    {
+        let running = self.choose_running(id);
+        if running.number != 0 {
+            return running;
+        }
+        if self.assigned.0 == 4294967295 {
+            return refuse(12);
+        }
+        running
+    }
+
+    // Numbers 6 and 14.
+    pub fn choose_settle(self, id: TxId) -> Choice
+        requires { ⌜ keepsImageRules self ≡ true ⌝ }
+        ensures { λ r. ⌜ r ≡ choice (settleChecks self (id .0)) (slotOf self (id .0)) ⌝ }
+    {
+        let slot = self.find(id);
+        if slot == self.count as usize {
+            return refuse(6);
+        }
+        if self.txs[slot].status == 1 {
+            return refuse(14);
+        }
+        if self.ondisk.0 < self.txs[slot].csn.0 {
+            return refuse(14);
+        }
+        Choice {
+            number: 0,
+            slot: slot,
+        }
+    }
+}

@@ -1,0 +1,95 @@
+// What the calls do once nothing refuses them. Each step has its own exact definition, so that later calls can be made of steps.
+use crate::State;
+use log::Csn;
+use log::TxId;
+use log::record::put_abort;
+use log::stores::copy;
+use transaction::Tx;
+ghost use mathlib.Core.Path.{_≡_};
+ghost use mathlib.Core.Bool.{true};
+ghost use Prim.Native.Nat.{_+_, _≤_, _<_};
+ghost use lib.ListN.{length};
+ghost use lib.Seq.{sets};
+ghost use Rattle.recovery.specs.Group.{committed, aborted};
+ghost use Rattle.recovery.specs.Replay.{undoAll, layBytes};
+ghost use Rattle.log.specs.Group.{encodeGroup};
+ghost use Rattle.transaction.specs.View.{rangesOf, writesOf};
+ghost use Rattle.transaction.specs.Rules.{recordsOk, rangesSize};
+ghost use Rattle.store.specs.State.{txAt};
+ghost use Rattle.store.specs.Steps.{begunState, writtenState, precommittedState, droppedState};
+
+impl State {
+    pub fn begin_step(mut self) -> Self
+        requires { ⌜ (self .count < 8) × (self .lastid .0 < 65535) ⌝ }
+        ensures { λ r. ⌜ r ≡ begunState self ⌝ }
+    {
+        let id = TxId(self.lastid.0 + 1);
+        let n = self.count as usize;
+        let t = Tx::fresh(id);
+        self.txs[n] = t;
+        self.count = self.count + 1;
+        self.lastid = id;
+        self
+    }
+
+    pub fn write_step(mut self, memory: &mut [u8], slot: usize, addr: usize, bytes: &[u8]) -> Self
+        requires { ⌜ (slot < 8) × (length (now memory) ≡ 4096) × (length (now bytes) ≤ 32) × (addr + length (now bytes) ≤ 4096) ⌝ }
+        requires { ⌜ (txAt self slot .undo .count < 16) × (txAt self slot .redo .count < 16) ⌝ }
+        ensures { λ r. ⌜ r ≡ writtenState self slot (now (memory .entry)) addr (now (bytes .entry)) ⌝ }
+        ensures { λ _. ⌜ now (memory .exit) ≡ sets (now (memory .entry)) addr (now (bytes .entry)) ⌝ }
+    {
+        let n = bytes.len();
+        let t = self.txs[slot];
+        let u = t.write(addr as u16, &memory[addr..addr + n], bytes);
+        self.txs[slot] = u;
+        copy(memory, addr, bytes);
+        self
+    }
+
+    pub fn precommit_step(mut self, tail: &mut [u8], end: usize, slot: usize) -> Self
+        requires { ⌜ (slot < 8) × (self .assigned .0 < 4294967295) ⌝ }
+        requires { ⌜ (recordsOk (rangesOf (txAt self slot .redo)) ≡ true) × (end + rangesSize (rangesOf (txAt self slot .redo)) + 8 ≤ length (now tail)) ⌝ }
+        ensures { λ r. ⌜ r ≡ precommittedState self slot ⌝ }
+        ensures { λ _. ⌜ now (tail .exit) ≡ sets (now (tail .entry)) end (encodeGroup (committed (txAt self slot .id .0) (self .assigned .0 + 1) (writesOf (txAt self slot .redo)))) ⌝ }
+    {
+        let csn = Csn(self.assigned.0 + 1);
+        let t = self.txs[slot];
+        t.put_group(tail, end, csn);
+        let u = t.precommit(csn);
+        self.txs[slot] = u;
+        self.assigned = csn;
+        self
+    }
+
+    // Takes the transaction of a slot out of the list: the later ones move down, and the slot that falls free is all zero.
+    pub fn drop_step(mut self, slot: usize) -> Self
+        requires { ⌜ (slot < self .count) × (self .count ≤ 8) ⌝ }
+        ensures { λ r. ⌜ r ≡ droppedState self slot ⌝ }
+    {
+        let n = self.count as usize;
+        let mut i = slot;
+        while i + 1 < n {
+            let t = self.txs[i + 1];
+            self.txs[i] = t;
+            i += 1;
+        }
+        let none = Tx::empty();
+        self.txs[i] = none;
+        self.count = self.count - 1;
+        self
+    }
+
+    pub fn abort_step(self, memory: &mut [u8], tail: &mut [u8], end: usize, slot: usize) -> Self
+        requires { ⌜ (slot < self .count) × (self .count ≤ 8) × (length (now memory) ≡ 4096) ⌝ }
+        requires { ⌜ (recordsOk (rangesOf (txAt self slot .undo)) ≡ true) × (end + 4 ≤ length (now tail)) ⌝ }
+        ensures { λ r. ⌜ r ≡ droppedState self slot ⌝ }
+        ensures { λ _. ⌜ now (memory .exit) ≡ undoAll layBytes (writesOf (txAt self slot .undo)) (now (memory .entry)) ⌝ }
+        ensures { λ _. ⌜ now (tail .exit) ≡ sets (now (tail .entry)) end (encodeGroup (aborted (txAt self slot .id .0))) ⌝ }
+    {
+        let t = self.txs[slot];
+        let undo = t.undo;
+        undo.lay_back(memory);
+        put_abort(tail, end, t.id);
+        self.drop_step(slot)
+    }
+}

@@ -1,0 +1,67 @@
+-- Laws of lists over the places of an array: a turn of a loop that counts up, its end, and one place of many.
+use Prim.Native.Nat.{ℕ, zero, suc, _+_, _-_, _≤_, _<_}
+use native.Mathlib.Numerals.{add-one}
+use native.Mathlib.Omega.{arith}
+use mathlib.Core.Bool.{Bool, true, false, _&&_, _||_}
+use mathlib.Core.List.{List, [], _∷_, _++_}
+use mathlib.Core.Path.{_≡_, refl, sym, ap, _∙_}
+use lib.ListN.{length}
+use Rattle.recovery.specs.Lists.{any}
+use Rattle.transaction.specs.Lists.{upFrom, every, sumOf}
+
+pub and-left : (a b : Bool) → a && b ≡ true → a ≡ true
+and-left true b e = refl
+and-left false b e = e
+
+pub and-right : (a b : Bool) → a && b ≡ true → b ≡ true
+and-right true b e = e
+and-right false b e = let z : true ≡ false = sym e in cc
+
+module _ {A : Type 0} (f : ℕ → A) where
+  pub length-up : (k i : ℕ) → length (upFrom f k i) ≡ k
+  length-up zero i = refl
+  length-up (suc k) i = ap suc (length-up k (suc i))
+
+  pub up-snoc : (k i : ℕ) → upFrom f (suc k) i ≡ upFrom f k i ++ (f (i + k) ∷ [])
+  up-snoc zero i = let e : i ≡ i + 0 = omega arith in ap (λ (j : ℕ). f j ∷ []) e
+  up-snoc (suc k) i =
+      let e : suc i + k ≡ i + suc k = omega arith in
+      ap (λ (xs : List A). f i ∷ xs) (up-snoc k (suc i)) ∙ ap (λ (j : ℕ). f i ∷ (upFrom f k (suc i) ++ (f j ∷ []))) e
+
+  pub up-same : (g : ℕ → A) (k i : ℕ) → ((j : ℕ) → i ≤ j → j < i + k → f j ≡ g j) → upFrom f k i ≡ upFrom g k i
+  up-same g zero i h = refl
+  up-same g (suc k) i h =
+      ap (λ (x : A). x ∷ upFrom f k (suc i)) (h i (omega arith) (omega arith))
+      ∙ ap (λ (xs : List A). g i ∷ xs) (up-same g k (suc i) (λ j a b. h j (omega arith) (omega arith)))
+
+  pub every-at : (p : A → Bool) (k i : ℕ) → every p (upFrom f k i) ≡ true → (j : ℕ) → i ≤ j → j < i + k → p (f j) ≡ true
+  every-at p zero i e j a b = absurd (omega arith)
+  every-at p (suc k) i e j a b = go (j - i) refl (λ h. every-at p k (suc i) (and-right (p (f i)) _ e) j h (omega arith))
+    where
+      go : (d : ℕ) → j - i ≡ d → (i < j → p (f j) ≡ true) → p (f j) ≡ true
+      go zero q later = let z : j ≡ i = omega arith in rw z (and-left (p (f i)) _ e)
+      go (suc d) q later = later (omega arith)
+
+  pub up-done : (n i : ℕ) → n ≤ i → upFrom f (n - i) i ≡ []
+  up-done n i h = let e : n - i ≡ 0 = omega arith in rw e
+
+  module _ (n i : ℕ) (h : i < n) where
+    pub up-turn : upFrom f (n - i) i ≡ f i ∷ upFrom f (n - (i + 1)) (i + 1)
+    up-turn =
+        let e : n - i ≡ suc (n - (i + 1)) = omega arith in
+        ap (λ (k : ℕ). upFrom f k i) e ∙ ap (λ (j : ℕ). f i ∷ upFrom f (n - (i + 1)) j) (sym (add-one i))
+
+    pub every-bad : (p : A → Bool) → p (f i) ≡ false → every p (upFrom f (n - i) i) ≡ false
+    every-bad p e = ap (every p) up-turn ∙ rw e
+
+    pub every-good : (p : A → Bool) → p (f i) ≡ true → every p (upFrom f (n - i) i) ≡ every p (upFrom f (n - (i + 1)) (i + 1))
+    every-good p e = ap (every p) up-turn ∙ rw e
+
+    pub any-hit : (p : A → Bool) → p (f i) ≡ true → any p (upFrom f (n - i) i) ≡ true
+    any-hit p e = ap (any p) up-turn ∙ rw e
+
+    pub any-miss : (p : A → Bool) → p (f i) ≡ false → any p (upFrom f (n - i) i) ≡ any p (upFrom f (n - (i + 1)) (i + 1))
+    any-miss p e = ap (any p) up-turn ∙ rw e
+
+    pub sum-turn : (g : A → ℕ) → sumOf g (upFrom f (n - i) i) ≡ g (f i) + sumOf g (upFrom f (n - (i + 1)) (i + 1))
+    sum-turn g = ap (sumOf g) up-turn

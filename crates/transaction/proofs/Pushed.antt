@@ -1,0 +1,140 @@
+-- One record more, as it is seen: the ranges and the writes gain one at their end, the others stay.
+use Prim.Native.Nat.{ℕ, zero, suc, _+_, _*_, _≤_, _<_}
+use native.Mathlib.Nat.{zero-add, suc-add}
+use native.Mathlib.Numerals.{add-one}
+use native.Mathlib.Omega.{arith}
+use mathlib.Core.Bool.{Bool, true, false, _&&_}
+use mathlib.Core.List.{List, [], _∷_, _++_, append-assoc}
+use mathlib.Core.Path.{_≡_, refl, sym, ap, ap₂, _∙_}
+use lib.ListN.{length, getD, take, drop, set, length-set, length-append, length-replicate}
+use lib.Seq.{sets, sets-eq, take-nil, take-set-le, take-at, drop-at, length-take-le, length-sets, getD-set-same, getD-set-other}
+use lib.Dec.{eqb, leb}
+use borrow.Author.Tests.{eq-eqb, le-leb}
+use Rattle.recovery.specs.Group.{Write}
+use Rattle.log.specs.Record.{inRange}
+use Rattle.log.specs.Flat.{writeAt}
+use Rattle.transaction.specs.declared.Records.{Records}
+use Rattle.transaction.specs.Lists.{upFrom, every, sumOf}
+use Rattle.transaction.specs.Flat.{emptyRecords}
+use Rattle.transaction.specs.View.{Range, range, rangeAt, rangesOf, writesOf}
+use Rattle.transaction.specs.Rules.{rangeOk, recordsOk, sameRange, sameRanges, rangeSize, rangesSize}
+use Rattle.transaction.specs.Steps.{pushed}
+use Rattle.transaction.proofs.Lists.{up-snoc, up-same, length-up, and-left, and-right}
+use Rattle.transaction.proofs.Writes.{writes-up}
+
+-- the arrays' lengths, which every value of the code has
+pub record Sized (r : Records) : Type 0 where
+  pub addrs : length (r .addr) ≡ 16
+  pub lens : length (r .len) ≡ 16
+  pub space : length (r .bytes) ≡ 512
+
+pub empty-sized : Sized emptyRecords
+unfolding emptyRecords
+empty-sized = record { addrs = refl; lens = refl; space = length-replicate {A = ℕ} 512 0 }
+
+pub push-sized : (r : Records) (a : ℕ) (bs : List ℕ) → Sized r → Sized (pushed r a bs)
+unfolding pushed
+push-sized r a bs z =
+    record {
+      addrs = length-set (r .addr) (r .count) a ∙ z .addrs;
+      lens = length-set (r .len) (r .count) (length bs) ∙ z .lens;
+      space = length-sets (r .bytes) (r .count * 32) bs ∙ z .space;
+    }
+
+-- ---- a part of a list after stores: before them it is as it was, and where they were made it is what was stored
+
+pub drop-take : (m k : ℕ) (l : List ℕ) → drop m (take (m + k) l) ≡ take k (drop m l)
+drop-take zero k l = rw (zero-add k)
+drop-take (suc m) k [] = rw (suc-add m k, take-nil k)
+drop-take (suc m) k (x ∷ l) = rw (suc-add m k) (drop-take m k l)
+
+sets-before : (d bs : List ℕ) (p l q : ℕ) → p + l ≤ q → take l (drop p (sets d q bs)) ≡ take l (drop p d)
+sets-before d [] p l q h = refl
+sets-before d (x ∷ bs) p l q h =
+    sets-before (set d q x) bs p l (suc q) (omega arith)
+    ∙ sym (drop-take p l (set d q x))
+    ∙ ap (drop p) (take-set-le (p + l) d q x h)
+    ∙ drop-take p l d
+
+sets-there : (d bs : List ℕ) (q : ℕ) → q + length bs ≤ length d → take (length bs) (drop q (sets d q bs)) ≡ bs
+sets-there d bs q h =
+    let rest = drop (q + length bs) d in
+    ap (λ (l : List ℕ). take (length bs) (drop q l)) (sets-eq bs d q h ∙ append-assoc (take q d) bs rest)
+    ∙ ap (take (length bs)) (drop-at (take q d) (bs ++ rest) q (length-take-le q d (omega arith)))
+    ∙ take-at bs rest (length bs) refl
+
+-- ---- the record that was pushed
+
+module _ (r : Records) (a : ℕ) (bs : List ℕ) (z : Sized r) (c : r .count < 16) where
+  address : getD (set (r .addr) (r .count) a) (r .count) 0 ≡ a
+  address = getD-set-same (r .addr) (r .count) a 0 (omega (arith, z .addrs))
+
+  long : getD (set (r .len) (r .count) (length bs)) (r .count) 0 ≡ length bs
+  long = getD-set-same (r .len) (r .count) (length bs) 0 (omega (arith, z .lens))
+
+  counts : pushed r a bs .count ≡ suc (r .count)
+  unfolding pushed
+  counts = add-one (r .count)
+
+  range-kept : (j : ℕ) → j < r .count → rangeAt (pushed r a bs) j ≡ rangeAt r j
+  unfolding pushed
+  range-kept j h =
+      ap₂ range (getD-set-other (r .addr) (r .count) j a 0 (λ e. omega (arith, e))) (getD-set-other (r .len) (r .count) j (length bs) 0 (λ e. omega (arith, e)))
+
+  range-new : rangeAt (pushed r a bs) (0 + r .count) ≡ range a (length bs)
+  unfolding pushed
+  range-new = ap (rangeAt (pushed r a bs)) (zero-add (r .count)) ∙ ap₂ range address long
+
+  pub pushed-ranges : rangesOf (pushed r a bs) ≡ rangesOf r ++ (range a (length bs) ∷ [])
+  pushed-ranges =
+      ap (λ (k : ℕ). upFrom (rangeAt (pushed r a bs)) k 0) counts
+      ∙ up-snoc (rangeAt (pushed r a bs)) (r .count) 0
+      ∙ ap₂ (λ (rs : List Range) (q : Range). rs ++ (q ∷ [])) (up-same (rangeAt (pushed r a bs)) (rangeAt r) (r .count) 0 (λ j p q. range-kept j (omega arith))) range-new
+
+  module _ (l : length bs ≤ 32) (short : (j : ℕ) → j < r .count → getD (r .len) j 0 ≤ 32) where
+    abbrev seen : Records → ℕ → Write
+    seen q j = writeAt (q .addr) (q .len) (q .bytes) j
+
+    write-kept : (j : ℕ) → j < r .count → seen (pushed r a bs) j ≡ seen r j
+    unfolding pushed
+    write-kept j h =
+        let x : getD (set (r .addr) (r .count) a) j 0 ≡ getD (r .addr) j 0 = getD-set-other (r .addr) (r .count) j a 0 (λ e. omega (arith, e)) in
+        let y : getD (set (r .len) (r .count) (length bs)) j 0 ≡ getD (r .len) j 0 = getD-set-other (r .len) (r .count) j (length bs) 0 (λ e. omega (arith, e)) in
+        let w = sets-before (r .bytes) bs (j * 32) (getD (r .len) j 0) (r .count * 32) (omega (arith, short j h)) in
+        rw (x, y) (ap (λ (ds : List ℕ). record { addr = getD (r .addr) j 0; bytes = ds }) w)
+
+    write-new : seen (pushed r a bs) (0 + r .count) ≡ record { addr = a; bytes = bs }
+    unfolding pushed
+    write-new =
+        ap (seen (pushed r a bs)) (zero-add (r .count))
+        ∙ rw (address, long) (ap (λ (ds : List ℕ). record { addr = a; bytes = ds }) (sets-there (r .bytes) bs (r .count * 32) (omega (arith, z .space))))
+
+    pub pushed-writes : writesOf (pushed r a bs) ≡ writesOf r ++ (record { addr = a; bytes = bs } ∷ [])
+    pushed-writes =
+        writes-up (pushed r a bs .addr) (pushed r a bs .len) (pushed r a bs .bytes) (pushed r a bs .count) 0
+        ∙ ap (λ (k : ℕ). upFrom (seen (pushed r a bs)) k 0) counts
+        ∙ up-snoc (seen (pushed r a bs)) (r .count) 0
+        ∙ ap₂ (λ (ws : List Write) (w : Write). ws ++ (w ∷ [])) (up-same (seen (pushed r a bs)) (seen r) (r .count) 0 (λ j p q. write-kept j (omega arith))) write-new
+        ∙ ap (λ (ws : List Write). ws ++ (record { addr = a; bytes = bs } ∷ [])) (sym (writes-up (r .addr) (r .len) (r .bytes) (r .count) 0))
+
+-- ---- the rules of one more range
+
+every-snoc : (rs : List Range) (q : Range) → every rangeOk rs ≡ true → rangeOk q ≡ true → every rangeOk (rs ++ (q ∷ [])) ≡ true
+every-snoc [] q e f = rw f
+every-snoc (r ∷ rs) q e f = rw (and-left (rangeOk r) (every rangeOk rs) e) (every-snoc rs q (and-right (rangeOk r) (every rangeOk rs) e) f)
+
+pub one-more : (rs : List Range) (a n : ℕ) → length rs < 16 → every rangeOk rs ≡ true → inRange a n ≡ true → recordsOk (rs ++ (range a n ∷ [])) ≡ true
+one-more rs a n h e f =
+    let l : length (rs ++ (range a n ∷ [])) ≤ 16 = rw length-append (omega arith) in
+    rw (le-leb _ _ l) (every-snoc rs (range a n) e f)
+
+same-self : (r : Range) → sameRange r r ≡ true
+same-self (range a n) = rw (eq-eqb a a refl, eq-eqb n n refl)
+
+pub ranges-self : (rs : List Range) → sameRanges rs rs ≡ true
+ranges-self [] = refl
+ranges-self (r ∷ rs) = rw (same-self r) (ranges-self rs)
+
+pub size-snoc : (rs : List Range) (a n : ℕ) → rangesSize (rs ++ (range a n ∷ [])) ≡ rangesSize rs + (7 + n)
+size-snoc [] a n = omega arith
+size-snoc (r ∷ rs) a n = let e = size-snoc rs a n in omega arith

@@ -1,0 +1,143 @@
+use Prim.Native.Nat.{ℕ, _+_, _-_, _*_, _≤_, _<_}
+use native.Mathlib.Omega.{arith}
+use mathlib.Core.List.{List}
+use mathlib.Core.Path.{_≡_, refl, sym, ap, _∙_}
+use lib.ListN.{length, getD, take, drop}
+use lib.Seq.{sets}
+use borrow.Author.Needs.{needs}
+use Rattle.recovery.specs.Replay.{undoAll, layBytes}
+use Rattle.log.specs.Flat.{writeAt, writesFrom}
+use Rattle.transaction.specs.View.{writesOf}
+use Rattle.transaction.proofs.Ranges.{counted, ranged}
+use Rattle.transaction.proofs.Writes.{undo-turn}
+use Rattle.transaction.proofs.Records.lay_back.Statement.{statement}
+use Rattle.transaction.proofs.Records.lay_back.Tie as tie
+
+abbrev Inv-loop : tie.InvT-loop
+Inv-loop memory₀ self bytes i₀ memory i =
+    (i ≤ self .count)
+    × (length memory ≡ 4096)
+    × (undoAll layBytes (writesOf self) memory₀ ≡ undoAll layBytes (writesFrom (self .addr) (self .len) bytes i 0) memory)
+
+abbrev μ-loop : tie.MeasureT-loop
+μ-loop memory₀ self bytes i₀ memory i = i
+
+cast-i : tie.Need-cast-i Inv-loop μ-loop
+cast-i c = search needs
+
+loop-holds : tie.Need-loop-holds Inv-loop μ-loop
+loop-holds c = (omega arith, c .before .before .pre .1, refl)
+
+sub-i : tie.Need-sub-i Inv-loop μ-loop
+sub-i c = search needs
+
+mul-at : tie.Need-mul-at Inv-loop μ-loop
+mul-at c = search needs
+
+-- in a turn: there are 16 records at most, and the one at hand keeps the range rule
+few-enough : (c : tie.In-loop Inv-loop μ-loop) → c .before .loop .i ≤ 16
+few-enough c = omega (arith, counted (c .before .before .before .before .args .t1) (c .before .before .before .before .pre .0), c .before .loop .inv .0)
+
+pub record Placed (at n i : ℕ) (bytes : List ℕ) : Type 0 where
+  pub short : n ≤ 32
+  pub within : at + n ≤ 4096
+  pub aside : i * 32 + n ≤ length bytes
+
+placed : (c : tie.In-loop Inv-loop μ-loop)
+    → let r = c .before .before .before .before .args .t1 in
+    Placed (getD (r .addr) (c .before .loop .i - 1) 0) (getD (r .len) (c .before .loop .i - 1) 0) (c .before .loop .i - 1) (r .bytes)
+placed c =
+    let r = c .before .before .before .before .args .t1 in
+    let h = few-enough c in
+    let l : length (r .bytes) ≡ 512 = search needs in
+    let g = ranged r (c .before .before .before .before .pre .0) (c .before .loop .i - 1) (omega (arith, c .loop-test .taken, c .before .loop .inv .0)) in
+    record { short = g .1; within = g .2; aside = omega (arith, c .loop-test .taken, l, h, g .1) }
+
+element-copy-out-at : tie.Need-element-copy-out-at Inv-loop μ-loop
+element-copy-out-at c = let h = few-enough c in omega arith
+
+cast-at : tie.Need-cast-at Inv-loop μ-loop
+cast-at c = search needs
+
+element-copy-out-n : tie.Need-element-copy-out-n Inv-loop μ-loop
+element-copy-out-n c = let h = few-enough (c .before) in omega arith
+
+cast-n : tie.Need-cast-n Inv-loop μ-loop
+cast-n c = search needs
+
+mul-from : tie.Need-mul-from Inv-loop μ-loop
+mul-from c = let h = few-enough (c .before .before) in omega arith
+
+add-copy : tie.Need-add-copy Inv-loop μ-loop
+add-copy c = let h = placed (c .before .before .before) in omega arith
+
+sub-copy : tie.Need-sub-copy Inv-loop μ-loop
+sub-copy c = omega arith
+
+part-copy-start : tie.Need-part-copy-start Inv-loop μ-loop
+part-copy-start c = omega arith
+
+part-copy-end : tie.Need-part-copy-end Inv-loop μ-loop
+part-copy-end c = let h = placed (c .before .before .before .before) in omega arith
+
+copy-requires : tie.Need-copy-requires Inv-loop μ-loop
+copy-requires c κs =
+    let l = c .copy-arg2 .given .2 in
+    let h = placed (c .before .before .before .before .before) in
+    omega (arith, l, h, c .before .before .before .before .before .before .loop .inv .1)
+
+loop-less : tie.Need-loop-less Inv-loop μ-loop
+loop-less c = omega (arith, c .before .before .before .before .before .before .before .before .loop-test .taken)
+
+-- what a turn lays is the record at hand
+laid : (c : tie.After-copy Inv-loop μ-loop)
+    → let r = c .before .before .before .before .before .before .before .before .before .before .args .t1 in
+    let i = c .before .before .before .before .before .before .before .loop .i - 1 in
+    undoAll layBytes (writesFrom (r .addr) (r .len) (r .bytes) i 0) (layBytes (writeAt (r .addr) (r .len) (r .bytes) i) (c .before .before .before .before .before .before .before .loop .memory))
+    ≡ undoAll layBytes (writesFrom (r .addr) (r .len) (r .bytes) i 0) (c .copy .last .0)
+laid c =
+    let r = c .before .before .before .before .before .before .before .before .before .before .args .t1 in
+    let i = c .before .before .before .before .before .before .before .loop .i - 1 in
+    let m = c .before .before .before .before .before .before .before .loop .memory in
+    let e : i * 32 + getD (r .len) i 0 - i * 32 ≡ getD (r .len) i 0 = omega arith in
+    ap (undoAll layBytes (writesFrom (r .addr) (r .len) (r .bytes) i 0))
+    (sym (c .copy .ensures ∙ ap (λ (k : ℕ). sets m (getD (r .addr) i 0) (take k (drop (i * 32) (r .bytes)))) e))
+
+loop-again : tie.Need-loop-again Inv-loop μ-loop
+loop-again c =
+    let h = c .before .before .before .before .before .before .before .before .loop-test .taken in
+    let v = c .before .before .before .before .before .before .before .before .before .loop .inv in
+    (omega (arith, v .0), c .before .before .copy .kept .0 ∙ v .1, v .2 ∙ undo-turn _ _ _ _ _ h ∙ laid (c .before .before))
+
+same-length : tie.Need-same-length Inv-loop μ-loop
+same-length c = c .before .loop .inv .1 ∙ sym (c .before .before .before .before .pre .1)
+
+returns : tie.Need-returns Inv-loop μ-loop
+returns c =
+    let z : c .before .loop .i ≡ 0 = omega (arith, c .loop-test .left) in
+    sym (c .before .loop .inv .2 ∙ rw z)
+
+pub lay-back-spec : {M : Type 1} → statement M
+lay-back-spec =
+    tie.close
+    (tie.spec
+    Inv-loop
+    μ-loop
+    cast-i
+    loop-holds
+    sub-i
+    mul-at
+    element-copy-out-at
+    cast-at
+    element-copy-out-n
+    cast-n
+    mul-from
+    add-copy
+    sub-copy
+    part-copy-start
+    part-copy-end
+    copy-requires
+    loop-less
+    loop-again
+    same-length
+    returns)

@@ -1,0 +1,14 @@
+use borrow.Author.Needs.{needs}
+use Rattle.transaction.specs.Flat.{emptyTx}
+use Rattle.transaction.proofs.Tx.empty.Statement.{statement}
+use Rattle.transaction.proofs.Tx.empty.Tie as tie
+
+empty-requires : tie.Need-empty-requires
+empty-requires c κs = search needs
+
+returns : tie.Need-returns
+unfolding emptyTx
+returns c = rw (c .empty .ensures)
+
+pub empty-spec : {M : Type 1} → statement M
+empty-spec = tie.close (tie.spec empty-requires returns)

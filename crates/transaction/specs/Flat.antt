@@ -1,0 +1,18 @@
+-- The values of the flat arrays: all zero, and what the logic reads past the end of an array of transactions.
+use mathlib.Core.List.{[]}
+use lib.ListN.{replicate}
+use Rattle.transaction.specs.declared.Records.{Records}
+use Rattle.transaction.specs.declared.Tx.{Tx}
+
+unfoldable pub emptyRecords : Records
+emptyRecords = record { count = 0; addr = replicate 16 0; len = replicate 16 0; bytes = replicate 512 0 }
+
+-- what an unused slot holds
+unfoldable pub emptyTx : Tx
+emptyTx = record { id = record { 0 = 0 }; status = 0; csn = record { 0 = 0 }; undo = emptyRecords; redo = emptyRecords }
+
+abbrev pub noRecords : Records
+noRecords = record { count = 0; addr = []; len = []; bytes = [] }
+
+abbrev pub noTx : Tx
+noTx = record { id = record { 0 = 0 }; status = 0; csn = record { 0 = 0 }; undo = noRecords; redo = noRecords }

@@ -1,0 +1,31 @@
+-- What begin, write and precommit make of one transaction, in every field and place of its arrays.
+use Prim.Native.Nat.{ℕ, _+_, _*_}
+use mathlib.Core.List.{List}
+use lib.ListN.{length, set}
+use lib.Seq.{sets}
+use Rattle.log.specs.declared.TxId.{TxId}
+use Rattle.log.specs.declared.Csn.{Csn}
+use Rattle.transaction.specs.declared.Records.{Records}
+use Rattle.transaction.specs.declared.Tx.{Tx}
+use Rattle.transaction.specs.Flat.{emptyRecords}
+
+-- one record more; what stood past its bytes stays
+unfoldable pub pushed : Records → ℕ → List ℕ → Records
+pushed r a bs =
+    record {
+      count = r .count + 1;
+      addr = set (r .addr) (r .count) a;
+      len = set (r .len) (r .count) (length bs);
+      bytes = sets (r .bytes) (r .count * 32) bs;
+    }
+
+unfoldable pub freshTx : TxId → Tx
+freshTx id = record { id = id; status = 1; csn = record { 0 = 0 }; undo = emptyRecords; redo = emptyRecords }
+
+-- Write: "adds an undo record with the old bytes and a redo record"
+unfoldable pub written : Tx → ℕ → List ℕ → List ℕ → Tx
+written t a old new = record { id = t .id; status = t .status; csn = t .csn; undo = pushed (t .undo) a old; redo = pushed (t .redo) a new }
+
+-- Precommit: "marks the transaction committing. Its redo list is emptied, its undo list stays"
+unfoldable pub precommitted : Tx → Csn → Tx
+precommitted t n = record { id = t .id; status = 2; csn = n; undo = t .undo; redo = emptyRecords }
