@@ -4,7 +4,7 @@ use Prim.Native.Nat.{ℕ, _+_}
 use native.Mathlib.Omega.{arith}
 use mathlib.Core.List.{List}
 use mathlib.Core.Option.{Option, none, some}
-use mathlib.Core.Path.{_≡_, refl, sym, ap, ap₂, _∙_}
+use mathlib.Core.Path.{_≡_, refl, sym, ap, ap₂}
 use lib.ListN.{length}
 use Rattle.recovery.specs.Group.{Write, Group, committed, aborted, redoSize}
 use Rattle.log.specs.Record.{Record, redo, commit, abort, headOf}

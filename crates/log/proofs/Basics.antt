@@ -1,5 +1,5 @@
 -- Small laws of Bools, lists and parts of slices.
-use Prim.Native.Nat.{ℕ, zero, suc, _+_, _-_, _≤_, _<_}
+use Prim.Native.Nat.{ℕ, suc, _-_, _≤_, _<_}
 use native.Mathlib.Decide.{decLt}
 use native.Mathlib.Omega.{arith}
 use mathlib.Core.Bool.{Bool, true, false, not, _&&_}
@@ -42,3 +42,10 @@ nonzero-within s i n e =
 -- the part of a slice from a place on, `&s[at..]`
 pub from : (s : List ℕ) (at : ℕ) → take (length s - at) (drop at s) ≡ drop at s
 from s at = take-all (length s - at) (drop at s) (simp length-drop (omega arith))
+
+-- all that a turn of a reader's loop asks, from the place at of s on to the place next: it lies within s, less is left, and what the code
+-- answers from there is the same
+pub record Turned {A : Type 0} (s : List ℕ) (at next : ℕ) (here there : A) : Type 0 where
+  pub within : next ≤ length s
+  pub less : length s - next < length s - at
+  pub same : here ≡ there

@@ -1,6 +1,6 @@
 -- Laws of `readBody` and `readGroup`: a record at a time, what was read taken apart (-inv) and put together (-intro), and that it lies
 -- within the list.
-use Prim.Native.Nat.{ℕ, suc, _+_, _-_, _≤_, _<_}
+use Prim.Native.Nat.{ℕ, _+_, _-_, _≤_}
 use native.Mathlib.Omega.{arith}
 use mathlib.Core.Bool.{Bool, true, false, cond, _&&_}
 use mathlib.Core.List.{List, [], _∷_}
@@ -11,11 +11,11 @@ use lib.Seq.{drop-drop}
 use lib.Dec.{eqb}
 use borrow.Author.Tests.{eq-eqb, ne-eqb, eqb-true}
 use Rattle.recovery.specs.Group.{Write, Group, committed, aborted, redoSize, groupSize}
-use Rattle.log.specs.Record.{Record, redo, commit, abort, size, readRecord}
+use Rattle.log.specs.Record.{Record, redo, commit, abort, readRecord}
 use Rattle.log.specs.Group.{groupBy, turnOf, more, last, stop, andThen, onTurn, bodyStep, readBody, committedIf, readGroup, endOf}
 use Rattle.log.specs.declared.group.GroupEnd.{GroupEnd}
-use Rattle.log.specs.declared.group.GroupEnd.the-variants.{Aborted, Committed, NoGroup}
-use Rattle.log.proofs.Basics.{clash, and-left, and-right}
+use Rattle.log.specs.declared.group.GroupEnd.the-variants.{Committed, NoGroup}
+use Rattle.log.proofs.Basics.{clash, and-left, and-right, Turned}
 use Rattle.log.proofs.Reader.{Shrinks, step}
 use Rattle.log.proofs.RecordLaws.{record-within}
 
@@ -77,11 +77,16 @@ module _ (prev id at : ℕ) (t : List ℕ) where
       go (some ws) = ap (λ (k : ℕ). Committed (record { 0 = id }) (record { 0 = prev + 1 }) k) (omega arith)
 
 -- over a redo record, at a place of a list
-pub body-go : (prev id at i : ℕ) (w : Write) (s : List ℕ) (k : ℕ) → readRecord (drop at s) ≡ some (redo i w) → i ≡ id → k ≡ at + (7 + length (w .bytes))
-    → bodyEnd prev id at (drop at s) ≡ bodyEnd prev id k (drop k s)
-body-go prev id at i w s k e p h =
-    body-more prev id at (drop at s) w (e ∙ ap (λ (x : ℕ). some (redo x w)) p)
-    ∙ ap₂ (λ (j : ℕ) (t : List ℕ). bodyEnd prev id j t) (sym h) (drop-drop (7 + length (w .bytes)) at s ∙ ap (λ (j : ℕ). drop j s) (sym h))
+pub body-turn : (prev id at i : ℕ) (w : Write) (s : List ℕ) (next : ℕ) → at ≤ length s → readRecord (drop at s) ≡ some (redo i w) → i ≡ id
+    → next ≡ at + (7 + length (w .bytes)) → Turned s at next (bodyEnd prev id at (drop at s)) (bodyEnd prev id next (drop next s))
+body-turn prev id at i w s next l e p h =
+    let n : 7 + length (w .bytes) ≤ length s - at = rw length-drop at (record-within (drop at s) _ e) in
+    record {
+      within = omega arith;
+      less = omega arith;
+      same = body-more prev id at (drop at s) w (e ∙ ap (λ (x : ℕ). some (redo x w)) p)
+          ∙ ap₂ (λ (j : ℕ) (t : List ℕ). bodyEnd prev id j t) (sym h) (drop-drop (7 + length (w .bytes)) at s ∙ ap (λ (j : ℕ). drop j s) (sym h));
+    }
 
 -- ---- a body taken apart: its first record, and the rest of it
 

@@ -3,13 +3,14 @@ use Prim.Native.Nat.{ℕ, suc, _+_, _-_, _≤_, _<_}
 use native.Mathlib.Omega.{arith}
 use mathlib.Core.List.{List, [], _∷_}
 use mathlib.Core.Option.{Option, none, some}
-use mathlib.Core.Path.{_≡_, refl, sym, ap, _∙_}
-use lib.ListN.{length, drop, length-drop}
-use lib.Seq.{drop-drop}
-use Rattle.recovery.specs.Group.{Group, groupSize, groupsSize, csnAfter, lastCsn}
+use mathlib.Core.Path.{_≡_, refl, sym, ap, _∙_, subst}
+use lib.ListN.{length, take, drop, length-drop}
+use lib.Seq.{drop-drop, take-all, take-nil}
+use Rattle.recovery.specs.Group.{Group, committed, aborted, groupSize, groupsSize, csnAfter, lastCsn}
 use Rattle.log.specs.Group.{readGroup}
 use Rattle.log.specs.Log.{onGroup, logStep, readLog, logEndOf}
 use Rattle.log.specs.declared.scan.LogEnd.{LogEnd}
+use Rattle.log.proofs.Basics.{clash, Turned}
 use Rattle.log.proofs.Reader.{Shrinks, step}
 use Rattle.log.proofs.GroupLaws.{group-within}
 
@@ -32,27 +33,74 @@ log-none prev s e = log-step prev s ∙ ap (onGroup readLog prev s) e
 pub log-more : (prev : ℕ) (s : List ℕ) (g : Group) → readGroup prev s ≡ some g → readLog prev s ≡ g ∷ readLog (csnAfter prev g) (drop (groupSize g) s)
 log-more prev s g e = log-step prev s ∙ ap (onGroup readLog prev s) e
 
--- ---- what the code answers of a log, at a place of a list
+-- ---- what the code answers of the first m groups of a log, at a place of a list
 
-pub log-ends : (prev at : ℕ) (s : List ℕ) → readGroup prev s ≡ none → logEndOf at prev (readLog prev s) ≡ record { end = at; csn = record { 0 = prev } }
-log-ends prev at s e = ap (logEndOf at prev) (log-none prev s e) ∙ ap (λ (k : ℕ). record { end = k; csn = record { 0 = prev } }) (omega arith)
+abbrev pub firstEnd : ℕ → ℕ → ℕ → List ℕ → LogEnd
+firstEnd at prev m s = logEndOf at prev (take m (readLog prev s))
 
--- all that a turn of the code's loop asks, over k bytes and to the commit number n
-pub record Turned (prev at : ℕ) (s : List ℕ) (k n : ℕ) : Type 0 where
-  pub within : at + k ≤ length s
-  pub less : length s - (at + k) < length s - at
-  pub same : logEndOf at prev (readLog prev (drop at s)) ≡ logEndOf (at + k) n (readLog n (drop (at + k) s))
+first-nil : (at prev : ℕ) → logEndOf at prev [] ≡ record { end = at; csn = record { 0 = prev } }
+first-nil at prev = ap (λ (k : ℕ). record { end = k; csn = record { 0 = prev } }) (omega arith)
 
-pub log-turn : (prev at : ℕ) (s : List ℕ) (k n : ℕ) (g : Group) → at ≤ length s → readGroup prev (drop at s) ≡ some g → k ≡ groupSize g → n ≡ csnAfter prev g
-    → Turned prev at s k n
-log-turn prev at s k n g l e h q =
+-- none are asked for, or none is there
+pub first-zero : (at prev m : ℕ) (s : List ℕ) → m ≡ 0 → firstEnd at prev m s ≡ record { end = at; csn = record { 0 = prev } }
+first-zero at prev m s e = ap (λ (k : ℕ). firstEnd at prev k s) e ∙ first-nil at prev
+
+pub first-none : (at prev m : ℕ) (s : List ℕ) → readGroup prev s ≡ none → firstEnd at prev m s ≡ record { end = at; csn = record { 0 = prev } }
+first-none at prev m s e = ap (λ (gs : List Group). logEndOf at prev (take m gs)) (log-none prev s e) ∙ ap (logEndOf at prev) (take-nil m) ∙ first-nil at prev
+
+-- over a group, at a place of a list
+pub first-turn : (prev at : ℕ) (s : List ℕ) (k n m : ℕ) (g : Group) → at ≤ length s → readGroup prev (drop at s) ≡ some g → k ≡ groupSize g → n ≡ csnAfter prev g → 0 < m
+    → Turned s at (at + k) (firstEnd at prev m (drop at s)) (firstEnd (at + k) n (m - 1) (drop (at + k) s))
+first-turn prev at s k n m g l e h q p =
     let i = group-within prev (drop at s) g e in
     let d = length-drop at s in
+    let z : m ≡ suc (m - 1) = omega arith in
     record {
       within = omega arith;
       less = omega arith;
-      same = ap (logEndOf at prev) (log-more prev (drop at s) g e) ∙ rw (h, q, drop-drop (groupSize g) at s) (over (readLog (csnAfter prev g) (drop (at + groupSize g) s)));
+      same = ap (λ (j : ℕ). firstEnd at prev j (drop at s)) z
+          ∙ ap (λ (gs : List Group). logEndOf at prev (take (suc (m - 1)) gs)) (log-more prev (drop at s) g e)
+          ∙ rw (h, q, drop-drop (groupSize g) at s) (over (take (m - 1) (readLog (csnAfter prev g) (drop (at + groupSize g) s))));
     }
   where
     over : (gs : List Group) → logEndOf at prev (g ∷ gs) ≡ logEndOf (at + groupSize g) (csnAfter prev g) gs
     over gs = ap (λ (j : ℕ). record { end = j; csn = record { 0 = lastCsn (csnAfter prev g) gs } }) (omega arith)
+
+-- ---- a log taken apart
+
+pub log-inv-none : (prev : ℕ) (s : List ℕ) → readLog prev s ≡ [] → readGroup prev s ≡ none
+log-inv-none prev s e = go (readGroup prev s) refl
+  where
+    go : (x : Option Group) → readGroup prev s ≡ x → x ≡ none
+    go none p = refl
+    go (some g) p = clash (cc (log-more prev s g p))
+
+pub log-inv : (prev : ℕ) (s : List ℕ) (g : Group) (gs : List Group) → readLog prev s ≡ g ∷ gs
+    → (readGroup prev s ≡ some g) × (readLog (csnAfter prev g) (drop (groupSize g) s) ≡ gs)
+log-inv prev s g gs e = go (readGroup prev s) refl
+  where
+    go : (x : Option Group) → readGroup prev s ≡ x → (x ≡ some g) × (readLog (csnAfter prev g) (drop (groupSize g) s) ≡ gs)
+    go none p = clash (cc (log-none prev s p))
+    go (some h) p =
+        let m : h ∷ readLog (csnAfter prev h) (drop (groupSize h) s) ≡ g ∷ gs = sym (log-more prev s h p) ∙ e in
+        let q : h ≡ g = cc in
+        (ap some q, subst (λ (k : Group). readLog (csnAfter prev k) (drop (groupSize k) s) ≡ gs) q (cc))
+
+-- the groups lie within the list, so there are no more of them than bytes
+pub log-within : (prev : ℕ) (gs : List Group) (s : List ℕ) → readLog prev s ≡ gs → groupsSize gs ≤ length s
+log-within prev [] s e = omega arith
+log-within prev (g ∷ gs) s e =
+    let i = log-inv prev s g gs e in
+    let w = group-within prev s g (i .0) in
+    omega (arith, length-drop (groupSize g) s, log-within (csnAfter prev g) gs (drop (groupSize g) s) (i .1))
+
+group-some : (g : Group) → 1 ≤ groupSize g
+group-some (committed id n ws) = omega arith
+group-some (aborted id) = omega arith
+
+groups-many : (gs : List Group) → length gs ≤ groupsSize gs
+groups-many [] = omega arith
+groups-many (g ∷ gs) = omega (arith, group-some g, groups-many gs)
+
+pub log-whole : (prev : ℕ) (s : List ℕ) → take (length s) (readLog prev s) ≡ readLog prev s
+log-whole prev s = take-all (length s) (readLog prev s) (omega (arith, groups-many (readLog prev s), log-within prev (readLog prev s) s refl))

@@ -3,14 +3,13 @@ use Prim.Native.Nat.{ℕ, zero, suc, _+_, _-_, _≤_, _<_, min}
 use native.Mathlib.Nat.{add-zero, suc-add}
 use native.Mathlib.Numerals.{add-one, towards-suc}
 use native.Mathlib.Omega.{arith}
-use mathlib.Core.List.{List, [], _∷_, _++_}
-use mathlib.Core.Path.{_≡_, refl, sym, ap, _∙_}
-use lib.ListN.{length, take, drop, getD, set, replicate, length-set, take-append-drop}
-use lib.Seq.{sets, take-suc, take-nil, length-take-le, take-set-le, drop-set-lt, drop-cons, getD-set-same}
-use Rattle.recovery.specs.Group.{Write}
+use mathlib.Core.List.{List, [], _∷_, _++_, append-nil}
+use mathlib.Core.Path.{_≡_, refl, sym, ap, ap₂, _∙_}
+use lib.ListN.{length, take, drop, getD, set, replicate, length-set, length-append, length-drop, length-replicate, getD-replicate, take-append-drop, drop-of-length-le}
+use lib.Seq.{sets, sets-eq, length-sets, take-suc, take-nil, take-all, take-at, length-take-le, take-set-le, drop-set-lt, drop-cons, getD-drop, getD-set-same, getD-set-other}
 use Rattle.log.specs.Number.{bytes2}
 use Rattle.log.specs.Record.{redo, encode}
-use Rattle.log.specs.Stores.{Store, store, apply, copies, clears}
+use Rattle.log.specs.Stores.{Store, store, apply, copies, clears, shifted}
 
 pub sets-append : (l : List ℕ) (i : ℕ) (xs ys : List ℕ) → sets l i (xs ++ ys) ≡ sets (sets l i xs) (i + length xs) ys
 sets-append l i [] ys = ap (λ (k : ℕ). sets l k ys) (omega arith)
@@ -80,3 +79,95 @@ pub clears-done : (left at low : ℕ) (b : List ℕ) → at ≤ low → apply (t
 clears-done left at low b h =
     let e : at - low ≡ 0 = omega arith in
     ap (λ (k : ℕ). apply (take left (clears low k)) b) e ∙ ap (λ (ss : List Store). apply ss b) (take-nil left)
+
+-- the first j of so many stores downward are the stores at the highest j offsets
+pub take-clears : (j low n : ℕ) → take j (clears low (j + n)) ≡ clears (low + n) j
+take-clears zero low n = refl
+take-clears (suc j) low n =
+    ap (λ (x : ℕ). take (suc j) (clears low x)) (suc-add j n)
+    ∙ ap (λ (x : ℕ). store x 0 ∷ take j (clears low (j + n))) (omega arith)
+    ∙ ap (λ (ss : List Store). store (low + n + j) 0 ∷ ss) (take-clears j low n)
+
+-- what they leave, in one piece
+pub apply-clears : (low n : ℕ) (b : List ℕ) → low + n ≤ length b → apply (clears low n) b ≡ take low b ++ (replicate n 0 ++ drop (low + n) b)
+apply-clears low zero b h = sym (ap (λ (x : ℕ). take low b ++ drop x b) (add-zero low) ∙ take-append-drop low b)
+apply-clears low (suc n) b h =
+    apply-clears low n (set b (low + n) 0) (rw (length-set b (low + n) 0) (omega arith))
+    ∙ ap (λ (l : List ℕ). l ++ (replicate n 0 ++ drop (low + n) (set b (low + n) 0))) (take-set-le low b (low + n) 0 (omega arith))
+    ∙ ap (λ (l : List ℕ). take low b ++ l) (ap (λ (l : List ℕ). replicate n 0 ++ l) seam ∙ roll n (drop (low + suc n) b))
+  where
+    seam : drop (low + n) (set b (low + n) 0) ≡ 0 ∷ drop (low + suc n) b
+    seam =
+        let e : suc (low + n) ≡ low + suc n = omega arith in
+        drop-cons (set b (low + n) 0) (low + n) 0 (rw (length-set b (low + n) 0) (omega arith))
+        ∙ ap (λ (x : ℕ). x ∷ drop (suc (low + n)) (set b (low + n) 0)) (getD-set-same b (low + n) 0 0 (omega arith))
+        ∙ ap (λ (l : List ℕ). 0 ∷ l) (drop-set-lt (suc (low + n)) b (low + n) 0 (omega arith) ∙ ap (λ (x : ℕ). drop x b) e)
+
+    roll : (k : ℕ) (l : List ℕ) → replicate k 0 ++ 0 ∷ l ≡ 0 ∷ (replicate k 0 ++ l)
+    roll zero l = refl
+    roll (suc k) l = ap (λ (x : List ℕ). 0 ∷ x) (roll k l)
+
+-- ---- a whole buffer: filled, or moved to its front
+
+pub sets-all : (vs l : List ℕ) → length vs ≡ length l → sets l 0 vs ≡ vs
+sets-all vs l e =
+    sets-eq vs l 0 (omega arith)
+    ∙ ap (λ (r : List ℕ). vs ++ r) (drop-of-length-le l {i = 0 + length vs} (omega arith))
+    ∙ append-nil vs
+
+sets-past : (vs l : List ℕ) (i j : ℕ) → i + length vs ≤ j → getD (sets l i vs) j 0 ≡ getD l j 0
+sets-past [] l i j h = refl
+sets-past (v ∷ vs) l i j h = sets-past vs (set l i v) (suc i) j (omega arith) ∙ getD-set-other l i j v 0 (λ e. omega arith)
+
+-- one more zero
+pub zeros-more : (b : List ℕ) (i : ℕ) → i < length b
+    → set (sets b 0 (take i (replicate (length b) 0))) i 0 ≡ sets b 0 (take (i + 1) (replicate (length b) 0))
+zeros-more b i h =
+    let z : _≡_ {A = ℕ} (getD (replicate (length b) 0) i 0) 0 = getD-replicate (length b) i 0 0 h in
+    let e : 0 + i ≡ i = omega arith in
+    ap₂ (λ (j v : ℕ). set (sets b 0 (take i (replicate (length b) 0))) j v) (sym e) (sym z)
+    ∙ sets-more b 0 (replicate (length b) 0) i (rw length-replicate h)
+
+-- one more byte of those from n on
+pub shift-more : (b : List ℕ) (n i : ℕ) → i + n < length b
+    → set (sets b 0 (take i (drop n b))) i (getD (sets b 0 (take i (drop n b))) (i + n) 0) ≡ sets b 0 (take (i + 1) (drop n b))
+shift-more b n i h =
+    let d : i < length (drop n b) = rw (length-drop n b) (omega arith) in
+    let t : length (take i (drop n b)) ≡ i = length-take-le i (drop n b) (omega arith) in
+    let s : n + i ≡ i + n = omega arith in
+    let v : getD (drop n b) i 0 ≡ getD (sets b 0 (take i (drop n b))) (i + n) 0 =
+    getD-drop n b i 0 ∙ ap (λ (j : ℕ). getD b j 0) s ∙ sym (sets-past (take i (drop n b)) b 0 (i + n) (omega arith)) in
+    let e : 0 + i ≡ i = omega arith in
+    ap₂ (λ (j x : ℕ). set (sets b 0 (take i (drop n b))) j x) (sym e) (sym v) ∙ sets-more b 0 (drop n b) i d
+
+-- what the moves leave in front of the rest
+pub shift-front : (b : List ℕ) (n : ℕ) → n ≤ length b → take (length b - n) (sets b 0 (take (length b - n) (drop n b))) ≡ drop n b
+shift-front b n h =
+    let d : length (drop n b) ≡ length b - n = length-drop n b in
+    ap (λ (vs : List ℕ). take (length b - n) (sets b 0 vs)) (take-all (length b - n) (drop n b) (omega arith))
+    ∙ ap (take (length b - n)) (sets-eq (drop n b) b 0 (omega arith))
+    ∙ take-at (drop n b) (drop (0 + length (drop n b)) b) (length b - n) d
+
+-- the moves, and zeros in the rest
+pub shift-done : (b₀ b ys : List ℕ) (n i : ℕ) → n < length b₀ → i ≡ length b₀ - n → b ≡ sets b₀ 0 (take i (drop n b₀)) → ys ≡ replicate (length (take (length b - (length b₀ - n)) (drop (length b₀ - n) b))) 0
+    → take (length b₀ - n) b ++ (ys ++ drop (length b - (length b₀ - n)) (drop (length b₀ - n) b)) ≡ shifted n b₀
+unfolding shifted
+shift-done b₀ b ys n i h p e z =
+    let k = length b₀ - n in
+    let l : length b ≡ length b₀ = ap length e ∙ length-sets b₀ 0 (take i (drop n b₀)) in
+    let d : length (drop k b) ≡ length b - k = length-drop k b in
+    let m : length (take (length b - k) (drop k b)) ≡ min n (length b₀) = length-take-le (length b - k) (drop k b) (omega arith) ∙ omega arith in
+    let f : take k b ≡ drop n b₀ = ap (take k) (e ∙ ap (λ (j : ℕ). sets b₀ 0 (take j (drop n b₀))) p) ∙ shift-front b₀ n (omega arith) in
+    let r : drop (length b - k) (drop k b) ≡ [] = drop-of-length-le (drop k b) {i = length b - k} (omega arith) in
+    ap₂ _++_ f (ap₂ _++_ (z ∙ ap (λ (j : ℕ). replicate j 0) m) r ∙ append-nil (replicate (min n (length b₀)) 0))
+
+-- nothing is left of a buffer that is not longer than n
+pub shift-all : (b : List ℕ) (n : ℕ) → length b ≤ n → replicate (length b) 0 ≡ shifted n b
+unfolding shifted
+shift-all b n h =
+    let e : length b ≡ min n (length b) = omega arith in
+    sym (ap₂ _++_ (drop-of-length-le b {i = n} h) (ap (λ (j : ℕ). replicate j 0) (sym e)))
+
+pub length-shifted : (n : ℕ) (b : List ℕ) → length (shifted n b) ≡ length b
+unfolding shifted
+length-shifted n b = simp (length-append, length-drop, length-replicate) (omega arith)

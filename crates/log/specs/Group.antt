@@ -1,9 +1,9 @@
 -- Groups on disk: "an abort, or zero or more redo records and one commit, all of one id, whose commit number is the previous one plus 1".
 use Prim.Native.Nat.{ℕ, _+_}
-use mathlib.Core.Bool.{Bool, true, false, cond, _&&_}
+use mathlib.Core.Bool.{Bool, cond, _&&_}
 use mathlib.Core.List.{List, [], _∷_, _++_}
 use mathlib.Core.Option.{Option, none, some}
-use lib.ListN.{length, drop}
+use lib.ListN.{drop}
 use lib.Dec.{eqb}
 use Rattle.recovery.specs.Group.{Write, Group, committed, aborted, redoSize}
 use Rattle.log.specs.Record.{Record, redo, commit, abort, encode, size, wellFormed, readRecord}

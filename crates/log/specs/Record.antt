@@ -42,24 +42,26 @@ abbrev pub keep : Bool → Record → Option Record
 keep true r = some r
 keep false r = none
 
--- Past the end of s stand zeros, and a record's last byte is not zero: so a record whose last byte agrees lies within s.
-unfoldable pub readRedo : List ℕ → Option Record
-readRedo s =
+-- Of the three below: the rest of a record of this kind and id. Past the end of s stand zeros, and a record's last byte is not zero: so a
+-- record whose last byte agrees lies within s.
+unfoldable pub readRedo : ℕ → List ℕ → Option Record
+readRedo id s =
     keep
-    (eqb (getD s (6 + getD s 5 0) 0) 1 && not (eqb (be2 s 1) 0) && inRange (be2 s 3) (getD s 5 0))
-    (redo (be2 s 1) (record { addr = be2 s 3; bytes = take (getD s 5 0) (drop 6 s) }))
+    (eqb (getD s (6 + getD s 5 0) 0) 1 && inRange (be2 s 3) (getD s 5 0))
+    (redo id (record { addr = be2 s 3; bytes = take (getD s 5 0) (drop 6 s) }))
 
-unfoldable pub readCommit : List ℕ → Option Record
-readCommit s = keep (eqb (getD s 7 0) 2 && not (eqb (be2 s 1) 0)) (commit (be2 s 1) (be4 s 3))
+unfoldable pub readCommit : ℕ → List ℕ → Option Record
+readCommit id s = keep (eqb (getD s 7 0) 2) (commit id (be4 s 3))
 
-unfoldable pub readAbort : List ℕ → Option Record
-readAbort s = keep (eqb (getD s 3 0) 3 && not (eqb (be2 s 1) 0)) (abort (be2 s 1))
+unfoldable pub readAbort : ℕ → List ℕ → Option Record
+readAbort id s = keep (eqb (getD s 3 0) 3) (abort id)
+
+abbrev pub readKind : ℕ → ℕ → List ℕ → Option Record
+readKind kind id s = cond (eqb kind 1) (readRedo id s) (cond (eqb kind 2) (readCommit id s) (cond (eqb kind 3) (readAbort id s) none))
 
 -- the well-formed record at the front of s, if there is one
 unfoldable pub readRecord : List ℕ → Option Record
-readRecord s =
-    cond (eqb (getD s 0 0) 1) (readRedo s)
-    (cond (eqb (getD s 0 0) 2) (readCommit s) (cond (eqb (getD s 0 0) 3) (readAbort s) none))
+readRecord s = cond (eqb (be2 s 1) 0) none (readKind (getD s 0 0) (be2 s 1) s)
 
 -- what the code answers of a record: its numbers, and of a redo how many bytes it has
 abbrev pub headOf : Option Record → Head

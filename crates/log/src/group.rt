@@ -29,17 +29,17 @@ fn read_body(s: &[u8], id: TxId, prev: Csn) -> GroupEnd
         let head = read_record(&s[at..]);
         match head {
             Head::Redo {
-                id: i,
+                id: r,
                 addr: _,
                 len,
             } => {
-                if i.0 != id.0 {
+                if r.0 != id.0 {
                     return GroupEnd::NoGroup;
                 }
                 at = at + 7 + len as usize;
             }
-            Head::Commit { id: i, csn } => {
-                if i.0 != id.0 {
+            Head::Commit { id: c, csn } => {
+                if c.0 != id.0 {
                     return GroupEnd::NoGroup;
                 }
                 if csn.0 <= prev.0 {

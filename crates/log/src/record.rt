@@ -33,8 +33,9 @@ pub fn in_range(addr: usize, len: usize) -> bool
     addr <= 4096 - len
 }
 
-fn read_redo(s: &[u8]) -> Head
-    ensures { λ r. ⌜ r ≡ headOf (readRedo (now (s .entry))) ⌝ }
+// Of the three below: the rest of a record of this kind and id.
+fn read_redo(s: &[u8], id: TxId) -> Head
+    ensures { λ r. ⌜ r ≡ headOf (readRedo (id .0) (now (s .entry))) ⌝ }
 {
     if s.len() < 7 {
         return Head::Nothing;
@@ -47,23 +48,15 @@ fn read_redo(s: &[u8]) -> Head
     if s[last] != 1 {
         return Head::Nothing;
     }
-    let id = be16(s, 1);
-    if id == 0 {
-        return Head::Nothing;
-    }
     let addr = be16(s, 3);
     if !in_range(addr as usize, len as usize) {
         return Head::Nothing;
     }
-    Head::Redo {
-        id: TxId(id),
-        addr,
-        len,
-    }
+    Head::Redo { id, addr, len }
 }
 
-fn read_commit(s: &[u8]) -> Head
-    ensures { λ r. ⌜ r ≡ headOf (readCommit (now (s .entry))) ⌝ }
+fn read_commit(s: &[u8], id: TxId) -> Head
+    ensures { λ r. ⌜ r ≡ headOf (readCommit (id .0) (now (s .entry))) ⌝ }
 {
     if s.len() < 8 {
         return Head::Nothing;
@@ -71,19 +64,12 @@ fn read_commit(s: &[u8]) -> Head
     if s[7] != 2 {
         return Head::Nothing;
     }
-    let id = be16(s, 1);
-    if id == 0 {
-        return Head::Nothing;
-    }
     let csn = be32(s, 3);
-    Head::Commit {
-        id: TxId(id),
-        csn: Csn(csn),
-    }
+    Head::Commit { id, csn: Csn(csn) }
 }
 
-fn read_abort(s: &[u8]) -> Head
-    ensures { λ r. ⌜ r ≡ headOf (readAbort (now (s .entry))) ⌝ }
+fn read_abort(s: &[u8], id: TxId) -> Head
+    ensures { λ r. ⌜ r ≡ headOf (readAbort (id .0) (now (s .entry))) ⌝ }
 {
     if s.len() < 4 {
         return Head::Nothing;
@@ -91,28 +77,28 @@ fn read_abort(s: &[u8]) -> Head
     if s[3] != 3 {
         return Head::Nothing;
     }
-    let id = be16(s, 1);
-    if id == 0 {
-        return Head::Nothing;
-    }
-    Head::Abort(TxId(id))
+    Head::Abort(id)
 }
 
 pub fn read_record(s: &[u8]) -> Head
     ensures { λ r. ⌜ r ≡ headOf (readRecord (now (s .entry))) ⌝ }
 {
-    if s.len() == 0 {
+    if s.len() < 4 {
         return Head::Nothing;
     }
     let kind = s[0];
+    let id = be16(s, 1);
+    if id == 0 {
+        return Head::Nothing;
+    }
     if kind == 1 {
-        return read_redo(s);
+        return read_redo(s, TxId(id));
     }
     if kind == 2 {
-        return read_commit(s);
+        return read_commit(s, TxId(id));
     }
     if kind == 3 {
-        return read_abort(s);
+        return read_abort(s, TxId(id));
     }
     Head::Nothing
 }

@@ -3,6 +3,7 @@ use crate::Csn;
 use crate::group::GroupEnd;
 use crate::group::read_group;
 ghost use mathlib.Core.Path.{_≡_};
+ghost use lib.ListN.{take};
 ghost use Rattle.log.specs.Log.{readLog, logEndOf};
 
 // Where a log ends, and its last commit number.
@@ -11,13 +12,15 @@ pub struct LogEnd {
     pub csn: Csn,
 }
 
-// prev is the commit number before the log's first group.
-pub fn read_log(s: &[u8], prev: Csn) -> LogEnd
-    ensures { λ r. ⌜ r ≡ logEndOf 0 (prev .0) (readLog (prev .0) (now (s .entry))) ⌝ }
+// The first k groups, or all if fewer. prev is the commit number before the log's first group.
+pub fn read_first(s: &[u8], prev: Csn, k: usize) -> LogEnd
+    ensures { λ r. ⌜ r ≡ logEndOf 0 (prev .0) (take k (readLog (prev .0) (now (s .entry)))) ⌝ }
 {
     let mut at: usize = 0;
     let mut csn = prev;
-    loop {
+    let mut left = k;
+    while 0 < left {
+        left = left - 1;
         let found = read_group(&s[at..], csn);
         match found {
             GroupEnd::Aborted { id: _, end } => {
@@ -32,4 +35,12 @@ pub fn read_log(s: &[u8], prev: Csn) -> LogEnd
             }
         }
     }
+    LogEnd { end: at, csn: csn }
+}
+
+// The whole log: it can't have more groups than bytes.
+pub fn read_log(s: &[u8], prev: Csn) -> LogEnd
+    ensures { λ r. ⌜ r ≡ logEndOf 0 (prev .0) (readLog (prev .0) (now (s .entry))) ⌝ }
+{
+    read_first(s, prev, s.len())
 }

@@ -1,9 +1,9 @@
 // Stores of single bytes, counted: of a call that may make so many, the first ones of its list.
 ghost use mathlib.Core.Path.{_≡_};
 ghost use Prim.Native.Nat.{_+_, _-_, _≤_, min};
-ghost use lib.ListN.{length, take};
+ghost use lib.ListN.{length, take, replicate};
 ghost use lib.Seq.{sets};
-ghost use Rattle.log.specs.Stores.{apply, copies, clears};
+ghost use Rattle.log.specs.Stores.{apply, copies, clears, shifted};
 
 // All of src, from at on.
 pub fn copy(b: &mut [u8], at: usize, src: &[u8])
@@ -15,6 +15,33 @@ pub fn copy(b: &mut [u8], at: usize, src: &[u8])
         b[at + i] = src[i];
         i += 1;
     }
+}
+
+// Zeros throughout.
+pub fn fill_zero(b: &mut [u8])
+    ensures { λ _. ⌜ now (b .exit) ≡ replicate (length (now (b .entry))) 0 ⌝ }
+{
+    let mut i: usize = 0;
+    while i < b.len() {
+        b[i] = 0;
+        i += 1;
+    }
+}
+
+// What stands from n on moves to the front, with zeros after it; all zeros if nothing does.
+pub fn shift_down(b: &mut [u8], n: usize)
+    ensures { λ _. ⌜ now (b .exit) ≡ shifted n (now (b .entry)) ⌝ }
+{
+    if b.len() <= n {
+        return fill_zero(b);
+    }
+    let keep = b.len() - n;
+    let mut i: usize = 0;
+    while i < keep {
+        b[i] = b[i + n];
+        i += 1;
+    }
+    fill_zero(&mut b[keep..]);
 }
 
 // Stores src upward from at on, as far as stores are allowed, and returns how many were made.

@@ -3,15 +3,14 @@ use native.Mathlib.Omega.{arith}
 use borrow.Author.Needs.{needs}
 use mathlib.Core.Path.{_≡_, refl, sym, ap, _∙_}
 use lib.ListN.{length, drop, length-drop}
-use lib.Seq.{drop-drop}
 use denote.Ref.{now}
 use mathlib.Core.List.{List}
-use mathlib.Core.Option.{some, none}
-use Rattle.log.specs.Record.{redo, commit, abort, readRecord, headOf}
+use mathlib.Core.Option.{some}
+use Rattle.log.specs.Record.{redo, commit, readRecord, headOf}
 use Rattle.recovery.specs.Group.{Write}
-use Rattle.log.proofs.Basics.{from}
+use Rattle.log.proofs.Basics.{from, Turned}
 use Rattle.log.proofs.RecordLaws.{record-within}
-use Rattle.log.proofs.GroupLaws.{bodyEnd, body-none, body-abort, body-other-redo, body-other-commit, body-other-csn, body-go, body-last}
+use Rattle.log.proofs.GroupLaws.{bodyEnd, body-none, body-abort, body-other-redo, body-other-commit, body-other-csn, body-turn, body-last}
 use Rattle.log.proofs.Answers.{head-redo, head-commit, head-abort, head-nothing}
 use Rattle.log.proofs.group.read_body.Statement.{statement}
 use Rattle.log.proofs.group.read_body.Tie as tie
@@ -49,16 +48,15 @@ read-at c =
     ∙ ap (λ (t : List ℕ). headOf (readRecord t)) (from (c .before .before .before .before .args .s .now) (c .before .before .loop .at))
 
 redo-at : (c : tie.After-head Inv-loop μ-loop)
-    → (w : Write)
-    × (readRecord (drop (c .before .before .before .before .loop .at) (c .before .before .before .before .before .before .args .s .now))
-    ≡ some (redo (c .head .given .0 .0 .0) w))
+    → let s = c .before .before .before .before .before .before .args .s .now in
+    (w : Write)
+    × (readRecord (drop (c .before .before .before .before .loop .at) s) ≡ some (redo (c .head .given .0 .0 .0) w))
     × (w .addr ≡ c .head .given .0 .1 .0)
     × (length (w .bytes) ≡ c .head .given .0 .1 .1 .0)
 redo-at c = head-redo _ _ _ _ (sym (read-at (c .before .before)) ∙ c .head .given .1)
 
 commit-at : (c : tie.After-head2 Inv-loop μ-loop)
-    → readRecord (drop (c .before .before .before .before .loop .at) (c .before .before .before .before .before .before .args .s .now))
-    ≡ some (commit (c .head2 .given .0 .0 .0) (c .head2 .given .0 .1 .0 .0))
+    → readRecord (drop (c .before .before .before .before .loop .at) (c .before .before .before .before .before .before .args .s .now)) ≡ some (commit (c .head2 .given .0 .0 .0) (c .head2 .given .0 .1 .0 .0))
 commit-at c = head-commit _ _ _ (sym (read-at (c .before .before)) ∙ c .head2 .given .1)
 
 returns : tie.Need-returns Inv-loop μ-loop
@@ -66,41 +64,32 @@ returns c =
     let w = redo-at (c .before .before .before .before) in
     sym (c .before .before .before .before .before .before .before .before .loop .inv .1 ∙ body-other-redo _ _ _ _ _ (w .0) (w .1) (c .if1 .taken))
 
-add-at : tie.Need-add-at Inv-loop μ-loop
-add-at c =
-    let s = c .before .before .before .before .before .before .before .before .before .before .args .s .now in
+-- over a redo record of this id
+over-redo : (c : tie.Else1 Inv-loop μ-loop)
+    → let s = c .before .before .before .before .before .before .before .before .before .before .args .s .now in
     let at = c .before .before .before .before .before .before .before .before .loop .at in
+    let id = c .before .before .before .before .before .before .before .before .before .before .args .id .0 in
+    let prev = c .before .before .before .before .before .before .before .before .before .before .args .prev .0 in
+    let next = at + 7 + c .before .before .before .before .head .given .0 .1 .1 .0 in
+    Turned s at next (bodyEnd prev id at (drop at s)) (bodyEnd prev id next (drop next s))
+over-redo c =
     let w = redo-at (c .before .before .before .before) in
-    let l : 7 + length (w .0 .bytes) ≤ length s - at = rw length-drop at (record-within (drop at s) _ (w .1)) in
-    omega (arith, w .3, c .before .before .before .before .before .before .before .before .before .before .good)
+    body-turn _ _ _ _ (w .0) _ _ (c .before .before .before .before .before .before .before .before .loop .inv .0) (w .1) (c .if1 .left) (omega (arith, w .3))
+
+add-at : tie.Need-add-at Inv-loop μ-loop
+add-at c = let w = over-redo c in omega (arith, w .within, c .before .before .before .before .before .before .before .before .before .before .good)
 
 cast-at : tie.Need-cast-at Inv-loop μ-loop
 cast-at c = search needs
 
 add-at-2 : tie.Need-add-at-2 Inv-loop μ-loop
-add-at-2 c =
-    let s = c .before .before .before .before .before .before .before .before .before .before .args .s .now in
-    let at = c .before .before .before .before .before .before .before .before .loop .at in
-    let w = redo-at (c .before .before .before .before) in
-    let l : 7 + length (w .0 .bytes) ≤ length s - at = rw length-drop at (record-within (drop at s) _ (w .1)) in
-    omega (arith, w .3, c .before .before .before .before .before .before .before .before .before .before .good)
+add-at-2 c = let w = over-redo c in omega (arith, w .within, c .before .before .before .before .before .before .before .before .before .before .good)
 
 loop-less : tie.Need-loop-less Inv-loop μ-loop
-loop-less c =
-    let s = c .before .before .before .before .before .before .before .before .before .before .args .s .now in
-    let at = c .before .before .before .before .before .before .before .before .loop .at in
-    let w = redo-at (c .before .before .before .before) in
-    let l : 7 + length (w .0 .bytes) ≤ length s - at = rw length-drop at (record-within (drop at s) _ (w .1)) in
-    omega (arith, w .3)
+loop-less c = over-redo c .less
 
 loop-again : tie.Need-loop-again Inv-loop μ-loop
-loop-again c =
-    let s = c .before .before .before .before .before .before .before .before .before .before .args .s .now in
-    let at = c .before .before .before .before .before .before .before .before .loop .at in
-    let w = redo-at (c .before .before .before .before) in
-    let l : 7 + length (w .0 .bytes) ≤ length s - at = rw length-drop at (record-within (drop at s) _ (w .1)) in
-    let k = at + 7 + c .before .before .before .before .head .given .0 .1 .1 .0 in
-    (omega (arith, w .3), c .before .before .before .before .before .before .before .before .loop .inv .1 ∙ body-go _ _ at _ (w .0) s k (w .1) (c .if1 .left) (omega (arith, w .3)))
+loop-again c = (over-redo c .within, c .before .before .before .before .before .before .before .before .loop .inv .1 ∙ over-redo c .same)
 
 enum-known-head-2 : tie.Need-enum-known-head-2 Inv-loop μ-loop
 enum-known-head-2 c = search needs
@@ -140,15 +129,13 @@ enum-told : tie.Need-enum-told Inv-loop μ-loop
 enum-told c = search needs
 
 returns-6 : tie.Need-returns-6 Inv-loop μ-loop
-returns-6 c =
-    sym (c .before .before .before .before .loop .inv .1 ∙ body-abort _ _ _ _ _ (head-abort _ _ (sym (read-at (c .before .before)) ∙ c .enum-told .given .1)))
+returns-6 c = sym (c .before .before .before .before .loop .inv .1 ∙ body-abort _ _ _ _ _ (head-abort _ _ (sym (read-at (c .before .before)) ∙ c .enum-told .given .1)))
 
 enum-told-2 : tie.Need-enum-told-2 Inv-loop μ-loop
 enum-told-2 c = search needs
 
 returns-7 : tie.Need-returns-7 Inv-loop μ-loop
-returns-7 c =
-    sym (c .before .before .before .before .loop .inv .1 ∙ body-none _ _ _ _ (head-nothing _ (sym (read-at (c .before .before)) ∙ c .enum-told2 .given .1)))
+returns-7 c = sym (c .before .before .before .before .loop .inv .1 ∙ body-none _ _ _ _ (head-nothing _ (sym (read-at (c .before .before)) ∙ c .enum-told2 .given .1)))
 
 pub read-body-spec : {M : Type 1} → statement M
 read-body-spec =

@@ -1,9 +1,5 @@
 use borrow.Author.Needs.{needs}
-use native.Mathlib.Omega.{arith}
 use native.Mathlib.Numerals.{towards-suc}
-use mathlib.Core.Path.{_≡_, refl, sym, ap, _∙_}
-use lib.ListN.{length, length-set}
-use lib.Seq.{sets, length-sets}
 use Rattle.log.proofs.number.put32.Statement.{statement}
 use Rattle.log.proofs.number.put32.Tie as tie
 

@@ -1,6 +1,5 @@
 use borrow.Author.Needs.{needs}
 use borrow.Author.Tests.{le-leb, lt-leb}
-use native.Mathlib.Omega.{arith}
 use Rattle.log.proofs.RecordLaws.{range-end}
 use Rattle.log.proofs.record.in_range.Statement.{statement}
 use Rattle.log.proofs.record.in_range.Tie as tie

@@ -1,9 +1,8 @@
 use borrow.Author.Needs.{needs}
 use native.Mathlib.Omega.{arith}
 use native.Mathlib.Numerals.{towards-suc}
-use mathlib.Core.Path.{_≡_, refl, sym, ap, _∙_}
+use mathlib.Core.Path.{ap, _∙_}
 use lib.ListN.{length, length-set}
-use lib.Seq.{sets, length-sets}
 use Rattle.log.proofs.record.put_abort.Statement.{statement}
 use Rattle.log.proofs.record.put_abort.Tie as tie
 

@@ -1,9 +1,7 @@
 use borrow.Author.Needs.{needs}
 use native.Mathlib.Omega.{arith}
 use native.Mathlib.Numerals.{towards-suc}
-use mathlib.Core.Path.{_≡_, refl, sym, ap, _∙_}
-use lib.ListN.{length, length-set}
-use lib.Seq.{sets, length-sets}
+use lib.ListN.{length-set}
 use Rattle.log.proofs.record.put_commit.Statement.{statement}
 use Rattle.log.proofs.record.put_commit.Tie as tie
 

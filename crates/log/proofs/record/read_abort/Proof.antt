@@ -1,8 +1,7 @@
 use borrow.Author.Needs.{needs}
 use borrow.Author.Tests.{eq-eqb, ne-eqb}
 use native.Mathlib.Omega.{arith}
-use mathlib.Core.Path.{_≡_, sym, _∙_}
-use lib.ListN.{getD, List·getD-eq-default}
+use lib.ListN.{List·getD-eq-default}
 use denote.Ref.{now}
 use Rattle.log.specs.Record.{readAbort}
 use Rattle.log.proofs.record.read_abort.Statement.{statement}
@@ -10,9 +9,7 @@ use Rattle.log.proofs.record.read_abort.Tie as tie
 
 returns : tie.Need-returns
 unfolding readAbort
-returns c =
-    let s = now (c .before .before .args .s) in
-    simp (List·getD-eq-default s 0 {n = 3} (omega arith))
+returns c = simp (List·getD-eq-default (now (c .before .args .s)) 0 {n = 3} (omega arith))
 
 shared-slice-read-if2 : tie.Need-shared-slice-read-if2
 shared-slice-read-if2 c = search needs
@@ -21,19 +18,9 @@ returns-2 : tie.Need-returns-2
 unfolding readAbort
 returns-2 c = simp (ne-eqb _ _ (c .if2 .taken))
 
-be16-requires : tie.Need-be16-requires
-be16-requires c κs = search needs
-
 returns-3 : tie.Need-returns-3
 unfolding readAbort
-returns-3 c =
-    simp (eq-eqb _ _ (c .before .before .if2 .left), eq-eqb _ _ (sym (c .before .be16 .ensures) ∙ c .if3 .taken))
-
-returns-4 : tie.Need-returns-4
-unfolding readAbort
-returns-4 c =
-    simp (eq-eqb _ _ (c .before .before .if2 .left), ← c .before .be16 .ensures, ne-eqb _ _ (c .if3 .left))
+returns-3 c = simp (eq-eqb _ _ (c .if2 .left))
 
 pub read-abort-spec : {M : Type 1} → statement M
-read-abort-spec =
-    tie.close (tie.spec returns shared-slice-read-if2 returns-2 be16-requires returns-3 returns-4)
+read-abort-spec = tie.close (tie.spec returns shared-slice-read-if2 returns-2 returns-3)

@@ -1,13 +1,12 @@
-use borrow.Author.Needs.{needs}
-use borrow.Author.Tests.{eq-eqb, ne-eqb, le-leb, lt-leb}
-use native.Mathlib.Omega.{arith}
-use mathlib.Core.Path.{_≡_, sym, _∙_}
 use Prim.Native.Nat.{_+_, _≤_}
+use borrow.Author.Needs.{needs}
+use borrow.Author.Tests.{eq-eqb, ne-eqb}
+use native.Mathlib.Omega.{arith}
 use lib.ListN.{length, drop, getD, List·getD-eq-default, length-drop}
 use lib.Seq.{length-take-le}
 use denote.Ref.{now}
-use Rattle.log.proofs.Basics.{not-yes, not-no}
 use Rattle.log.specs.Record.{readRedo}
+use Rattle.log.proofs.Basics.{not-yes, not-no}
 use Rattle.log.proofs.record.read_redo.Statement.{statement}
 use Rattle.log.proofs.record.read_redo.Tie as tie
 
@@ -28,9 +27,7 @@ add-last c = omega (arith, c .shared-slice-known2 .given 5)
 
 returns-2 : tie.Need-returns-2
 unfolding readRedo
-returns-2 c =
-    let s = now (c .before .before .before .before .args .s) in
-    simp (List·getD-eq-default s 0 (c .if2 .taken))
+returns-2 c = simp (List·getD-eq-default (now (c .before .before .before .before .args .s)) 0 (c .if2 .taken))
 
 shared-slice-read-if3 : tie.Need-shared-slice-read-if3
 shared-slice-read-if3 c = search needs
@@ -42,13 +39,6 @@ returns-3 c = simp (ne-eqb _ _ (c .if3 .taken))
 be16-requires : tie.Need-be16-requires
 be16-requires c κs = search needs
 
-returns-4 : tie.Need-returns-4
-unfolding readRedo
-returns-4 c = simp (eq-eqb _ _ (c .before .before .if3 .left), eq-eqb _ _ (sym (c .before .be16 .ensures) ∙ c .if4 .taken))
-
-be16-requires-2 : tie.Need-be16-requires-2
-be16-requires-2 c κs = search needs
-
 cast-in-range : tie.Need-cast-in-range
 cast-in-range c = search needs
 
@@ -58,30 +48,26 @@ cast-in-range-2 c = search needs
 in-range-requires : tie.Need-in-range-requires
 in-range-requires c κs = search needs
 
+returns-4 : tie.Need-returns-4
+unfolding readRedo
+returns-4 c =
+    simp (
+      eq-eqb _ _ (c .before .before .before .if3 .left),
+      ← c .before .before .be16 .ensures,
+      ← c .before .in-range .ensures,
+      not-yes (c .before .in-range .result) (c .if4 .taken),
+    )
+
 returns-5 : tie.Need-returns-5
 unfolding readRedo
 returns-5 c =
-    simp (
-      eq-eqb _ _ (c .before .before .before .before .before .if3 .left),
-      ← c .before .before .before .before .be16 .ensures,
-      ne-eqb _ _ (c .before .before .before .if4 .left),
-      ← c .before .before .be162 .ensures,
-      ← c .before .in-range .ensures,
-      not-yes (c .before .in-range .result) (c .if5 .taken),
-    )
-
-returns-6 : tie.Need-returns-6
-unfolding readRedo
-returns-6 c =
-    let s = now (c .before .before .before .before .before .before .before .before .before .before .before .args .s) in
+    let s = now (c .before .before .before .before .before .before .before .before .before .args .s) in
     let h : getD s 5 0 ≤ length (drop 6 s) = simp length-drop (omega arith) in
     simp (
-      eq-eqb _ _ (c .before .before .before .before .before .if3 .left),
-      ← c .before .before .before .before .be16 .ensures,
-      ne-eqb _ _ (c .before .before .before .if4 .left),
-      ← c .before .before .be162 .ensures,
+      eq-eqb _ _ (c .before .before .before .if3 .left),
+      ← c .before .before .be16 .ensures,
       ← c .before .in-range .ensures,
-      not-no (c .before .in-range .result) (c .if5 .left),
+      not-no (c .before .in-range .result) (c .if4 .left),
       length-take-le (getD s 5 0) (drop 6 s) h,
     )
 
@@ -97,10 +83,8 @@ read-redo-spec =
     shared-slice-read-if3
     returns-3
     be16-requires
-    returns-4
-    be16-requires-2
     cast-in-range
     cast-in-range-2
     in-range-requires
-    returns-5
-    returns-6)
+    returns-4
+    returns-5)

@@ -1,9 +1,8 @@
 use Prim.Native.Nat.{_+_, _-_, _≤_, min}
 use native.Mathlib.Omega.{arith}
-use mathlib.Core.Path.{_≡_, refl, sym, ap, _∙_}
+use mathlib.Core.Path.{_≡_, refl, sym, _∙_}
 use lib.ListN.{length, take, length-set}
-use lib.Seq.{take-nil}
-use Rattle.log.specs.Stores.{Store, apply, clears}
+use Rattle.log.specs.Stores.{apply, clears}
 use Rattle.log.proofs.StoreLaws.{length-clears, clears-step, clears-none, clears-done}
 use Rattle.log.proofs.stores.clear_down.Statement.{statement}
 use Rattle.log.proofs.stores.clear_down.Tie as tie

@@ -1,9 +1,8 @@
 use borrow.Author.Needs.{needs}
 use native.Mathlib.Omega.{arith}
-use mathlib.Core.Path.{_≡_, refl, sym, ap, _∙_}
-use lib.ListN.{length, take, length-take}
+use mathlib.Core.Path.{sym, ap, _∙_}
+use lib.ListN.{length-take}
 use lib.Seq.{sets, take-all}
-use Rattle.log.specs.Stores.{Store, apply, copies}
 use Rattle.log.proofs.StoreLaws.{length-copies, copies-cut}
 use Rattle.log.proofs.stores.copy_up.Statement.{statement}
 use Rattle.log.proofs.stores.copy_up.Tie as tie
