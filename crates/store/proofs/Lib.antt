@@ -7,3 +7,5 @@ pub mod Shift
 pub mod Admitting
 pub mod Choosing
 pub mod Calling
+pub mod Storing
+pub mod Flushing

@@ -6,3 +6,5 @@ pub mod Admission
 pub mod Numbers
 pub mod Steps
 pub mod Calls
+pub mod Stored
+pub mod Flush

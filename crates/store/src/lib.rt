@@ -2,7 +2,9 @@
 pub mod admit;
 pub mod call;
 pub mod choose;
+pub mod flush;
 pub mod step;
+pub mod stored;
 
 use log::Csn;
 use log::TxId;
