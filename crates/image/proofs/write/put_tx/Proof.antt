@@ -1,0 +1,71 @@
+use native.Mathlib.Omega.{arith}
+use mathlib.Core.Path.{_∙_, ap}
+use lib.ListN.{length, length-set}
+use Rattle.transaction.specs.View.{writesOf}
+use Rattle.transaction.proofs.Lists.{length-up}
+use Rattle.transaction.proofs.Writes.{writes-up}
+use Rattle.image.proofs.Packing.{undoAt}
+use Rattle.image.proofs.Writings.{tx-stores}
+use borrow.Author.Needs.{needs}
+use Rattle.image.proofs.write.put_tx.Statement.{statement}
+use Rattle.image.proofs.write.put_tx.Tie as tie
+
+put16-requires : tie.Need-put16-requires
+put16-requires c κs = search needs
+
+add-b : tie.Need-add-b
+add-b c = search needs
+
+slice-write-b : tie.Need-slice-write-b
+slice-write-b c = search needs
+
+add-put32 : tie.Need-add-put32
+add-put32 c = search needs
+
+put32-requires : tie.Need-put32-requires
+put32-requires c κs = simp length-set (omega (arith, c .before .before .before .put16 .kept .0))
+
+add-b-2 : tie.Need-add-b-2
+add-b-2 c = search needs
+
+slice-write-b-2 : tie.Need-slice-write-b-2
+slice-write-b-2 c = omega (arith, simp length-set at (c .before .before .put32 .kept .0), c .before .before .before .before .before .before .put16 .kept .0)
+
+add-put-undos : tie.Need-add-put-undos
+add-put-undos c = search needs
+
+put-undos-requires : tie.Need-put-undos-requires
+put-undos-requires c κs =
+    let k = simp length-set at (c .before .before .before .before .put32 .kept .0) in
+    (c .before .before .before .before .before .before .before .before .before .before .before .pre .0, simp length-set (omega (arith, k, c .before .before .before .before .before .before .before .before .put16 .kept .0, c .before .before .before .before .before .before .before .before .before .before .before .pre .1)))
+
+same-length : tie.Need-same-length
+same-length c =
+    let k = simp length-set at (c .before .before .before .before .before .before .before .put32 .kept .0) in
+    omega (arith, simp length-set at (c .before .before .put-undos .kept .0), k, c .before .before .before .before .before .before .before .before .before .before .before .put16 .kept .0)
+
+returns : tie.Need-returns
+returns c =
+    let a = c .before .before .before .before .before .before .before .before .before .before .before .before .before .before .args in
+    let r = a .t .undo in
+    let e = c .before .before .put-undos .ensures in (
+      omega (arith, e .0),
+      tx-stores (a .b .now) _ _ _ (a .at) (a .t .id .0) (a .t .status) (a .t .csn .0) (r .count) (writesOf r) (c .before .before .before .before .before .before .before .before .before .before .before .put16 .ensures) (c .before .before .before .before .before .before .before .put32 .ensures) (e .1)
+          (ap length (writes-up (r .addr) (r .len) (r .bytes) (r .count) 0) ∙ length-up (undoAt r) (r .count) 0),
+    )
+
+pub put-tx-spec : {M : Type 1} → statement M
+put-tx-spec =
+    tie.close
+    (tie.spec
+    put16-requires
+    add-b
+    slice-write-b
+    add-put32
+    put32-requires
+    add-b-2
+    slice-write-b-2
+    add-put-undos
+    put-undos-requires
+    same-length
+    returns)

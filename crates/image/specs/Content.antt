@@ -1,0 +1,63 @@
+-- What an image holds beside the memory, without the unused places of its arrays.
+use Prim.Native.Nat.{ℕ}
+use mathlib.Core.Bool.{Bool}
+use mathlib.Core.List.{List, [], map}
+use lib.ListN.{length}
+use lib.Dec.{eqb}
+use Rattle.recovery.specs.Group.{Write}
+use Rattle.recovery.specs.Transaction.{Tx as Transaction}
+use Rattle.transaction.specs.declared.Tx.{Tx}
+use Rattle.transaction.specs.Lists.{upFrom}
+use Rattle.transaction.specs.View.{Range, range, writesOf, Outline, outline}
+use Rattle.image.specs.declared.Image.{Image}
+use Rattle.image.specs.Slots.{slotAt}
+use Rattle.image.specs.Rules.{imageOk}
+
+-- a transaction: id, status (1 running, 2 committing), commit number, undo records oldest first
+pub data Saved : Type 0 where
+  saved : ℕ → ℕ → ℕ → List Write → Saved
+
+-- log end, last commit number on disk, last one assigned, last id given, transactions in order of begin
+pub record Content : Type 0 where
+  pub logEnd : ℕ
+  pub onDisk : ℕ
+  pub assigned : ℕ
+  pub lastId : ℕ
+  pub txs : List Saved
+
+-- ---- what an image in flat arrays holds
+
+abbrev pub savedOf : Tx → Saved
+savedOf t = saved (t .id .0) (t .status) (t .csn .0) (writesOf (t .undo))
+
+abbrev pub savedAt : List Tx → ℕ → Saved
+savedAt txs i = savedOf (slotAt txs i)
+
+abbrev pub savedIn : List Tx → ℕ → List Saved
+savedIn txs n = upFrom (savedAt txs) n 0
+
+abbrev pub contentOf : Image → Content
+contentOf i =
+    record {
+      logEnd = i .logend;
+      onDisk = i .ondisk .0;
+      assigned = i .assigned .0;
+      lastId = i .lastid .0;
+      txs = savedIn (i .txs) (i .count);
+    }
+
+-- ---- the image rules of a content
+
+abbrev pub rangeOf : Write → Range
+rangeOf w = range (w .addr) (length (w .bytes))
+
+abbrev pub outlineIn : Saved → Outline
+outlineIn (saved id status csn us) = outline id status csn (map rangeOf us)
+
+abbrev pub contentOk : Content → Bool
+contentOk c = imageOk (c .logEnd) (c .onDisk) (c .assigned) (c .lastId) (map outlineIn (c .txs))
+
+-- ---- a transaction as recovery has it: an image holds no redo records
+
+abbrev pub transactionOf : Saved → Transaction
+transactionOf (saved id status csn us) = record { id = id; committing = eqb status 2; csn = csn; undo = us; redo = [] }

@@ -1,0 +1,66 @@
+-- What decode and the readers under it answer.
+use Prim.Native.Nat.{ℕ, _+_}
+use mathlib.Core.Bool.{true, false, cond}
+use mathlib.Core.List.{List, map}
+use mathlib.Core.Option.{Option, none, some}
+use lib.ListN.{getD, take, drop, replicate}
+use lib.Seq.{sets}
+use Rattle.recovery.specs.Group.{Write}
+use Rattle.log.specs.Number.{be2}
+use Rattle.transaction.specs.declared.Records.{Records}
+use Rattle.transaction.specs.declared.Tx.{Tx}
+use Rattle.transaction.specs.Flat.{emptyRecords, emptyTx}
+use Rattle.transaction.specs.Steps.{pushed}
+use Rattle.image.specs.declared.read.Undos.{Undos}
+use Rattle.image.specs.declared.read.TxRead.{TxRead}
+use Rattle.image.specs.declared.read.TxsRead.{TxsRead}
+use Rattle.image.specs.declared.read.Decoded.{Decoded}
+use Rattle.image.specs.Content.{Saved, Content}
+use Rattle.image.specs.Format.{undosSize, txSize}
+use Rattle.image.specs.Reading.{undoHere, readImage}
+use Rattle.image.specs.Pack.{pushedAll, packedTx, packed, emptyImage}
+
+-- ---- of a part that is not there, all zero
+
+unfoldable pub noUndos : Undos
+noUndos = record { ok = false; undo = emptyRecords; size = 0 }
+
+unfoldable pub noTxRead : TxRead
+noTxRead = record { ok = false; tx = emptyTx; size = 0 }
+
+unfoldable pub noTxs : TxsRead
+noTxs = record { ok = false; txs = replicate 8 emptyTx }
+
+unfoldable pub notDecoded : Decoded
+notDecoded = record { ok = false; image = emptyImage }
+
+-- ---- of a part that was read, its layout and the bytes that it took
+
+-- one record more, from the front of s
+unfoldable pub undoStep : Records → List ℕ → Undos
+undoStep r s =
+    cond (undoHere s)
+    (record { ok = true; undo = pushed r (be2 s 0) (take (getD s 2 0) (drop 3 s)); size = 3 + getD s 2 0 })
+    noUndos
+
+-- records behind those of r that took the first `at` bytes
+abbrev pub undosRead : ℕ → Records → Option (List Write) → Undos
+undosRead at r none = noUndos
+undosRead at r (some us) = record { ok = true; undo = pushedAll r us; size = at + undosSize us }
+
+abbrev pub txRead : Option Saved → TxRead
+txRead none = noTxRead
+txRead (some t) = record { ok = true; tx = packedTx t; size = txSize t }
+
+-- transactions from slot k of txs on
+abbrev pub txsRead : List Tx → ℕ → Option (List Saved) → TxsRead
+txsRead txs k none = noTxs
+txsRead txs k (some ts) = record { ok = true; txs = sets txs k (map packedTx ts) }
+
+abbrev pub decodedOf : Option Content → Decoded
+decodedOf none = notDecoded
+decodedOf (some c) = record { ok = true; image = packed c }
+
+-- decode: the image at the front of s
+abbrev pub decodeOf : List ℕ → Decoded
+decodeOf s = decodedOf (readImage s)

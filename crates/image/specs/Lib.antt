@@ -1,0 +1,8 @@
+-- The checkpoint image (document 01: image): what it holds, its rules, its bytes, and what the calls answer.
+pub mod Slots
+pub mod Rules
+pub mod Content
+pub mod Format
+pub mod Reading
+pub mod Pack
+pub mod Decode
