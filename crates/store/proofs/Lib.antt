@@ -9,3 +9,4 @@ pub mod Choosing
 pub mod Calling
 pub mod Storing
 pub mod Flushing
+pub mod Checkpointing

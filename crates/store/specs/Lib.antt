@@ -8,3 +8,4 @@ pub mod Steps
 pub mod Calls
 pub mod Stored
 pub mod Flush
+pub mod Checkpoint

@@ -1,6 +1,7 @@
 // The state between calls, and the calls that work in memory alone: begin, write, read and its sister, precommit, abort and settle.
 pub mod admit;
 pub mod call;
+pub mod checkpoint;
 pub mod choose;
 pub mod flush;
 pub mod step;
