@@ -1,5 +1,6 @@
 -- What is laid out in flat arrays is seen there again.
-use Prim.Native.Nat.{ℕ, suc, _+_, _*_, _≤_, _<_}
+use Prim.Native.Nat.{ℕ, zero, suc, _+_, _-_, _*_, _≤_, _<_}
+use native.Mathlib.Nat.{zero-add, suc-add}
 use native.Mathlib.Omega.{arith}
 use native.Mathlib.Numerals.{add-one}
 use native.Mathlib.Decide.{decLt}
@@ -201,13 +202,25 @@ packed-each {A = A} f g h (t ∷ ts) k = ap₂ (λ (x : A) (xs : List A). x ∷ 
 
 -- ---- the slots
 
-pub packed-listed : (ts : List Saved) → length ts ≤ 8 → listed (packedTxs ts) (length ts) ≡ map packedTx ts
+drop-same : {A : Type 0} (a : A) (m n : ℕ) → drop m (replicate (m + n) a) ≡ replicate n a
+drop-same a zero n = ap (λ (k : ℕ). replicate k a) (zero-add n)
+drop-same a (suc m) n = ap (λ (k : ℕ). drop (suc m) (replicate k a)) (suc-add m n) ∙ drop-same a m n
+
+-- the transactions, and after them what an unused slot holds
+pub packed-slots : (ts : List Saved) → length ts ≤ 8 → packedTxs ts ≡ map packedTx ts ++ replicate (8 - length ts) emptyTx
 unfolding packedTxs
-packed-listed ts h =
+packed-slots ts h =
     let n = length-map ts packedTx in
-    let d : List Tx = drop (0 + length (map packedTx ts)) (replicate 8 emptyTx) in
-    ap₂ (λ (l : List Tx) (k : ℕ). upFrom (λ j. getD l j noTx) k 0) (sets-eq (map packedTx ts) (replicate 8 emptyTx) 0 (omega (arith, n, h))) (sym n)
-    ∙ up-front (map packedTx ts) d noTx
+    let k : 0 + length (map packedTx ts) ≡ length ts = omega (arith, n) in
+    let e : 8 ≡ length ts + (8 - length ts) = omega arith in
+    sets-eq (map packedTx ts) (replicate 8 emptyTx) 0 (omega (arith, n, h))
+    ∙ ap₂ (λ (i j : ℕ). map packedTx ts ++ drop i (replicate j emptyTx)) k e
+    ∙ ap (λ (l : List Tx). map packedTx ts ++ l) (drop-same emptyTx (length ts) (8 - length ts))
+
+pub packed-listed : (ts : List Saved) → length ts ≤ 8 → listed (packedTxs ts) (length ts) ≡ map packedTx ts
+packed-listed ts h =
+    ap₂ (λ (l : List Tx) (k : ℕ). upFrom (λ j. getD l j noTx) k 0) (packed-slots ts h) (sym (length-map ts packedTx))
+    ∙ up-front (map packedTx ts) (replicate (8 - length ts) emptyTx) noTx
 
 module _ {A : Type 0} (f : Tx → A) (g : Saved → A) (h : (t : Saved) → UndosOk (undosIn t) → f (packedTx t) ≡ g t) (ts : List Saved) (c : length ts ≤ 8) (k : TxsOk ts) where
   packed-seen : upFrom (λ j. f (slotAt (packedTxs ts) j)) (length ts) 0 ≡ map g ts

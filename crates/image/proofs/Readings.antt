@@ -23,7 +23,7 @@ use Rattle.image.specs.Content.{rangeOf}
 use Rattle.image.specs.Format.{undosSize}
 use Rattle.image.specs.Reading.{undoHere, firstUndo, readUndos}
 use Rattle.image.specs.Pack.{pushedAll}
-use Rattle.image.specs.Calls.{noUndos, undoStep, undosRead}
+use Rattle.image.specs.Decode.{noUndos, undoStep, undosRead}
 
 -- ---- one undo record
 

@@ -25,7 +25,7 @@ use Rattle.image.specs.Content.{Saved, saved, Content, savedAt, savedIn,
 use Rattle.image.specs.Format.{encodeHead, encodeUndo, encodeUndos, encodeTx, encodeTxs, encodeContent, encodeImage, undosIn, txSize, imageSize}
 use Rattle.image.specs.Reading.{undoHere, firstUndo, readUndos, savedIf, readTx, andTx, onTx, readTxs, contentIf, readContent, memoryOf}
 use Rattle.image.specs.Pack.{packed}
-use Rattle.image.specs.Calls.{decodeOf}
+use Rattle.image.specs.Decode.{decodeOf}
 use Rattle.image.proofs.Lists.{up-map}
 use Rattle.image.proofs.Rules.{rules-records}
 use Rattle.image.proofs.Packing.{UndosOk, undos-few, undos-ranged, first-ranged, rest-ranged, TxsOk, ranges-of, packed-content, packed-rules, packed-transactions}

@@ -3,7 +3,7 @@ use Prim.Native.Nat.{ℕ, _+_, _-_, _≤_, _<_}
 use native.Mathlib.Omega.{arith}
 use mathlib.Core.Bool.{Bool, true, false, _&&_, not}
 use mathlib.Core.List.{List}
-use mathlib.Core.Path.{_≡_, ap, _∙_}
+use mathlib.Core.Path.{_≡_, refl, ap, _∙_}
 use lib.ListN.{length}
 use lib.Dec.{leb}
 use borrow.Author.Tests.{le-leb, lt-leb, leb-true}
@@ -17,6 +17,7 @@ use Rattle.transaction.proofs.Lists.{length-up, up-turn, every-at}
 use Rattle.image.specs.declared.Image.{Image}
 use Rattle.image.specs.Slots.{slotAt, outlineAt, outlined}
 use Rattle.image.specs.Rules.{distinct, outlinesOk, imageOk, keepsRules}
+use Rattle.image.specs.Pack.{emptyImage}
 
 -- ---- the tests, in the code's order
 
@@ -86,3 +87,8 @@ module _ (i : Image) (e : keepsRules i ≡ true) where
       (rules-each (i .logend) (i .ondisk .0) (i .assigned .0) (i .lastid .0) (outlined (i .txs) (i .count)) e)
       j (omega arith) (omega arith) in
       and-right (headOk (i .lastid .0) (i .assigned .0) (t .id .0) (t .status) (t .csn .0)) (recordsOk (rangesOf (t .undo))) o
+
+-- an image that holds nothing keeps them
+pub empty-keeps : keepsRules emptyImage ≡ true
+unfolding emptyImage
+empty-keeps = refl

@@ -18,11 +18,11 @@ use Rattle.image.specs.Rules.{keepsRules}
 use Rattle.image.specs.Content.{Saved, saved, Content, contentOf, contentOk}
 use Rattle.image.specs.Format.{headBytes, encodeHead, encodeTxHead, encodeUndo, encodeUndos, encodeTx, encodeTxs, encodeContent, encodeImage, undosSize, txSize, txsSize, contentSize, imageSize}
 use Rattle.image.specs.Reading.{undoHere, firstUndo, readTxs, contentIf, readContent, keepingRules, readImage, memoryOf}
-use Rattle.image.specs.Calls.{notDecoded, decodedOf, decodeOf}
+use Rattle.image.specs.Decode.{notDecoded, decodedOf, decodeOf}
 use Rattle.image.proofs.Readings.{here-within, first-length, UndosAt}
 use Rattle.image.proofs.TxReadings.{TxAt, TxsAt, txs-inv, txs-kept}
 use Rattle.image.proofs.Sizes.{length-content}
-use Rattle.image.proofs.RoundTrip.{content-written, packed-holds, packed-keeps}
+use Rattle.image.proofs.RoundTrip.{memory-written, content-written, packed-holds, packed-keeps}
 
 -- the k elements from place i on
 abbrev items : List ℕ → ℕ → ℕ → List ℕ
@@ -179,6 +179,15 @@ module _ (s : List ℕ) (c : Content) (e : readImage s ≡ some c) where
       ap readImage r
       ∙ ap keepingRules (content-written c m (drop (contentSize c) t) memory-length image-keeps)
       ∙ ap (λ (k : Bool). cond k (some c) none) image-keeps
+
+-- two images never share their bytes
+module _ (c d : Content) (m n t u : List ℕ) (p : contentOk c ≡ true) (q : contentOk d ≡ true) (k : length m ≡ 4096) (l : length n ≡ 4096)
+    (e : encodeContent c m ++ t ≡ encodeContent d n ++ u) where
+  pub content-unique : c ≡ d
+  content-unique = ap (contentOr c) (sym (content-written c m t k p) ∙ ap readContent e ∙ content-written d n u l q)
+
+  pub memory-unique : m ≡ n
+  memory-unique = sym (memory-written c m t k) ∙ ap memoryOf e ∙ memory-written d n u l
 
 -- ---- the same of decode
 

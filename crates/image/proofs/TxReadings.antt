@@ -27,7 +27,7 @@ use Rattle.image.specs.Content.{Saved, saved, Content, rangeOf, contentO
 use Rattle.image.specs.Format.{undosIn, undosSize, txSize, txsSize}
 use Rattle.image.specs.Reading.{readUndos, savedIf, readTx, andTx, onTx, readTxs, contentIf, readContent, keepingRules}
 use Rattle.image.specs.Pack.{pushedAll, packedTx, packedTxs, packed}
-use Rattle.image.specs.Calls.{noUndos, noTxRead, noTxs, notDecoded, undosRead, txRead, txsRead, decodedOf, decodeOf}
+use Rattle.image.specs.Decode.{noUndos, noTxRead, noTxs, notDecoded, undosRead, txRead, txsRead, decodedOf, decodeOf}
 use Rattle.image.proofs.Readings.{UndosAt, undos-inv, undos-kept}
 use Rattle.image.proofs.Packing.{UndosOk, TxsOk, packed-rules}
 

@@ -5,4 +5,4 @@ pub mod Content
 pub mod Format
 pub mod Reading
 pub mod Pack
-pub mod Calls
+pub mod Decode

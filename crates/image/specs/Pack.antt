@@ -36,3 +36,15 @@ packed c =
       count = length (c .txs);
       txs = packedTxs (c .txs);
     }
+
+-- an image that holds nothing
+unfoldable pub emptyImage : Image
+emptyImage =
+    record {
+      logend = 0;
+      ondisk = record { 0 = 0 };
+      assigned = record { 0 = 0 };
+      lastid = record { 0 = 0 };
+      count = 0;
+      txs = replicate 8 emptyTx;
+    }

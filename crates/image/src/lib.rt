@@ -12,7 +12,7 @@ ghost use Rattle.transaction.specs.Lists.{upFrom, every};
 ghost use Rattle.transaction.specs.Rules.{outlineOk, alike};
 ghost use Rattle.image.specs.Slots.{outlineAt, outlined};
 ghost use Rattle.image.specs.Rules.{distinct, keepsRules};
-ghost use Rattle.image.specs.Calls.{emptyImage};
+ghost use Rattle.image.specs.Pack.{emptyImage};
 
 // Transactions in order of begin, in the first count slots.
 pub struct Image {

@@ -13,26 +13,26 @@ ghost use lib.ListN.{replicate};
 ghost use Rattle.transaction.specs.Flat.{emptyRecords, emptyTx};
 ghost use Rattle.image.specs.Reading.{readUndos, readTx, readTxs};
 ghost use Rattle.image.specs.Pack.{loaded};
-ghost use Rattle.image.specs.Calls.{noUndos, noTxRead, noTxs, notDecoded, undoStep, undosRead, txRead, txsRead, decodeOf};
+ghost use Rattle.image.specs.Decode.{noUndos, noTxRead, noTxs, notDecoded, undoStep, undosRead, txRead, txsRead, decodeOf};
 
 // Undo records, and the bytes that they took.
-pub struct Undos {
-    pub ok: bool,
-    pub undo: Records,
-    pub size: usize,
+struct Undos {
+    ok: bool,
+    undo: Records,
+    size: usize,
 }
 
 // A transaction, and the bytes that it took.
-pub struct TxRead {
-    pub ok: bool,
-    pub tx: Tx,
-    pub size: usize,
+struct TxRead {
+    ok: bool,
+    tx: Tx,
+    size: usize,
 }
 
 // All transactions of an image.
-pub struct TxsRead {
-    pub ok: bool,
-    pub txs: [Tx; 8],
+struct TxsRead {
+    ok: bool,
+    txs: [Tx; 8],
 }
 
 // An image; all zero where none that keeps the rules could be read.

@@ -12,3 +12,6 @@ pub mod Appending
 pub mod Stepping
 pub mod Views
 pub mod Keeping
+pub mod Storing
+pub mod Flushing
+pub mod Checkpointing

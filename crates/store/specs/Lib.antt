@@ -7,3 +7,6 @@ pub mod Numbers
 pub mod Steps
 pub mod Calls
 pub mod View
+pub mod Stored
+pub mod Flush
+pub mod Checkpoint

@@ -1,8 +1,11 @@
 // The state between calls, and the calls that work in memory alone: begin, write, read and its sister, precommit, abort and settle.
 pub mod admit;
 pub mod call;
+pub mod checkpoint;
 pub mod choose;
+pub mod flush;
 pub mod step;
+pub mod stored;
 
 use log::Csn;
 use log::TxId;

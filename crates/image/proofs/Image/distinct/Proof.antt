@@ -1,10 +1,12 @@
-use Prim.Native.Nat.{_-_, _≤_}
+use Prim.Native.Nat.{_+_, _-_, _≤_}
 use native.Mathlib.Nat.{sub-zero}
 use native.Mathlib.Omega.{arith}
 use mathlib.Core.Path.{_≡_, sym, ap, _∙_}
+use Rattle.recovery.specs.Lists.{any}
 use Rattle.transaction.specs.Lists.{upFrom}
+use Rattle.transaction.specs.Rules.{alike}
 use Rattle.transaction.proofs.Lists.{up-done}
-use Rattle.image.specs.Slots.{outlineAt, outlined}
+use Rattle.image.specs.Slots.{slotAt, outlineAt, outlined}
 use Rattle.image.specs.Rules.{distinct}
 use Rattle.image.proofs.Rules.{distinct-hit, distinct-miss}
 use borrow.Author.Needs.{needs}
@@ -36,10 +38,16 @@ add-alike-from c = search needs
 alike-from-requires : tie.Need-alike-from-requires Inv-loop μ-loop
 alike-from-requires c κs = search needs
 
+-- whether a later transaction is like the one at hand
+later : (c : tie.After-alike-from Inv-loop μ-loop)
+    → let t = c .before .before .before .before .args .t1 in
+    let i = c .before .before .before .loop .i in
+    any (alike (slotAt (t .txs) i .id .0) (slotAt (t .txs) i .csn .0)) (upFrom (outlineAt (t .txs)) (t .count - (i + 1)) (i + 1)) ≡ c .alike-from .result
+later c = sym (c .alike-from .ensures)
+
 returns : tie.Need-returns Inv-loop μ-loop
 returns c =
-    let l = c .before .before .before .before .loop in
-    sym (l .inv .1 ∙ distinct-hit (c .before .before .before .before .before .args .t1 .txs) _ _ (c .before .before .before .loop-test .taken) (sym (c .before .alike-from .ensures) ∙ c .if1 .taken))
+    sym (c .before .before .before .before .loop .inv .1 ∙ distinct-hit (c .before .before .before .before .before .args .t1 .txs) _ _ (c .before .before .before .loop-test .taken) (later (c .before) ∙ c .if1 .taken))
 
 add-i : tie.Need-add-i Inv-loop μ-loop
 add-i c = search needs
@@ -49,8 +57,7 @@ loop-less c = search needs
 
 loop-again : tie.Need-loop-again Inv-loop μ-loop
 loop-again c =
-    let l = c .before .before .before .before .loop in
-    (omega arith, l .inv .1 ∙ distinct-miss (c .before .before .before .before .before .args .t1 .txs) _ _ (c .before .before .before .loop-test .taken) (sym (c .before .alike-from .ensures) ∙ c .if1 .left))
+    (omega arith, c .before .before .before .before .loop .inv .1 ∙ distinct-miss (c .before .before .before .before .before .args .t1 .txs) _ _ (c .before .before .before .loop-test .taken) (later (c .before) ∙ c .if1 .left))
 
 returns-2 : tie.Need-returns-2 Inv-loop μ-loop
 returns-2 c =

@@ -1,4 +1,4 @@
-use Rattle.image.specs.Calls.{emptyImage}
+use Rattle.image.specs.Pack.{emptyImage}
 use borrow.Author.Needs.{needs}
 use Rattle.image.proofs.Image.empty.Statement.{statement}
 use Rattle.image.proofs.Image.empty.Tie as tie

@@ -13,7 +13,7 @@ use Rattle.image.specs.Rules.{keepsRules}
 use Rattle.image.specs.Content.{Content, contentOk}
 use Rattle.image.specs.Reading.{readTxs, readContent}
 use Rattle.image.specs.Pack.{packed}
-use Rattle.image.specs.Calls.{txsRead}
+use Rattle.image.specs.Decode.{txsRead}
 use Rattle.image.proofs.TxReadings.{imageWith, imageHere, content-short, content-many, content-none, content-some, decode-none, decode-bad, decode-good}
 use borrow.Author.Needs.{needs}
 use Rattle.image.proofs.read.decode.Statement.{statement}

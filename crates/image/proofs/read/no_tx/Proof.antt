@@ -1,4 +1,4 @@
-use Rattle.image.specs.Calls.{noTxRead}
+use Rattle.image.specs.Decode.{noTxRead}
 use borrow.Author.Needs.{needs}
 use Rattle.image.proofs.read.no_tx.Statement.{statement}
 use Rattle.image.proofs.read.no_tx.Tie as tie

@@ -1,4 +1,4 @@
-use Rattle.image.specs.Calls.{noTxs}
+use Rattle.image.specs.Decode.{noTxs}
 use borrow.Author.Needs.{needs}
 use Rattle.image.proofs.read.no_txs.Statement.{statement}
 use Rattle.image.proofs.read.no_txs.Tie as tie

@@ -1,4 +1,4 @@
-use Rattle.image.specs.Calls.{noUndos}
+use Rattle.image.specs.Decode.{noUndos}
 use borrow.Author.Needs.{needs}
 use Rattle.image.proofs.read.no_undos.Statement.{statement}
 use Rattle.image.proofs.read.no_undos.Tie as tie

@@ -1,4 +1,4 @@
-use Rattle.image.specs.Calls.{notDecoded}
+use Rattle.image.specs.Decode.{notDecoded}
 use borrow.Author.Needs.{needs}
 use Rattle.image.proofs.read.not_decoded.Statement.{statement}
 use Rattle.image.proofs.read.not_decoded.Tie as tie

@@ -15,7 +15,7 @@ use Rattle.image.specs.Content.{saved}
 use Rattle.image.specs.Format.{undosSize}
 use Rattle.image.specs.Reading.{readUndos, savedIf, readTx}
 use Rattle.image.specs.Pack.{pushedAll, loaded, packedTx}
-use Rattle.image.specs.Calls.{undosRead, txRead}
+use Rattle.image.specs.Decode.{undosRead, txRead}
 use Rattle.image.proofs.Readings.{undos-inv, undos-kept}
 use Rattle.image.proofs.TxReadings.{undos-none, undos-some, tx-short, tx-many, tx-undos}
 use borrow.Author.Needs.{needs}
@@ -114,8 +114,9 @@ returns-4 c =
     ∙ ap₂ (λ (i n : ℕ). loaded i (getD s 2 0) n r) (c .before .before .before .before .be16 .ensures) (c .before .before .before .be32 .ensures)
     ∙ ap (loaded (be2 s 0) (getD s 2 0) (be4 s 3)) (w .2) in
     let z : 8 + c .before .before .before .before .before .before .before .before .read-undos .result .size ≡ 8 + undosSize (w .0) = omega (arith, w .3) in
-    ap₂ (λ (t : Tx) (m : ℕ). record { ok = true; tx = t; size = m }) p z
-    ∙ sym (ap txRead (head-read (c .before .before .before .before .before .before .before .before) ∙ ap (savedIf (be2 s 0) (getD s 2 0) (be4 s 3)) (w .1)))
+    let q : readTx s ≡ some (saved (be2 s 0) (getD s 2 0) (be4 s 3) (w .0)) =
+    head-read (c .before .before .before .before .before .before .before .before) ∙ ap (savedIf (be2 s 0) (getD s 2 0) (be4 s 3)) (w .1) in
+    ap₂ (λ (t : Tx) (m : ℕ). record { ok = true; tx = t; size = m }) p z ∙ sym (ap txRead q)
 
 pub read-tx-spec : {M : Type 1} → statement M
 read-tx-spec =

@@ -8,7 +8,7 @@ use Rattle.log.proofs.Basics.{from}
 use Rattle.transaction.specs.declared.Tx.{Tx}
 use Rattle.transaction.specs.Flat.{emptyTx}
 use Rattle.image.specs.Reading.{readTx, readTxs}
-use Rattle.image.specs.Calls.{txRead, txsRead}
+use Rattle.image.specs.Decode.{txRead, txsRead}
 use Rattle.image.proofs.TxReadings.{txs-stop, txs-within, txs-go}
 use borrow.Author.Needs.{needs}
 use Rattle.image.proofs.read.read_txs.Statement.{statement}

@@ -8,7 +8,7 @@ use Rattle.log.proofs.Basics.{from}
 use Rattle.transaction.specs.declared.Records.{Records}
 use Rattle.transaction.specs.Flat.{emptyRecords}
 use Rattle.image.specs.Reading.{readUndos}
-use Rattle.image.specs.Calls.{undoStep, undosRead}
+use Rattle.image.specs.Decode.{undoStep, undosRead}
 use Rattle.image.proofs.Readings.{undos-stop, undos-within, undos-count, undos-go}
 use borrow.Author.Needs.{needs}
 use Rattle.image.proofs.read.read_undos.Statement.{statement}

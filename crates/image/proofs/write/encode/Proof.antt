@@ -1,10 +1,9 @@
 use native.Mathlib.Omega.{arith}
-use mathlib.Core.Path.{sym, ap, _∙_}
-use Prim.Native.Nat.{ℕ}
+use mathlib.Core.Path.{_≡_}
 use lib.Seq.{sets}
 use Rattle.transaction.proofs.Lists.{length-up}
 use Rattle.image.specs.Content.{contentOf, savedAt}
-use Rattle.image.specs.Format.{headBytes}
+use Rattle.image.specs.Format.{encodeHead}
 use Rattle.image.proofs.Sizes.{image-small}
 use Rattle.image.proofs.Writings.{image-stores}
 use borrow.Author.Needs.{needs}
@@ -25,17 +24,15 @@ put-txs-requires c κs =
 same-length : tie.Need-same-length
 same-length c = search needs
 
+-- the count that is written is that of the transactions listed
+headed : (c : tie.After-put-head) → let a = c .before .before .before .before .args in c .put-head .last .0 ≡ sets (a .b .now) 0 (encodeHead (contentOf (a .image)))
+headed c = let i = c .before .before .before .before .args .image in rw (length-up (savedAt (i .txs)) (i .count) 0) (c .put-head .ensures)
+
 returns : tie.Need-returns
 returns c =
     let a = c .before .before .before .before .before .before .before .before .before .before .before .before .before .before .args in
-    let i = a .image in
     let e = c .before .before .put-txs .ensures in
-    let n = length-up (savedAt (i .txs)) (i .count) 0 in (
-      e .0,
-      image-stores (a .b .now) _ _ _ (contentOf i) (a .memory .now) (c .before .before .before .before .before .before .before .before .before .before .before .before .before .before .pre .1 .0)
-          (c .before .before .before .before .before .before .before .before .before .before .put-head .ensures ∙ ap (λ (k : ℕ). sets (a .b .now) 0 (headBytes (i .logend) (i .ondisk .0) (i .assigned .0) (i .lastid .0) k)) (sym n))
-          (c .before .before .before .before .before .before .copy .ensures) (e .1),
-    )
+    (e .0, image-stores (a .b .now) _ _ _ (contentOf (a .image)) (a .memory .now) (c .before .before .before .before .before .before .before .before .before .before .before .before .before .before .pre .1 .0) (headed (c .before .before .before .before .before .before .before .before .before .before)) (c .before .before .before .before .before .before .copy .ensures) (e .1))
 
 pub encode-spec : {M : Type 1} → statement M
 encode-spec =

@@ -1,4 +1,4 @@
--- What the readers answer.
+-- What decode and the readers under it answer.
 use Prim.Native.Nat.{ℕ, _+_}
 use mathlib.Core.Bool.{true, false, cond}
 use mathlib.Core.List.{List, map}
@@ -11,7 +11,6 @@ use Rattle.transaction.specs.declared.Records.{Records}
 use Rattle.transaction.specs.declared.Tx.{Tx}
 use Rattle.transaction.specs.Flat.{emptyRecords, emptyTx}
 use Rattle.transaction.specs.Steps.{pushed}
-use Rattle.image.specs.declared.Image.{Image}
 use Rattle.image.specs.declared.read.Undos.{Undos}
 use Rattle.image.specs.declared.read.TxRead.{TxRead}
 use Rattle.image.specs.declared.read.TxsRead.{TxsRead}
@@ -19,7 +18,7 @@ use Rattle.image.specs.declared.read.Decoded.{Decoded}
 use Rattle.image.specs.Content.{Saved, Content}
 use Rattle.image.specs.Format.{undosSize, txSize}
 use Rattle.image.specs.Reading.{undoHere, readImage}
-use Rattle.image.specs.Pack.{pushedAll, packedTx, packed}
+use Rattle.image.specs.Pack.{pushedAll, packedTx, packed, emptyImage}
 
 -- ---- of a part that is not there, all zero
 
@@ -31,17 +30,6 @@ noTxRead = record { ok = false; tx = emptyTx; size = 0 }
 
 unfoldable pub noTxs : TxsRead
 noTxs = record { ok = false; txs = replicate 8 emptyTx }
-
-unfoldable pub emptyImage : Image
-emptyImage =
-    record {
-      logend = 0;
-      ondisk = record { 0 = 0 };
-      assigned = record { 0 = 0 };
-      lastid = record { 0 = 0 };
-      count = 0;
-      txs = replicate 8 emptyTx;
-    }
 
 unfoldable pub notDecoded : Decoded
 notDecoded = record { ok = false; image = emptyImage }

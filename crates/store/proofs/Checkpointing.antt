@@ -1,0 +1,156 @@
+-- Checkpoint: its stores as the code makes them, its cases, and that the state's image keeps the image rules.
+use Prim.Native.Nat.{ℕ, _+_, _≤_, _<_, min}
+use native.Mathlib.Omega.{arith}
+use mathlib.Core.Bool.{Bool, true, false, cond, not, _&&_}
+use mathlib.Core.List.{List, [], _∷_, _++_}
+use mathlib.Core.Path.{_≡_, refl, sym, ap, ap₂, _∙_}
+use lib.ListN.{length, take, getD, set, length-append}
+use lib.Seq.{sets, take-all, take-append-le}
+use borrow.Author.Tests.{eq-eqb, ne-eqb}
+use Rattle.recovery.specs.Lists.{any}
+use Rattle.log.specs.Stores.{Store, store, apply, copies}
+use Rattle.log.proofs.StoreLaws.{length-apply, length-copies}
+use Rattle.transaction.specs.View.{Outline, outline}
+use Rattle.transaction.specs.Rules.{alike}
+use Rattle.image.specs.declared.Image.{Image}
+use Rattle.image.specs.Rules.{keepsRules, distinct as distinctIn}
+use Rattle.image.specs.Content.{contentOf}
+use Rattle.image.specs.Format.{encodeImage, imageSize}
+use Rattle.image.proofs.Sizes.{length-content, image-small}
+use Rattle.image.proofs.RoundTrip.{encode-used}
+use Rattle.store.specs.declared.State.{State}
+use Rattle.store.specs.State.{unrecovered, outlinesOf}
+use Rattle.store.specs.Answer.{done, cut, refused}
+use Rattle.store.specs.Rules.{distinct, keepsImageRules}
+use Rattle.store.specs.Stored.{stored, zeroed}
+use Rattle.store.specs.Checkpoint.{imageOf, slotStores, intoA, imageStores, checkpointStores, checkpointPlan, checkpointOf}
+use Rattle.store.proofs.Storing.{diskNumber, disk-admitted, disk-passes, stored-refused, stored-cut, stored-done}
+
+-- ---- the image rules are the same of a state and of its image
+
+distinct-same : (ts : List Outline) → distinct ts ≡ distinctIn ts
+distinct-same [] = refl
+distinct-same (outline id status csn undo ∷ ts) = ap (λ (b : Bool). not (any (alike id csn) ts) && b) (distinct-same ts)
+
+pub image-keeps : (s : State) → keepsImageRules s ≡ keepsRules (imageOf s)
+image-keeps s = rw (distinct-same (outlinesOf s))
+
+-- ---- the stores
+
+apply-append : (xs ys : List Store) (d : List ℕ) → apply (xs ++ ys) d ≡ apply ys (apply xs d)
+apply-append [] ys d = refl
+apply-append (store i v ∷ xs) ys d = apply-append xs ys (set d i v)
+
+module _ (at name : ℕ) (bytes : List ℕ) where
+  pub length-slot : length (slotStores at name bytes) ≡ length bytes + 1
+  length-slot = simp (length-append, length-copies) (omega arith)
+
+  module _ (d : List ℕ) (allowed made : ℕ) (e : made ≡ min allowed (length (copies at bytes))) where
+    -- the allowance ends within the image, or right after it
+    pub slot-short : made ≡ allowed
+        → (made ≡ min allowed (length (slotStores at name bytes))) × (apply (take allowed (copies at bytes)) d ≡ apply (take allowed (slotStores at name bytes)) d)
+    slot-short h =
+        let c = length-copies at bytes in (
+          omega (arith, length-slot, c, e, h),
+          ap (λ (ss : List Store). apply ss d) (sym (take-append-le allowed (copies at bytes) (store 0 name ∷ []) (omega (arith, e, h)))),
+        )
+
+    -- one more store is allowed
+    pub slot-whole : (made ≡ allowed → ⊥)
+        → (made + 1 ≡ min allowed (length (slotStores at name bytes))) × (set (apply (take allowed (copies at bytes)) d) 0 name ≡ apply (take allowed (slotStores at name bytes)) d)
+    slot-whole h =
+        let c = length-copies at bytes in
+        let p : made + 1 ≡ min allowed (length (slotStores at name bytes)) = omega (arith, length-slot, c, e, h) in (
+          p,
+          sym
+              (ap (λ (ss : List Store). apply ss d) (take-all allowed (slotStores at name bytes) (omega (arith, length-slot, c, e, h)))
+              ∙ apply-append (copies at bytes) (store 0 name ∷ []) d
+              ∙ ap (λ (ss : List Store). set (apply ss d) 0 name) (sym (take-all allowed (copies at bytes) (omega (arith, e, h))))),
+        )
+
+-- which slot
+module _ (pointer : ℕ) (bytes : List ℕ) where
+  pub into-a-fresh : pointer ≡ 0 → slotStores 1 1 bytes ≡ imageStores pointer bytes
+  into-a-fresh e = rw (eq-eqb pointer 0 e)
+
+  pub into-a : (pointer ≡ 0 → ⊥) → pointer ≡ 2 → slotStores 1 1 bytes ≡ imageStores pointer bytes
+  into-a h e = rw (ne-eqb pointer 0 h, eq-eqb pointer 2 e)
+
+  pub into-b : (pointer ≡ 0 → ⊥) → (pointer ≡ 2 → ⊥) → slotStores 8654 2 bytes ≡ imageStores pointer bytes
+  into-b h e = rw (ne-eqb pointer 0 h, ne-eqb pointer 2 e)
+
+pub length-image-stores : (pointer : ℕ) (bytes : List ℕ) → length (imageStores pointer bytes) ≡ length bytes + 1
+length-image-stores pointer bytes = go (intoA pointer)
+  where
+    go : (b : Bool) → length (cond b (slotStores 1 1 bytes) (slotStores 8654 2 bytes)) ≡ length bytes + 1
+    go true = length-slot 1 1 bytes
+    go false = length-slot 8654 2 bytes
+
+-- "only its used bytes", and the pointer byte
+pub checkpoint-length : (s : State) (d m : List ℕ) → length m ≡ 4096 → length (checkpointStores s d m) ≡ imageSize (imageOf s) + 1
+checkpoint-length s d m l =
+    length-image-stores (getD d 0 0) (encodeImage (imageOf s) m) ∙ ap (λ (n : ℕ). n + 1) (length-content (contentOf (imageOf s)) m l)
+
+-- ---- the cases, as the code comes to them
+
+-- the first n bytes of a buffer are the state's image
+pub record Encoded (s : State) (d m b : List ℕ) (n : ℕ) : Type 0 where
+  pub disk : length d ≡ 33691
+  pub bytes : take n b ≡ encodeImage (imageOf s) m
+  pub counted : length (take n b) ≡ n
+  pub small : n ≤ 8653
+
+module _ (s : State) (d m t : List ℕ) (allowed : ℕ) where
+  pub checkpoint-refused : (n : ℕ) → diskNumber s d m t ≡ n → (n ≡ 0 → ⊥) → checkpointOf s d m t allowed ≡ record { result = stored (refused n) 0 s; disk = d; memory = m; tail = t }
+  unfolding checkpointOf
+  checkpoint-refused = stored-refused s d m t (checkpointPlan s d m t) allowed
+
+  module _ (z : diskNumber s d m t ≡ 0) where
+    pub image-ok : (i : Image) → i ≡ imageOf s → keepsRules i ≡ true
+    image-ok i e = ap keepsRules e ∙ sym (image-keeps s) ∙ disk-admitted s d m t z .fits .image
+
+    -- i is the image made, n the number of its bytes, b the buffer before it was encoded and x after
+    pub encoded : (i : Image) (n : ℕ) (b x : List ℕ) → i ≡ imageOf s → n ≡ imageSize i → 8653 ≤ length b → x ≡ sets b 0 (encodeImage i m) → Encoded s d m x n
+    encoded i n b x e f l g =
+        let a = disk-admitted s d m t z in
+        let k : keepsRules (imageOf s) ≡ true = image-ok (imageOf s) refl in
+        let q : n ≡ imageSize (imageOf s) = f ∙ ap imageSize e in
+        let u : take n x ≡ encodeImage (imageOf s) m =
+        ap₂ (λ (j : ℕ) (y : List ℕ). take j y) q (g ∙ ap (λ (y : Image). sets b 0 (encodeImage y m)) e) ∙ encode-used (imageOf s) k m b (a .memory) l in
+        record {
+          disk = a .disk;
+          bytes = u;
+          counted = ap length u ∙ length-content (contentOf (imageOf s)) m (a .memory) ∙ sym q;
+          small = omega (arith, q, image-small (imageOf s) k);
+        }
+
+    -- made is the number of stores made, y the disk that they left
+    module _ (n made : ℕ) (x y : List ℕ) (e : Encoded s d m x n) (f : made ≡ min allowed (length (imageStores (getD d 0 0) (take n x))))
+        (g : y ≡ apply (take allowed (imageStores (getD d 0 0) (take n x))) d) where
+      count : made ≡ min allowed (length (checkpointStores s d m))
+      count = f ∙ ap (λ (bs : List ℕ). min allowed (length (imageStores (getD d 0 0) bs))) (e .bytes)
+
+      needed : length (checkpointStores s d m) ≡ n + 1
+      needed =
+          length-image-stores (getD d 0 0) (encodeImage (imageOf s) m)
+          ∙ ap (λ (k : ℕ). k + 1) (ap length (sym (e .bytes)) ∙ e .counted)
+
+      on-disk : y ≡ apply (take allowed (checkpointStores s d m)) d
+      on-disk = g ∙ ap (λ (bs : List ℕ). apply (take allowed (imageStores (getD d 0 0) bs)) d) (e .bytes)
+
+      pub checkpoint-cut : made ≤ n → checkpointOf s d m t allowed ≡ record { result = stored cut made unrecovered; disk = y; memory = zeroed m; tail = zeroed t }
+      unfolding checkpointOf
+      checkpoint-cut h =
+          let a = disk-admitted s d m t z in
+          rw (on-disk, a .memory, a .tail, count) (stored-cut s d m t (checkpointPlan s d m t) allowed z (omega (arith, needed, count)))
+
+      pub checkpoint-done : n < made → checkpointOf s d m t allowed ≡ record { result = stored done made s; disk = y; memory = m; tail = t }
+      unfolding checkpointOf
+      checkpoint-done h = rw (on-disk, count) (stored-done s d m t (checkpointPlan s d m t) allowed z (omega (arith, needed, count)))
+
+-- a checkpoint that is done can be followed by a call
+pub checkpoint-next : (s : State) (d m t : List ℕ) (allowed : ℕ) → diskNumber s d m t ≡ 0 → diskNumber s (apply (take allowed (checkpointStores s d m)) d) m t ≡ 0
+checkpoint-next s d m t allowed z =
+    let a = disk-admitted s d m t z in
+    disk-passes s (apply (take allowed (checkpointStores s d m)) d) m t
+    (record { disk = length-apply (take allowed (checkpointStores s d m)) d ∙ a .disk; memory = a .memory; tail = a .tail; fits = a .fits })

@@ -1,0 +1,231 @@
+-- Flush: its cases as the code comes to them, the bytes that it stores, and that the state and tail it leaves pass number 2.
+use Prim.Native.Nat.{ℕ, zero, suc, _+_, _-_, _≤_, _<_, min}
+use native.Mathlib.Omega.{arith}
+use mathlib.Core.Bool.{Bool, true, _&&_}
+use mathlib.Core.List.{List, [], _∷_, _++_, append-assoc}
+use mathlib.Core.Path.{_≡_, refl, sym, ap, ap₂, _∙_}
+use lib.ListN.{length, take, drop, replicate, take-append-drop}
+use lib.Seq.{length-take-le, take-length, take-at, drop-drop, drop-append-le}
+use lib.Dec.{leb, eqb}
+use borrow.Author.Tests.{eq-eqb, eqb-true, le-leb}
+use Rattle.recovery.specs.Group.{Group, committed, aborted, groupSize, groupsSize, csnAfter, lastCsn}
+use Rattle.recovery.proofs.Groups.{groupsSize-append, lastCsn-append, fitting-all}
+use Rattle.log.specs.declared.Csn.{Csn}
+use Rattle.log.specs.declared.scan.LogEnd.{LogEnd}
+use Rattle.log.specs.Group.{encodeGroup, wellFormedBody, wellFormedGroup}
+use Rattle.log.specs.Log.{readLog, logEndOf, encodeLog, wellFormedLog}
+use Rattle.log.specs.Stores.{Store, apply, copies, shifted}
+use Rattle.log.proofs.LogLaws.{log-inv, log-within}
+use Rattle.log.proofs.RoundTrip.{length-log}
+use Rattle.log.proofs.Soundness.{Bytes, log-sound, log-formed}
+use Rattle.log.proofs.StoreLaws.{length-apply, length-copies, length-shifted}
+use Rattle.log.proofs.Torn.{log-torn}
+use Rattle.transaction.proofs.Lists.{and-left, and-right}
+use Rattle.store.specs.declared.State.{State}
+use Rattle.store.specs.State.{unrecovered, outlinesOf}
+use Rattle.store.specs.Answer.{done, cut, refused}
+use Rattle.store.specs.Rules.{isZero, allZero, tailLength, outlinesOk}
+use Rattle.store.specs.Stored.{stored, zeroed}
+use Rattle.store.specs.Flush.{withLog, firstGroups, firstSize, flushedState, flushedTail, flushStores, flushPlan, flushOf}
+use Rattle.store.proofs.Fits.{Fit}
+use Rattle.store.proofs.Storing.{copies-moved, part-stored, diskNumber, disk-admitted, disk-passes, stored-refused, stored-cut, stored-done}
+
+-- ---- the first k groups of the tail
+
+size-split : (k : ℕ) (gs : List Group) → groupsSize (take k gs) + groupsSize (drop k gs) ≡ groupsSize gs
+size-split k gs = sym (groupsSize-append (take k gs) (drop k gs)) ∙ ap groupsSize (take-append-drop k gs)
+
+csn-split : (k prev : ℕ) (gs : List Group) → lastCsn (lastCsn prev (take k gs)) (drop k gs) ≡ lastCsn prev gs
+csn-split k prev gs = sym (lastCsn-append prev (take k gs) (drop k gs)) ∙ ap (lastCsn prev) (take-append-drop k gs)
+
+module _ (s : State) (t : List ℕ) (k : ℕ) where
+  first-within : firstSize s t k ≤ tailLength (s .ondisk .0) t
+  first-within = omega (arith, size-split k (readLog (s .ondisk .0) t))
+
+  pub first-length : length (take (firstSize s t k) t) ≡ firstSize s t k
+  first-length = length-take-le (firstSize s t k) t (omega (arith, first-within, log-within (s .ondisk .0) (readLog (s .ondisk .0) t) t refl))
+
+  pub flush-length : length (flushStores s t k) ≡ firstSize s t k
+  flush-length = length-copies (17307 + s .logend) (take (firstSize s t k) t) ∙ first-length
+
+  -- "uses more than 16,384 bytes of log room" is number 2, so the groups fit into the log
+  pub flush-room : Fit s t → s .logend + firstSize s t k ≤ 16384
+  flush-room f = omega (arith, first-within, f .room)
+
+-- ---- the cases, as the code comes to them
+
+-- the first n bytes of the tail are there and fit into the log
+pub record Room (s : State) (d t : List ℕ) (n : ℕ) : Type 0 where
+  pub disk : length d ≡ 33691
+  pub tail : n ≤ length t
+  pub bytes : length (take n t) ≡ n
+  pub log : s .logend + n ≤ 16384
+
+module _ (s : State) (d m t : List ℕ) (k allowed : ℕ) where
+  pub flush-refused : (n : ℕ) → diskNumber s d m t ≡ n → (n ≡ 0 → ⊥) → flushOf s d m t k allowed ≡ record { result = stored (refused n) 0 s; disk = d; memory = m; tail = t }
+  unfolding flushOf
+  flush-refused = stored-refused s d m t (flushPlan s m t k) allowed
+
+  -- read is what was read of the first groups
+  module _ (z : diskNumber s d m t ≡ 0) (read : LogEnd) (e : read ≡ logEndOf 0 (s .ondisk .0) (firstGroups s t k)) where
+    size : read .end ≡ firstSize s t k
+    size = omega (arith, ap (λ (x : LogEnd). x .end) e)
+
+    pub flush-fits : Room s d t (read .end)
+    flush-fits =
+        let a = disk-admitted s d m t z in
+        let n = ap (λ (n : ℕ). length (take n t)) size ∙ first-length s t k in
+        record {
+          disk = a .disk;
+          tail = omega (arith, size, first-within s t k, log-within (s .ondisk .0) (readLog (s .ondisk .0) t) t refl);
+          bytes = n ∙ sym size;
+          log = omega (arith, size, flush-room s t k (a .fits));
+        }
+
+    -- made is the number of stores made, ys what they left of the log part
+    module _ (made : ℕ) (ys : List ℕ) (f : made ≡ min allowed (length (copies (s .logend) (take (read .end) t))))
+        (g : ys ≡ apply (take allowed (copies (s .logend) (take (read .end) t))) (take (length d - 17307) (drop 17307 d))) where
+      abbrev left : List ℕ
+      left = take 17307 d ++ (ys ++ drop (length d - 17307) (drop 17307 d))
+
+      count : made ≡ min allowed (length (flushStores s t k))
+      count =
+          let l : length (copies (s .logend) (take (read .end) t)) ≡ length (flushStores s t k) =
+          length-copies (s .logend) (take (read .end) t) ∙ ap (λ (n : ℕ). length (take n t)) size ∙ sym (length-copies (17307 + s .logend) (take (firstSize s t k) t)) in
+          f ∙ ap (min allowed) l
+
+      on-disk : left ≡ apply (take allowed (flushStores s t k)) d
+      on-disk =
+          part-stored 17307 allowed (copies (s .logend) (take (read .end) t)) d ys g
+          ∙ ap (λ (ss : List Store). apply (take allowed ss) d)
+          (sym (copies-moved 17307 (s .logend) (take (read .end) t)) ∙ ap (λ (n : ℕ). copies (17307 + s .logend) (take n t)) size)
+
+      pub flush-cut : made < read .end → flushOf s d m t k allowed ≡ record { result = stored cut made unrecovered; disk = left; memory = zeroed m; tail = zeroed t }
+      unfolding flushOf
+      flush-cut h =
+          let a = disk-admitted s d m t z in
+          let l = flush-length s t k in
+          rw (on-disk, a .memory, a .tail, count) (stored-cut s d m t (flushPlan s m t k) allowed z (omega (arith, size, count)))
+
+      pub flush-done : read .end ≤ made
+          → flushOf s d m t k allowed
+          ≡ record { result = stored done made (withLog s (s .logend + read .end) (read .csn)); disk = left; memory = m; tail = shifted (read .end) t }
+      unfolding flushOf
+      flush-done h =
+          let l = flush-length s t k in
+          let w : withLog s (s .logend + read .end) (read .csn) ≡ flushedState s t k =
+          ap₂ (λ (n : ℕ) (c : Csn). withLog s (s .logend + n) c) size (ap (λ (x : LogEnd). x .csn) e) in
+          stored-done s d m t (flushPlan s m t k) allowed z (omega (arith, size, count))
+          ∙ sym
+          (ap₂ (λ (n : ℕ) (u : State). record { result = stored done n u; disk = left; memory = m; tail = shifted (read .end) t }) count w
+          ∙ ap₂ (λ (x : List ℕ) (n : ℕ). record { result = stored done (min allowed (length (flushStores s t k))) (flushedState s t k); disk = x; memory = m; tail = shifted n t }) on-disk size)
+
+-- ---- the bytes stored
+
+encode-append : (gs hs : List Group) → encodeLog (gs ++ hs) ≡ encodeLog gs ++ encodeLog hs
+encode-append [] hs = refl
+encode-append (g ∷ gs) hs =
+    ap (λ (l : List ℕ). encodeGroup g ++ l) (encode-append gs hs) ∙ sym (append-assoc (encodeGroup g) (encodeLog gs) (encodeLog hs))
+
+-- they are the encoding of the first k groups
+pub flush-bytes : (s : State) (t : List ℕ) (k : ℕ) → Bytes t → take (firstSize s t k) t ≡ encodeLog (firstGroups s t k)
+flush-bytes s t k b =
+    let gs = readLog (s .ondisk .0) t in
+    let rest = drop (groupsSize gs) t in
+    let e : t ≡ encodeLog (take k gs) ++ (encodeLog (drop k gs) ++ rest) =
+    log-sound (s .ondisk .0) gs t b refl
+    ∙ ap (λ (l : List ℕ). l ++ rest) (ap encodeLog (sym (take-append-drop k gs)) ∙ encode-append (take k gs) (drop k gs))
+    ∙ append-assoc (encodeLog (take k gs)) (encodeLog (drop k gs)) rest in
+    ap (take (firstSize s t k)) e ∙ take-at (encodeLog (take k gs)) (encodeLog (drop k gs) ++ rest) (firstSize s t k) (length-log (take k gs))
+
+pub flush-stores : (s : State) (t : List ℕ) (k : ℕ) → Bytes t → flushStores s t k ≡ copies (17307 + s .logend) (encodeLog (firstGroups s t k))
+flush-stores s t k b = ap (copies (17307 + s .logend)) (flush-bytes s t k b)
+
+-- ---- what is left in the tail
+
+-- after the first k groups stand the others
+log-rest : (prev k : ℕ) (gs : List Group) (t : List ℕ) → readLog prev t ≡ gs → readLog (lastCsn prev (take k gs)) (drop (groupsSize (take k gs)) t) ≡ drop k gs
+log-rest prev zero gs t e = e
+log-rest prev (suc k) [] t e = e
+log-rest prev (suc k) (g ∷ gs) t e =
+    ap (readLog (lastCsn (csnAfter prev g) (take k gs))) (sym (drop-drop (groupsSize (take k gs)) (groupSize g) t))
+    ∙ log-rest (csnAfter prev g) k gs (drop (groupSize g) t) (log-inv prev t g gs e .1)
+
+-- zeros behind a log change nothing
+log-padding : (prev : ℕ) (t : List ℕ) (n : ℕ) → readLog prev (t ++ replicate n 0) ≡ readLog prev t
+log-padding prev t n =
+    ap (λ (l : List ℕ). readLog prev (l ++ replicate n 0)) (sym (take-length t))
+    ∙ log-torn prev (readLog prev t) t (length t) n refl
+    ∙ fitting-all (length t) (readLog prev t) (log-within prev (readLog prev t) t refl)
+
+zeros-behind : (l : List ℕ) (n : ℕ) → allZero l ≡ true → allZero (l ++ replicate n 0) ≡ true
+zeros-behind [] zero e = refl
+zeros-behind [] (suc n) e = zeros-behind [] n e
+zeros-behind (x ∷ l) n e = rw (and-left (isZero x) (allZero l) e) (zeros-behind l n (and-right (isZero x) (allZero l) e))
+
+-- commit numbers never fall
+group-rises : (prev : ℕ) (g : Group) → wellFormedGroup prev g ≡ true → prev ≤ csnAfter prev g
+group-rises prev (committed id n ws) h = let e = eqb-true n (prev + 1) (and-left (eqb n (prev + 1)) (wellFormedBody id n ws) h) in omega arith
+group-rises prev (aborted id) h = omega arith
+
+log-rises : (prev : ℕ) (gs : List Group) → wellFormedLog prev gs ≡ true → prev ≤ lastCsn prev gs
+log-rises prev [] h = omega arith
+log-rises prev (g ∷ gs) h =
+    let r = group-rises prev g (and-left (wellFormedGroup prev g) (wellFormedLog (csnAfter prev g) gs) h) in
+    omega (arith, r, log-rises (csnAfter prev g) gs (and-right (wellFormedGroup prev g) (wellFormedLog (csnAfter prev g) gs) h))
+
+other-first : (a b c d x y : Bool) → a && b && c && d ≡ true → x ≡ true → y ≡ true → x && y && c && d ≡ true
+other-first a b c d x y e p q = rw (p, q, and-right (a && b) c (and-left (a && b && c) d e)) (and-right (a && b && c) d e)
+
+module _ (s : State) (t : List ℕ) (k : ℕ) where
+  abbrev groups : List Group
+  groups = readLog (s .ondisk .0) t
+
+  abbrev prev : ℕ
+  prev = lastCsn (s .ondisk .0) (firstGroups s t k)
+
+  pub flush-tail : readLog prev (flushedTail s t k) ≡ drop k groups
+  unfolding shifted
+  flush-tail =
+      log-padding prev (drop (firstSize s t k) t) (min (firstSize s t k) (length t)) ∙ log-rest (s .ondisk .0) k groups t refl
+
+  rest-zero : allZero (drop (groupsSize groups) t) ≡ true → allZero (drop (groupsSize (drop k groups)) (flushedTail s t k)) ≡ true
+  unfolding shifted
+  rest-zero h =
+      let n = firstSize s t k in
+      let r = groupsSize (drop k groups) in
+      let z = min n (length t) in
+      let l = log-within prev (drop k groups) (drop n t) (log-rest (s .ondisk .0) k groups t refl) in
+      let e : drop r (drop n t ++ replicate z 0) ≡ drop (groupsSize groups) t ++ replicate z 0 =
+      drop-append-le r (drop n t) (replicate z 0) l
+      ∙ ap (λ (x : List ℕ). x ++ replicate z 0) (drop-drop r n t ∙ ap (λ (j : ℕ). drop j t) (size-split k groups)) in
+      ap allZero e ∙ zeros-behind (drop (groupsSize groups) t) z h
+
+  -- the state and tail that a flush leaves pass number 2
+  pub flush-keeps : Fit s t → Fit (flushedState s t k) (flushedTail s t k)
+  flush-keeps f =
+      let c = eqb (lastCsn (s .ondisk .0) groups) (s .assigned .0) in
+      let z = allZero (drop (groupsSize groups) t) in
+      let last : lastCsn prev (drop k groups) ≡ s .assigned .0 = csn-split k (s .ondisk .0) groups ∙ eqb-true _ _ (and-left c z (f .tail)) in
+      let formed = log-formed prev (drop k groups) (drop (firstSize s t k) t) (log-rest (s .ondisk .0) k groups t refl) in
+      let ordered : prev ≤ s .assigned .0 = omega (arith, last, log-rises prev (drop k groups) formed) in
+      record {
+        recovered = f .recovered;
+        image = other-first (leb (s .logend) 16384) (leb (s .ondisk .0) (s .assigned .0)) (leb (length (outlinesOf s)) 8) (outlinesOk (s .lastid .0) (s .assigned .0) (outlinesOf s)) _ _ (f .image) (le-leb _ _ (flush-room s t k f)) (le-leb _ _ ordered);
+        room = omega (arith, f .room, ap groupsSize flush-tail, size-split k groups);
+        redo = f .redo;
+        tail = rw (flush-tail, eq-eqb _ _ last) (rest-zero (and-right c z (f .tail)));
+      }
+
+-- so a flush that is done can be followed by a call
+pub flush-next : (s : State) (d m t : List ℕ) (k allowed : ℕ) → diskNumber s d m t ≡ 0
+    → diskNumber (flushedState s t k) (apply (take allowed (flushStores s t k)) d) m (flushedTail s t k) ≡ 0
+flush-next s d m t k allowed z =
+    let a = disk-admitted s d m t z in
+    disk-passes (flushedState s t k) (apply (take allowed (flushStores s t k)) d) m (flushedTail s t k)
+    (record {
+      disk = length-apply (take allowed (flushStores s t k)) d ∙ a .disk;
+      memory = a .memory;
+      tail = length-shifted (firstSize s t k) t ∙ a .tail;
+      fits = flush-keeps s t k (a .fits);
+    })

@@ -1,0 +1,112 @@
+-- Calls that store on the disk: stores into a part of it, numbers 1 and 2, and the cases of the outcome.
+use Prim.Native.Nat.{ℕ, zero, suc, _+_, _-_, _≤_, _<_, min}
+use native.Mathlib.Omega.{arith}
+use mathlib.Core.Bool.{not}
+use mathlib.Core.List.{List, [], _∷_, _++_, append-nil}
+use mathlib.Core.Path.{_≡_, refl, sym, ap, ap₂, _∙_}
+use lib.ListN.{length, take, drop, set, replicate, length-drop, take-append-drop, drop-of-length-le}
+use lib.Seq.{take-all, take-set-le, drop-set-add}
+use lib.Dec.{eqb}
+use borrow.Author.Tests.{eq-eqb, ne-eqb, lt-ltb, le-ltb, eqb-true, not-false}
+use Rattle.log.specs.Stores.{Store, store, apply, copies}
+use Rattle.store.specs.declared.State.{State}
+use Rattle.store.specs.declared.stored.Stored.{Stored}
+use Rattle.store.specs.State.{unrecovered}
+use Rattle.store.specs.Answer.{done, cut, refused}
+use Rattle.store.specs.Numbers.{firstNumber, sharedChecks}
+use Rattle.store.specs.Admission.{admission}
+use Rattle.store.specs.Stored.{diskChecks, DiskOutcome, Plan, carriedOut, stored, storedBy}
+use Rattle.store.proofs.Fits.{Fit, unfit-no}
+use Rattle.store.proofs.Checks.{passed}
+use Rattle.store.proofs.Admitting.{Admitted, admitted}
+
+-- ---- stores into the part of a disk from an offset on
+
+-- the same stores at offsets of the whole disk
+abbrev pub moved : ℕ → List Store → List Store
+moved a [] = []
+moved a (store i v ∷ ss) = store (a + i) v ∷ moved a ss
+
+pub copies-moved : (a at : ℕ) (vs : List ℕ) → copies (a + at) vs ≡ moved a (copies at vs)
+copies-moved a at [] = refl
+copies-moved a at (v ∷ vs) =
+    let e : suc (a + at) ≡ a + suc at = omega arith in
+    ap (λ (ss : List Store). store (a + at) v ∷ ss) (ap (λ (j : ℕ). copies j vs) e ∙ copies-moved a (suc at) vs)
+
+take-moved : (n a : ℕ) (ss : List Store) → take n (moved a ss) ≡ moved a (take n ss)
+take-moved zero a ss = refl
+take-moved (suc n) a [] = refl
+take-moved (suc n) a (store i v ∷ ss) = ap (λ (rs : List Store). store (a + i) v ∷ rs) (take-moved n a ss)
+
+apply-moved : (a : ℕ) (ss : List Store) (d : List ℕ) → apply (moved a ss) d ≡ take a d ++ apply ss (drop a d)
+apply-moved a [] d = sym (take-append-drop a d)
+apply-moved a (store i v ∷ ss) d =
+    apply-moved a ss (set d (a + i) v)
+    ∙ ap₂ (λ (x y : List ℕ). x ++ apply ss y) (take-set-le a d (a + i) v (omega arith)) (drop-set-add a d i v)
+
+-- what a call leaves that was lent the part, in terms of the whole disk
+pub part-stored : (a n : ℕ) (ss : List Store) (d ys : List ℕ) → ys ≡ apply (take n ss) (take (length d - a) (drop a d))
+    → take a d ++ (ys ++ drop (length d - a) (drop a d)) ≡ apply (take n (moved a ss)) d
+part-stored a n ss d ys e =
+    let l = length-drop a d in
+    let f : take (length d - a) (drop a d) ≡ drop a d = take-all (length d - a) (drop a d) (omega arith) in
+    let r : drop (length d - a) (drop a d) ≡ [] = drop-of-length-le (drop a d) {i = length d - a} (omega arith) in
+    ap (λ (l : List ℕ). take a d ++ l) (ap₂ _++_ (e ∙ ap (apply (take n ss)) f) r ∙ append-nil (apply (take n ss) (drop a d)))
+    ∙ sym (ap (λ (rs : List Store). apply rs d) (take-moved n a ss) ∙ apply-moved a (take n ss) d)
+
+-- ---- a call that is not refused
+
+pub record DiskAdmitted (s : State) (d m t : List ℕ) : Type 0 where
+  pub disk : length d ≡ 33691
+  pub memory : length m ≡ 4096
+  pub tail : length t ≡ 16384
+  pub fits : Fit s t
+
+module _ (s : State) (d m t : List ℕ) where
+  abbrev pub diskNumber : ℕ
+  diskNumber = firstNumber (diskChecks s (length d) (length m) t)
+
+  pub disk-admitted : diskNumber ≡ 0 → DiskAdmitted s d m t
+  unfolding admission
+  disk-admitted z =
+      let p = passed 1 (not (eqb (length d) 33691)) (sharedChecks s (length m) t) (omega arith) z in
+      let x : Admitted s (length m) t (admission s (length m) t) = admitted s (length m) t (admission s (length m) t) refl (p .1) in
+      record { disk = eqb-true _ _ (not-false _ (p .0)); memory = x .memory; tail = x .tail; fits = x .fits }
+
+  pub disk-passes : DiskAdmitted s d m t → diskNumber ≡ 0
+  disk-passes a = rw (eq-eqb _ _ (a .disk), eq-eqb _ _ (a .memory), eq-eqb _ _ (a .tail), unfit-no s t (a .fits))
+
+  -- ---- the outcome, by the number and the stores allowed
+
+  module _ (p : Plan) (allowed : ℕ) where
+    pub stored-refused : (n : ℕ) → diskNumber ≡ n → (n ≡ 0 → ⊥) → storedBy s d m t p allowed ≡ record { result = stored (refused n) 0 s; disk = d; memory = m; tail = t }
+    unfolding storedBy
+    stored-refused n e h = rw (e, ne-eqb n 0 h)
+
+    pub stored-cut : diskNumber ≡ 0 → allowed < length (p .stores)
+        → storedBy s d m t p allowed
+        ≡ record {
+          result = stored cut (min allowed (length (p .stores))) unrecovered;
+          disk = apply (take allowed (p .stores)) d;
+          memory = replicate 4096 0;
+          tail = replicate 16384 0;
+        }
+    unfolding storedBy carriedOut
+    stored-cut e h = rw (e, lt-ltb _ _ h)
+
+    pub stored-done : diskNumber ≡ 0 → length (p .stores) ≤ allowed
+        → storedBy s d m t p allowed
+        ≡ record {
+          result = stored done (min allowed (length (p .stores))) (p .state);
+          disk = apply (take allowed (p .stores)) d;
+          memory = p .memory;
+          tail = p .tail;
+        }
+    unfolding storedBy carriedOut
+    stored-done e h = rw (e, le-ltb _ _ h)
+
+-- the parts of an outcome x, as a contract asks for them of the definition
+pub leaves : {o x : DiskOutcome Stored} {r : Stored} {m t : List ℕ} → o ≡ x → r ≡ x .result → m ≡ x .memory → t ≡ x .tail
+    → (r ≡ o .result) × ((x .disk ≡ o .disk) × ((m ≡ o .memory) × (t ≡ o .tail)))
+leaves e p q z =
+    (p ∙ ap (λ (y : DiskOutcome Stored). y .result) (sym e), (ap (λ (y : DiskOutcome Stored). y .disk) (sym e), (q ∙ ap (λ (y : DiskOutcome Stored). y .memory) (sym e), z ∙ ap (λ (y : DiskOutcome Stored). y .tail) (sym e))))

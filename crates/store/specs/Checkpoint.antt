@@ -1,0 +1,37 @@
+-- Checkpoint.
+use Prim.Native.Nat.{ℕ}
+use mathlib.Core.Bool.{Bool, cond, _||_}
+use mathlib.Core.List.{List, [], _∷_, _++_}
+use lib.ListN.{getD}
+use lib.Dec.{eqb}
+use Rattle.log.specs.Stores.{Store, store, copies}
+use Rattle.image.specs.declared.Image.{Image}
+use Rattle.image.specs.Format.{encodeImage}
+use Rattle.store.specs.declared.State.{State}
+use Rattle.store.specs.declared.stored.Stored.{Stored}
+use Rattle.store.specs.Stored.{DiskOutcome, Plan, storedBy}
+
+-- what an image has of a state
+abbrev pub imageOf : State → Image
+imageOf s = record { logend = s .logend; ondisk = s .ondisk; assigned = s .assigned; lastid = s .lastid; count = s .count; txs = s .txs }
+
+-- an image's bytes "in order; then the pointer byte"
+abbrev pub slotStores : ℕ → ℕ → List ℕ → List Store
+slotStores at name bytes = copies at bytes ++ (store 0 name ∷ [])
+
+-- "into A if the pointer byte is 0 or 2, else into B": A starts at offset 1, B at 8,654; the pointer byte names A by 1, B by 2
+abbrev pub intoA : ℕ → Bool
+intoA pointer = eqb pointer 0 || eqb pointer 2
+
+abbrev pub imageStores : ℕ → List ℕ → List Store
+imageStores pointer bytes = cond (intoA pointer) (slotStores 1 1 bytes) (slotStores 8654 2 bytes)
+
+-- "only its used bytes": those of the encoding
+abbrev pub checkpointStores : State → List ℕ → List ℕ → List Store
+checkpointStores s d m = imageStores (getD d 0 0) (encodeImage (imageOf s) m)
+
+abbrev pub checkpointPlan : State → List ℕ → List ℕ → List ℕ → Plan
+checkpointPlan s d m t = record { stores = checkpointStores s d m; state = s; memory = m; tail = t }
+
+unfoldable pub checkpointOf : State → List ℕ → List ℕ → List ℕ → ℕ → DiskOutcome Stored
+checkpointOf s d m t allowed = storedBy s d m t (checkpointPlan s d m t) allowed

@@ -1,0 +1,45 @@
+// Calls that store on the disk: numbers 1 and 2 with the disk lent, and what a power cut leaves.
+use crate::Answer;
+use crate::State;
+use log::stores::fill_zero;
+ghost use mathlib.Core.Path.{_≡_};
+ghost use Rattle.store.specs.State.{unrecovered};
+ghost use Rattle.store.specs.Answer.{cut};
+ghost use Rattle.store.specs.Numbers.{firstNumber};
+ghost use Rattle.store.specs.Stored.{diskChecks, stored, zeroed};
+
+// stores is the number of stores made.
+pub struct Stored {
+    pub answer: Answer,
+    pub stores: usize,
+    pub state: State,
+}
+
+// The current failed after so many stores.
+pub fn cut_off(memory: &mut [u8], tail: &mut [u8], stores: usize) -> Stored
+    ensures { λ r. ⌜ r ≡ stored cut stores unrecovered ⌝ }
+    ensures { λ _. ⌜ now (memory .exit) ≡ zeroed (now (memory .entry)) ⌝ }
+    ensures { λ _. ⌜ now (tail .exit) ≡ zeroed (now (tail .entry)) ⌝ }
+{
+    fill_zero(memory);
+    fill_zero(tail);
+    let s = State::unrecovered();
+    Stored {
+        answer: Answer::Cut,
+        stores: stores,
+        state: s,
+    }
+}
+
+impl State {
+    // The number that refuses, 0 for none. disk and memory are the lengths of those lent.
+    pub fn admit_disk(self, disk: usize, memory: usize, tail: &[u8]) -> u8
+        ensures { λ r. ⌜ r ≡ firstNumber (diskChecks self disk memory (now (tail .entry))) ⌝ }
+    {
+        if disk != 33691 {
+            return 1;
+        }
+        let admitted = self.admit(memory, tail);
+        admitted.number
+    }
+}
