@@ -3,12 +3,12 @@ use Prim.Native.Nat.{ℕ, zero, suc, _+_, _-_, _*_, _≤_, _<_}
 use native.Mathlib.Decide.{decLt}
 use native.Mathlib.Omega.{arith}
 use mathlib.Core.Bool.{Bool, true, false, cond, not, _&&_, _||_, or-true, and-false}
-use mathlib.Core.List.{List, [], _∷_, _++_}
+use mathlib.Core.List.{List, _++_}
 use mathlib.Core.Path.{_≡_, refl, sym, ap, ap₂, _∙_, subst}
 use lib.ListN.{length, getD, drop, set}
 use lib.Seq.{getD-set-same, getD-set-other}
 use lib.Dec.{eqb, leb, ltb}
-use borrow.Author.Tests.{eq-eqb, ne-eqb, lt-ltb, leb-true, eqb-true, not-false}
+use borrow.Author.Tests.{eq-eqb, ne-eqb, lt-ltb, leb-true, eqb-true}
 use Rattle.recovery.specs.Group.{lastCsn}
 use Rattle.recovery.specs.Lists.{any}
 use Rattle.log.specs.Log.{readLog}
@@ -23,7 +23,7 @@ use Rattle.store.specs.declared.admit.Measured.{Measured}
 use Rattle.store.specs.declared.admit.Keys.{Keys}
 use Rattle.store.specs.declared.admit.Admission.{Admission}
 use Rattle.store.specs.State.{txAt, txsOf, outlineAt, outlinesOf}
-use Rattle.store.specs.Rules.{distinct, outlinesOk, keepsImageRules, allZero, tailLength, tailOk, roomUsed, unfit, headOk}
+use Rattle.store.specs.Rules.{distinct, outlinesOk, allZero, tailLength, tailOk, roomUsed, unfit, headOk}
 use Rattle.store.specs.Numbers.{Check, firstNumber, sharedChecks}
 use Rattle.store.specs.Admission.{keyAt, measuredIf, measuredTxs, measuredTail, admission}
 use Rattle.store.proofs.Fits.{Fit, fit, unfit-no, running-redo}
@@ -92,9 +92,10 @@ module _ (s : State) where
   txs-room r e o =
       ap (λ (x : Measured). x .room) e ∙ if-room (outlined && every redoOk (txsOf s)) (sumOf roomOf (txsOf s)) (sym (txs-measured r e) ∙ o)
 
-pub any-same : {A : Type 0} (p : A → Bool) (f g : ℕ → A) (k i : ℕ) → ((x : ℕ) → i ≤ x → x < i + k → p (f x) ≡ p (g x)) → any p (upFrom f k i) ≡ any p (upFrom g k i)
-any-same p f g zero i h = refl
-any-same p f g (suc k) i h = ap₂ (λ (a b : Bool). a || b) (h i (omega arith) (omega arith)) (any-same p f g k (suc i) (λ x a b. h x (omega arith) (omega arith)))
+pub any-same : {A B : Type 0} (p : A → Bool) (q : B → Bool) (f : ℕ → A) (g : ℕ → B) (k i : ℕ) → ((x : ℕ) → i ≤ x → x < i + k → p (f x) ≡ q (g x))
+    → any p (upFrom f k i) ≡ any q (upFrom g k i)
+any-same p q f g zero i h = refl
+any-same p q f g (suc k) i h = ap₂ (λ (a b : Bool). a || b) (h i (omega arith) (omega arith)) (any-same p q f g k (suc i) (λ x a b. h x (omega arith) (omega arith)))
 
 -- a turn of the loop that takes the keys
 pub keys-more : (s : State) (ids csns : List ℕ) (i : ℕ) → i < length ids → i < length csns
@@ -110,7 +111,7 @@ keys-more s ids csns i a b e k h =
 pub by-keys : (s : State) (keys : Keys) → ((k : ℕ) → k < 8 → (getD (keys .ids) k 0 ≡ txAt s k .id .0) × (getD (keys .csns) k 0 ≡ txAt s k .csn .0))
     → (id csn k i : ℕ) → i + k ≤ 8 → any (alike id csn) (upFrom (keyAt keys) k i) ≡ any (alike id csn) (upFrom (outlineAt s) k i)
 by-keys s keys e id csn k i h =
-    any-same (alike id csn) (keyAt keys) (outlineAt s) k i
+    any-same (alike id csn) (alike id csn) (keyAt keys) (outlineAt s) k i
     (λ x a b. ap₂ (λ (j m : ℕ). eqb id j || (not (eqb csn 0) && eqb csn m)) (e x (omega arith) .0) (e x (omega arith) .1))
 
 -- a turn of the loop over the transactions

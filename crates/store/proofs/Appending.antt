@@ -1,13 +1,12 @@
 -- A group appended to a log that zeros follow is read after the groups that stood there, and zeros follow it.
-use Prim.Native.Nat.{ℕ, zero, suc, _+_, _-_, _≤_, _<_}
+use Prim.Native.Nat.{ℕ, zero, suc, _+_, _≤_, _<_}
 use native.Mathlib.Omega.{arith}
-use mathlib.Core.Bool.{Bool, true, false, _&&_}
+use mathlib.Core.Bool.{true}
 use mathlib.Core.List.{List, [], _∷_, _++_, append-assoc}
 use mathlib.Core.Option.{Option, none, some}
-use mathlib.Core.Path.{_≡_, refl, sym, ap, ap₂, _∙_}
-use lib.ListN.{length, getD, take, drop, length-drop, length-append}
+use mathlib.Core.Path.{_≡_, refl, sym, ap, _∙_}
+use lib.ListN.{length, getD, take, drop, length-drop}
 use lib.Seq.{sets, sets-eq, getD-take, take-take, take-at, drop-at, drop-drop, length-take-le}
-use lib.Dec.{eqb}
 use borrow.Author.Tests.{eqb-true}
 use Rattle.recovery.specs.Group.{Write, Group, committed, aborted, redoSize, groupSize, groupsSize, csnAfter, lastCsn}
 use Rattle.log.specs.Record.{Record, redo, commit, abort, size, readRedo, readCommit, readAbort, readRecord}
@@ -17,11 +16,9 @@ use Rattle.log.proofs.RecordLaws.{record-cases, redo-ends, commit-ends, abort-e
 use Rattle.log.proofs.GroupLaws.{body-inv, body-intro, group-inv, group-intro, group-none, group-within}
 use Rattle.log.proofs.LogLaws.{log-none, log-more}
 use Rattle.log.proofs.RoundTrip.{length-group, log-after}
-use Rattle.transaction.specs.Lists.{every}
 use Rattle.transaction.proofs.Lists.{and-left, and-right}
 use Rattle.transaction.proofs.Pushed.{drop-take}
 use Rattle.store.specs.Rules.{isZero, allZero}
-use Rattle.store.proofs.Zeros.{log-within}
 
 -- ---- a reading rests on the bytes that it consumes: t has the first n bytes of s
 

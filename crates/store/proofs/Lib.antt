@@ -12,3 +12,5 @@ pub mod Appending
 pub mod Stepping
 pub mod Views
 pub mod Keeping
+pub mod Premises
+pub mod Answers
