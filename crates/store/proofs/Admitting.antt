@@ -23,9 +23,9 @@ use Rattle.store.specs.declared.admit.Measured.{Measured}
 use Rattle.store.specs.declared.admit.Keys.{Keys}
 use Rattle.store.specs.declared.admit.Admission.{Admission}
 use Rattle.store.specs.State.{txAt, txsOf, outlineAt, outlinesOf}
-use Rattle.store.specs.Rules.{distinct, outlinesOk, allZero, tailLength, tailOk, roomUsed, unfit, headOk}
+use Rattle.store.specs.Rules.{distinct, outlinesOk, allZero, tailLength, tailOk, roomUsed, unfit}
 use Rattle.store.specs.Numbers.{Check, firstNumber, sharedChecks}
-use Rattle.store.specs.Admission.{keyAt, measuredIf, measuredTxs, measuredTail, admission}
+use Rattle.store.specs.Admission.{headOk, keyAt, measuredIf, measuredTxs, measuredTail, admission}
 use Rattle.store.proofs.Fits.{Fit, fit, unfit-no, running-redo}
 use Rattle.store.proofs.Checks.{stops, passes}
 

@@ -3,7 +3,7 @@ use Prim.Native.Nat.{ℕ}
 use mathlib.Core.Bool.{Bool, true, false, cond, _&&_}
 use mathlib.Core.List.{List, []}
 use lib.ListN.{getD}
-use lib.Dec.{eqb}
+use lib.Dec.{eqb, leb}
 use Rattle.transaction.specs.Lists.{every, sumOf}
 use Rattle.transaction.specs.View.{Outline, outline}
 use Rattle.transaction.specs.Rules.{redoOk, roomOf}
@@ -14,6 +14,10 @@ use Rattle.store.specs.declared.admit.Admission.{Admission}
 use Rattle.store.specs.State.{txsOf, outlinesOf}
 use Rattle.store.specs.Rules.{outlinesOk, tailLength, tailOk, roomUsed}
 use Rattle.store.specs.Numbers.{firstNumber, sharedChecks}
+
+-- recovered, and the image rules of the counters
+unfoldable pub headOk : Bool → ℕ → ℕ → ℕ → ℕ → Bool
+headOk recovered logEnd ondisk assigned count = recovered && leb logEnd 16384 && leb ondisk assigned && leb count 8
 
 -- what is compared of the transaction in a slot
 abbrev pub keyAt : Keys → ℕ → Outline

@@ -12,8 +12,8 @@ ghost use Rattle.transaction.specs.Lists.{upFrom};
 ghost use Rattle.transaction.specs.View.{outline};
 ghost use Rattle.transaction.specs.Rules.{alike};
 ghost use Rattle.store.specs.State.{txAt};
-ghost use Rattle.store.specs.Rules.{headOk, allZero};
-ghost use Rattle.store.specs.Admission.{keyAt, measuredTxs, measuredTail, admission};
+ghost use Rattle.store.specs.Rules.{allZero};
+ghost use Rattle.store.specs.Admission.{headOk, keyAt, measuredTxs, measuredTail, admission};
 
 // Whether what was looked at keeps its rules, and the log room that it takes.
 pub struct Measured {

@@ -66,7 +66,7 @@ impl Records {
     }
 
     // Whether the other records are as many, with the same ranges one by one.
-    pub fn same_ranges(self, other: Records) -> bool
+    fn same_ranges(self, other: Records) -> bool
         requires { ⌜ self .count ≤ 16 ⌝ }
         ensures { λ r. ⌜ r ≡ sameRanges (rangesOf self) (rangesOf other) ⌝ }
     {
@@ -88,7 +88,7 @@ impl Records {
     }
 
     // Whether a record has a byte in common with the len bytes from addr on.
-    pub fn meets(self, addr: usize, len: usize) -> bool
+    fn meets(self, addr: usize, len: usize) -> bool
         requires { ⌜ (self .count ≤ 16) × (addr ≤ 4096) × (len ≤ 32) ⌝ }
         ensures { λ r. ⌜ r ≡ any (meets addr len) (rangesOf self) ⌝ }
     {
@@ -108,7 +108,7 @@ impl Records {
     }
 
     // The bytes that these records take in the log as redo records.
-    pub fn size(self) -> usize
+    fn size(self) -> usize
         requires { ⌜ recordsOk (rangesOf self) ≡ true ⌝ }
         ensures { λ r. ⌜ r ≡ rangesSize (rangesOf self) ⌝ }
     {
