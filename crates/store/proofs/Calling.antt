@@ -1,13 +1,13 @@
 -- The cases of the calls' outcomes, and what the steps may rely on once nothing refuses.
 use Prim.Native.Nat.{ℕ, _+_, _≤_, _<_}
 use native.Mathlib.Omega.{arith}
-use mathlib.Core.Bool.{Bool, true, false, cond}
-use mathlib.Core.List.{List, [], _∷_, _++_}
-use mathlib.Core.Path.{_≡_, refl, sym, ap, _∙_, subst}
+use mathlib.Core.Bool.{true}
+use mathlib.Core.List.{List, [], _∷_}
+use mathlib.Core.Path.{_≡_, sym, ap, _∙_, subst}
 use lib.ListN.{length, take, drop}
 use lib.Seq.{sets}
 use lib.Dec.{eqb, ltb}
-use borrow.Author.Tests.{eq-eqb, ne-eqb, eqb-false, ltb-false}
+use borrow.Author.Tests.{eq-eqb, ne-eqb, eqb-false}
 use Rattle.recovery.specs.Group.{committed, aborted}
 use Rattle.recovery.specs.Lists.{any}
 use Rattle.recovery.specs.Replay.{undoAll, layBytes}
@@ -19,15 +19,12 @@ use Rattle.transaction.specs.Rules.{recordsOk, heldAgainst, rangesSize, roomOf}
 use Rattle.transaction.proofs.Lists.{length-up}
 use Rattle.transaction.proofs.Ranges.{counted}
 use Rattle.store.specs.declared.State.{State}
-use Rattle.store.specs.declared.call.Begun.{Begun}
-use Rattle.store.specs.declared.call.Precommitted.{Precommitted}
-use Rattle.store.specs.declared.call.Returned.{Returned}
 use Rattle.store.specs.State.{txAt, txsOf, slotOf}
 use Rattle.store.specs.Answer.{done, refused, answer}
-use Rattle.store.specs.Rules.{tailLength, roomUsed}
-use Rattle.store.specs.Numbers.{Check, check, firstNumber, txOf, check8, check9, check10, writeChecks}
+use Rattle.store.specs.Rules.{tailLength}
+use Rattle.store.specs.Numbers.{check, firstNumber, txOf, check8, check9, check10, writeChecks}
 use Rattle.store.specs.Steps.{begunState, writtenState, precommittedState, droppedState}
-use Rattle.store.specs.Calls.{Outcome, refusedReturn, doneReturn, beginNumber, beginOf, writeNumber, writeOf, readNumber, readOf, readAnswerOf, appended, precommitNumber, precommitOf, abortNumber, abortOf, settleNumber, settleOf}
+use Rattle.store.specs.Calls.{refusedReturn, doneReturn, beginNumber, beginOf, writeNumber, writeOf, readNumber, readOf, readAnswerOf, appended, precommitNumber, precommitOf, abortNumber, abortOf, settleNumber, settleOf}
 use Rattle.store.proofs.Checks.{passed}
 use Rattle.store.proofs.Fits.{Fit, image-count, undo-at, status-at, redo-at, room-at}
 use Rattle.store.proofs.Choosing.{Running, running, ranged-by-8}

@@ -1,9 +1,9 @@
 -- Laws of checks in order: a refusal of the first ones is the whole list's, and what holds where none refuses.
-use Prim.Native.Nat.{ℕ, suc, _+_, _≤_, _<_}
+use Prim.Native.Nat.{ℕ, _<_}
 use native.Mathlib.Omega.{arith}
-use mathlib.Core.Bool.{Bool, true, false, cond}
+use mathlib.Core.Bool.{Bool, true, false}
 use mathlib.Core.List.{List, [], _∷_, _++_}
-use mathlib.Core.Path.{_≡_, refl, sym, ap, _∙_}
+use mathlib.Core.Path.{_≡_, refl}
 use Rattle.store.specs.Numbers.{Check, check, firstNumber}
 
 abbrev pub Positive : List Check → Type 0

@@ -1,8 +1,8 @@
 -- The cases of a call's own refusals, each from the tests that lead there.
-use Prim.Native.Nat.{ℕ, _+_, _-_, _≤_, _<_}
+use Prim.Native.Nat.{ℕ, _+_, _≤_, _<_}
 use native.Mathlib.Omega.{arith}
 use mathlib.Core.Bool.{Bool, true, false, cond, not, _&&_, _||_}
-use mathlib.Core.List.{List, [], _∷_, _++_}
+use mathlib.Core.List.{List, _∷_, _++_}
 use mathlib.Core.Path.{_≡_, refl, sym, ap, _∙_}
 use lib.Dec.{eqb, leb, ltb}
 use native.Mathlib.Decide.{decLe, decLt}
@@ -13,7 +13,7 @@ use Rattle.transaction.proofs.Ranges.{in-range}
 use Rattle.store.specs.declared.State.{State}
 use Rattle.store.specs.State.{txAt, txsOf, hasId, slotOf}
 use Rattle.store.specs.declared.choose.Choice.{Choice}
-use Rattle.store.specs.Numbers.{Check, check, firstNumber, refusal, choice, txOf, check6, check7, check8}
+use Rattle.store.specs.Numbers.{Check, firstNumber, refusal, choice, txOf, check6, check7, check8}
 use Rattle.store.proofs.Checks.{Positive, stops, passes, passed}
 use Rattle.store.proofs.Slots.{slot as find}
 

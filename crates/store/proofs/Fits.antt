@@ -1,21 +1,21 @@
 -- What number 2 says where it does not refuse, as a whole and of each transaction.
-use Prim.Native.Nat.{ℕ, zero, suc, _+_, _-_, _*_, _≤_, _<_}
+use Prim.Native.Nat.{ℕ, zero, suc, _+_, _-_, _≤_, _<_}
 use native.Mathlib.Omega.{arith}
 use mathlib.Core.Bool.{Bool, true, false, cond, not, _&&_, _||_}
-use mathlib.Core.List.{List, [], _∷_}
-use mathlib.Core.Path.{_≡_, refl, sym, ap, _∙_}
+use mathlib.Core.List.{List}
+use mathlib.Core.Path.{_≡_, refl}
 use lib.ListN.{length}
 use lib.Dec.{eqb, leb, ltb}
-use borrow.Author.Tests.{leb-true, ltb-false, le-ltb, eqb-true, eq-eqb, ne-eqb, not-false}
+use borrow.Author.Tests.{leb-true, ltb-false, le-ltb, eqb-true, eq-eqb, not-false}
 use Rattle.transaction.specs.declared.Tx.{Tx}
 use Rattle.transaction.specs.Lists.{upFrom, every, sumOf}
 use Rattle.transaction.specs.View.{rangesOf}
-use Rattle.transaction.specs.Rules.{recordsOk, headOk, outlineOk, sameRanges, redoOk, roomOf}
+use Rattle.transaction.specs.Rules.{recordsOk, headOk, outlineOk, redoOk, roomOf}
 use Rattle.transaction.proofs.Lists.{and-left, and-right, every-at, length-up}
 use Rattle.transaction.proofs.Ranges.{equal-ranges}
 use Rattle.store.specs.declared.State.{State}
 use Rattle.store.specs.State.{txAt, txsOf, outlineAt, outlinesOf}
-use Rattle.store.specs.Rules.{distinct, outlinesOk, imageOk, keepsImageRules, tailOk, roomUsed, unfit}
+use Rattle.store.specs.Rules.{distinct, outlinesOk, keepsImageRules, tailOk, roomUsed, unfit}
 
 pub or-left : (a b : Bool) → a || b ≡ false → a ≡ false
 or-left true b e = e

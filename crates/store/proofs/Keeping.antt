@@ -10,24 +10,23 @@ use mathlib.Core.Path.{_≡_, refl, sym, ap, ap₂, _∙_, subst}
 use lib.ListN.{length, take, drop, length-drop}
 use lib.Seq.{length-take-le}
 use lib.Dec.{eqb, leb, ltb}
-use borrow.Author.Tests.{eqb-true, eqb-false, eq-eqb, ne-eqb, le-leb, leb-true, ltb-false, le-ltb, not-false, not-true}
-use Rattle.recovery.specs.Group.{Group, committed, aborted, groupSize, groupsSize, csnAfter, lastCsn}
+use borrow.Author.Tests.{eqb-true, eq-eqb, ne-eqb, le-leb, leb-true, ltb-false, not-true}
+use Rattle.recovery.specs.Group.{aborted, groupSize}
 use Rattle.recovery.specs.Lists.{any}
 use Rattle.log.specs.declared.TxId.{TxId}
 use Rattle.log.specs.declared.Csn.{Csn}
 use Rattle.log.specs.Record.{inRange}
-use Rattle.log.specs.Log.{readLog}
 use Rattle.transaction.specs.declared.Tx.{Tx}
 use Rattle.transaction.specs.Lists.{upFrom, every, sumOf}
 use Rattle.transaction.specs.Flat.{emptyRecords}
-use Rattle.transaction.specs.View.{Range, range, rangeAt, rangesOf, Outline, outline, outlineOf, writesOf}
-use Rattle.transaction.specs.Rules.{rangeOk, recordsOk, heldAgainst, headOk, outlineOk, alike, sameRanges, redoOk, rangesSize, roomOf}
+use Rattle.transaction.specs.View.{Range, range, rangeAt, rangesOf, Outline, outline, outlineOf}
+use Rattle.transaction.specs.Rules.{rangeOk, recordsOk, heldAgainst, headOk, outlineOk, sameRanges, redoOk, rangesSize, roomOf}
 use Rattle.transaction.specs.Steps.{freshTx, written, precommitted}
 use Rattle.transaction.proofs.Lists.{and-left, and-right, every-at, length-up, up-snoc, up-same}
 use Rattle.transaction.proofs.Pushed.{pushed-ranges, one-more, ranges-self, size-snoc}
 use Rattle.store.specs.declared.State.{State}
 use Rattle.store.specs.State.{txAt, txsOf, outlineAt, outlinesOf, slotOf}
-use Rattle.store.specs.Rules.{alikeTo, distinct, keepsImageRules, allZero, tailLength, tailOk, roomUsed, unfit}
+use Rattle.store.specs.Rules.{alikeTo, distinct, keepsImageRules, roomUsed, unfit}
 use Rattle.store.specs.declared.call.Begun.{Begun}
 use Rattle.store.specs.declared.call.Precommitted.{Precommitted}
 use Rattle.store.specs.declared.call.Returned.{Returned}
@@ -36,9 +35,9 @@ use Rattle.store.specs.Calls.{Outcome, appended, beginNumber, beginOf, w
 use Rattle.store.proofs.Checks.{passed}
 use Rattle.store.proofs.Fits.{or-left, or-right, Fit, unfit-no, image-logend, image-ordered, image-count, image-distinct, image-at, status-at, redo-at}
 use Rattle.store.proofs.Choosing.{Running, running, listed-slot, ranged-by-8}
-use Rattle.store.proofs.Calling.{Usable, usable, Writable, writable, begin-done, write-done, precommit-done, abort-done, settle-done}
+use Rattle.store.proofs.Calling.{usable, Writable, writable, begin-done, write-done, precommit-done, abort-done, settle-done}
 use Rattle.store.proofs.Appending.{appended-size, appended-csn, appended-zeros}
-use Rattle.store.proofs.Views.{Accepted, accepted, begin-free, commitOf, commit-size, commit-appends, abort-appends, tail-csn, tail-zeros}
+use Rattle.store.proofs.Views.{accepted, begin-free, commitOf, commit-size, commit-appends, abort-appends, tail-csn, tail-zeros}
 use Rattle.store.proofs.Positions.{Changed, Dropped, every-intro, sum-changed, sum-dropped}
 use Rattle.store.proofs.Stepping.{SizedTx, SizedState, same-or-other, begun-slot, begun-sized, written-slot, written-sized, precommitted-slot, precommitted-sized, dropped-slot, dropped-sized}
 use Rattle.store.specs.Steps.{begunState, writtenState, precommittedState, droppedState}

@@ -15,3 +15,5 @@ pub mod Keeping
 pub mod Storing
 pub mod Flushing
 pub mod Checkpointing
+pub mod Premises
+pub mod Answers

@@ -3,13 +3,13 @@ use Prim.Native.Nat.{ℕ, zero, suc, _+_, _-_, _≤_, _<_}
 use native.Mathlib.Omega.{arith}
 use native.Mathlib.Numerals.{add-one}
 use mathlib.Core.Bool.{Bool, true, false, cond, _||_}
-use mathlib.Core.List.{List, [], _∷_, map}
+use mathlib.Core.List.{List, map}
 use mathlib.Core.Path.{_≡_, refl, sym, ap, _∙_}
 use lib.ListN.{length, length-map}
 use Rattle.recovery.specs.Lists.{any}
 use Rattle.transaction.specs.declared.Tx.{Tx}
 use Rattle.transaction.specs.Lists.{upFrom}
-use Rattle.transaction.proofs.Lists.{up-turn, length-up}
+use Rattle.transaction.proofs.Lists.{up-turn}
 use Rattle.store.specs.declared.State.{State}
 use Rattle.store.specs.State.{txAt, txsOf, hasId, slotIn, slotOf, withTxs}
 

@@ -1,17 +1,16 @@
 -- The steps slot by slot, and the lengths of the arrays, which every value of the code has, after each step.
-use Prim.Native.Nat.{ℕ, zero, suc, _+_, _-_, _≤_, _<_}
+use Prim.Native.Nat.{ℕ, _+_, _-_, _≤_, _<_}
 use native.Mathlib.Decide.{decLt}
 use native.Mathlib.Omega.{arith}
 use mathlib.Core.Bool.{Bool, true, false}
-use mathlib.Core.List.{List, [], _∷_, _++_}
+use mathlib.Core.List.{List, _∷_, _++_}
 use mathlib.Core.Path.{_≡_, refl, sym, ap, _∙_, subst}
 use lib.ListN.{length, getD, take, drop, set, length-set, length-append, length-drop, List·getD-append}
 use lib.Seq.{length-take-le, getD-take, getD-drop, getD-append-add, getD-set-same, getD-set-other}
 use lib.Dec.{eqb}
 use borrow.Author.Tests.{eqb-true, eqb-false}
-use Rattle.log.specs.declared.Csn.{Csn}
 use Rattle.transaction.specs.declared.Tx.{Tx}
-use Rattle.transaction.specs.Flat.{emptyRecords, emptyTx, noTx}
+use Rattle.transaction.specs.Flat.{emptyTx, noTx}
 use Rattle.transaction.specs.Steps.{freshTx, written, precommitted}
 use Rattle.transaction.proofs.Pushed.{Sized, empty-sized, push-sized}
 use Rattle.store.specs.declared.State.{State}

@@ -3,20 +3,19 @@ use Prim.Native.Nat.{ℕ, zero, suc, _+_, _-_, _≤_, _<_}
 use native.Mathlib.Nat.{zero-add}
 use native.Mathlib.Numerals.{add-one}
 use native.Mathlib.Omega.{arith}
-use mathlib.Core.Bool.{Bool, true, false, cond, not, _&&_, _||_}
+use mathlib.Core.Bool.{true, false, not, _&&_, _||_}
 use mathlib.Core.List.{List, [], _∷_, _++_}
 use mathlib.Core.Option.{some}
-use mathlib.Core.Path.{_≡_, refl, sym, ap, ap₂, _∙_, subst}
-use lib.ListN.{length, getD, take, drop, length-take}
+use mathlib.Core.Path.{_≡_, refl, sym, ap, ap₂, _∙_}
+use lib.ListN.{length, take, drop, length-take}
 use lib.Seq.{sets}
 use lib.Dec.{eqb, leb, ltb}
 use borrow.Author.Tests.{eqb-true, eqb-false, eq-eqb, ne-eqb, le-leb, leb-true, ltb-false, not-false}
-use Rattle.recovery.specs.Group.{Write, Group, committed, aborted, groupSize, groupsSize, redoSize, lastCsn}
+use Rattle.recovery.specs.Group.{Write, Group, committed, aborted, groupSize, lastCsn}
 use Rattle.recovery.specs.Transaction.{Tx as Transaction, lookup, edit, remove}
-use Rattle.recovery.specs.Machine.{Live, newTx, oldBytes, withWrite, inCommit, afterBegin, afterWrite, afterPrecommit, afterAbort, afterSettle}
+use Rattle.recovery.specs.Machine.{Live, newTx, withWrite, inCommit, afterBegin, afterWrite, afterPrecommit, afterAbort, afterSettle}
 use Rattle.recovery.specs.Replay.{undoAll, layBytes}
 use Rattle.log.specs.declared.TxId.{TxId}
-use Rattle.log.specs.Record.{inRange}
 use Rattle.log.specs.Flat.{writesFrom}
 use Rattle.log.specs.Group.{wellFormedBody, wellFormedGroup}
 use Rattle.log.specs.Log.{readLog}
@@ -45,7 +44,7 @@ use Rattle.store.proofs.Slots.{slot}
 use Rattle.store.proofs.Checks.{passed}
 use Rattle.store.proofs.Fits.{Fit, fit, image-count, image-at}
 use Rattle.store.proofs.Choosing.{Running, running, listed-slot}
-use Rattle.store.proofs.Calling.{Usable, usable, Writable, writable, begin-done, write-done, precommit-done, abort-done, settle-done}
+use Rattle.store.proofs.Calling.{usable, writable, begin-done, write-done, precommit-done, abort-done, settle-done}
 use Rattle.store.proofs.Positions.{Changed, Dropped, First, found, edited, removed}
 use Rattle.store.proofs.Appending.{appended-log}
 use Rattle.store.proofs.Stepping.{SizedTx, SizedState, begun-slot, written-slot, precommitted-slot, dropped-slot}

@@ -1,23 +1,22 @@
 -- An or of bytes is 0 exactly if all are; where a log ends, within its slice.
-use Prim.Native.Nat.{ℕ, zero, suc, _+_, _-_, _≤_, _<_}
+use Prim.Native.Nat.{ℕ, zero, suc, _+_, _≤_, _<_}
 use native.Mathlib.Omega.{arith}
 use native.Mathlib.Numerals.{add-one}
 use mathlib.Core.Bool.{Bool, true, false, _&&_, and-assoc}
-use mathlib.Core.List.{List, [], _∷_}
+use mathlib.Core.List.{List}
 use mathlib.Core.Option.{Option, none, some}
-use mathlib.Core.Path.{_≡_, refl, sym, ap, _∙_}
-use lib.Bits.{bitOr, bitAnd, or-add-and, and-le-l, and-le-r, or-zero-l}
+use mathlib.Core.Path.{_≡_, refl, sym, ap}
+use lib.Bits.{bitOr, or-add-and, and-le-r, or-zero-l}
 use lib.ListN.{length, getD, drop, length-drop}
 use lib.Seq.{drop-cons}
 use lib.Dec.{eqb}
-use borrow.Author.Tests.{eq-eqb, ne-eqb, eqb-true, eqb-false}
+use borrow.Author.Tests.{ne-eqb, eqb-true, eqb-false}
 use Rattle.recovery.specs.Group.{Group, groupSize, groupsSize, csnAfter}
 use Rattle.log.specs.Group.{readGroup}
 use Rattle.log.specs.Log.{readLog}
 use Rattle.log.proofs.GroupLaws.{group-within}
 use Rattle.log.proofs.LogLaws.{log-none, log-more}
-use Rattle.transaction.specs.Lists.{every}
-use Rattle.store.specs.Rules.{isZero, allZero}
+use Rattle.store.specs.Rules.{allZero}
 
 or-is-zero : (a b : ℕ) → eqb (bitOr a b) 0 ≡ eqb a 0 && eqb b 0
 or-is-zero a b = go (eqb a 0) (eqb b 0) refl refl

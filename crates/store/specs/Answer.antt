@@ -1,7 +1,5 @@
 -- What each case of the enum `Answer` says in document 01's words.
 use Prim.Native.Nat.{ℕ}
-use mathlib.Core.Bool.{cond}
-use lib.Dec.{eqb}
 use Rattle.store.specs.declared.Answer.{Answer}
 use Rattle.store.specs.declared.Answer.the-variants.{Done, Cut, Refused}
 

@@ -65,7 +65,3 @@ unfit s tail =
     || ltb 16384 (roomUsed s tail)
     || not (every redoOk (txsOf s))
     || not (tailOk (s .ondisk .0) (s .assigned .0) tail)
-
--- the part of the rules that looks at the counters alone
-unfoldable pub headOk : Bool → ℕ → ℕ → ℕ → ℕ → Bool
-headOk recovered logEnd ondisk assigned count = recovered && leb logEnd 16384 && leb ondisk assigned && leb count 8

@@ -27,7 +27,7 @@ fn refuse(number: u8) -> Choice
 }
 
 // Numbers 11, 12 and 13.
-pub fn begin_number(count: u8, last: TxId, room: usize) -> u8
+pub(crate) fn begin_number(count: u8, last: TxId, room: usize) -> u8
     requires { ⌜ room ≤ 16384 ⌝ }
     ensures { λ r. ⌜ r ≡ firstNumber (beginChecks count (last .0) room) ⌝ }
 {
@@ -78,7 +78,7 @@ impl State {
     }
 
     // Numbers 6 and 7.
-    pub fn choose_running(self, id: TxId) -> Choice
+    pub(crate) fn choose_running(self, id: TxId) -> Choice
         requires { ⌜ keepsImageRules self ≡ true ⌝ }
         ensures { λ r. ⌜ r ≡ choice (abortChecks self (id .0)) (slotOf self (id .0)) ⌝ }
     {
@@ -96,7 +96,7 @@ impl State {
     }
 
     // Numbers 6, 7, 8 and 9.
-    pub fn choose_read(self, id: TxId, addr: usize, len: usize) -> Choice
+    pub(crate) fn choose_read(self, id: TxId, addr: usize, len: usize) -> Choice
         requires { ⌜ keepsImageRules self ≡ true ⌝ }
         ensures { λ r. ⌜ r ≡ choice (readChecks self (id .0) addr len) (slotOf self (id .0)) ⌝ }
     {
@@ -114,7 +114,7 @@ impl State {
     }
 
     // Numbers 6 to 10 and 13.
-    pub fn choose_write(self, room: usize, id: TxId, addr: usize, len: usize) -> Choice
+    pub(crate) fn choose_write(self, room: usize, id: TxId, addr: usize, len: usize) -> Choice
         requires { ⌜ (keepsImageRules self ≡ true) × (room ≤ 16384) ⌝ }
         ensures { λ r. ⌜ r ≡ choice (writeChecks self room (id .0) addr len) (slotOf self (id .0)) ⌝ }
     {
@@ -133,7 +133,7 @@ impl State {
     }
 
     // Numbers 6, 7 and 12.
-    pub fn choose_precommit(self, id: TxId) -> Choice
+    pub(crate) fn choose_precommit(self, id: TxId) -> Choice
         requires { ⌜ keepsImageRules self ≡ true ⌝ }
         ensures { λ r. ⌜ r ≡ choice (precommitChecks self (id .0)) (slotOf self (id .0)) ⌝ }
     {
@@ -148,7 +148,7 @@ impl State {
     }
 
     // Numbers 6 and 14.
-    pub fn choose_settle(self, id: TxId) -> Choice
+    pub(crate) fn choose_settle(self, id: TxId) -> Choice
         requires { ⌜ keepsImageRules self ≡ true ⌝ }
         ensures { λ r. ⌜ r ≡ choice (settleChecks self (id .0)) (slotOf self (id .0)) ⌝ }
     {

@@ -19,7 +19,7 @@ ghost use Rattle.store.specs.State.{txAt};
 ghost use Rattle.store.specs.Steps.{begunState, writtenState, precommittedState, droppedState};
 
 impl State {
-    pub fn begin_step(mut self) -> Self
+    pub(crate) fn begin_step(mut self) -> Self
         requires { ⌜ (self .count < 8) × (self .lastid .0 < 65535) ⌝ }
         ensures { λ r. ⌜ r ≡ begunState self ⌝ }
     {
@@ -32,7 +32,13 @@ impl State {
         self
     }
 
-    pub fn write_step(mut self, memory: &mut [u8], slot: usize, addr: usize, bytes: &[u8]) -> Self
+    pub(crate) fn write_step(
+        mut self,
+        memory: &mut [u8],
+        slot: usize,
+        addr: usize,
+        bytes: &[u8],
+    ) -> Self
         requires { ⌜ (slot < 8) × (length (now memory) ≡ 4096) × (length (now bytes) ≤ 32) × (addr + length (now bytes) ≤ 4096) ⌝ }
         requires { ⌜ (txAt self slot .undo .count < 16) × (txAt self slot .redo .count < 16) ⌝ }
         ensures { λ r. ⌜ r ≡ writtenState self slot (now (memory .entry)) addr (now (bytes .entry)) ⌝ }
@@ -46,7 +52,7 @@ impl State {
         self
     }
 
-    pub fn precommit_step(mut self, tail: &mut [u8], end: usize, slot: usize) -> Self
+    pub(crate) fn precommit_step(mut self, tail: &mut [u8], end: usize, slot: usize) -> Self
         requires { ⌜ (slot < 8) × (self .assigned .0 < 4294967295) ⌝ }
         requires { ⌜ (recordsOk (rangesOf (txAt self slot .redo)) ≡ true) × (end + rangesSize (rangesOf (txAt self slot .redo)) + 8 ≤ length (now tail)) ⌝ }
         ensures { λ r. ⌜ r ≡ precommittedState self slot ⌝ }
@@ -62,7 +68,7 @@ impl State {
     }
 
     // Takes the transaction of a slot out of the list: the later ones move down, and the slot that falls free is all zero.
-    pub fn drop_step(mut self, slot: usize) -> Self
+    pub(crate) fn drop_step(mut self, slot: usize) -> Self
         requires { ⌜ (slot < self .count) × (self .count ≤ 8) ⌝ }
         ensures { λ r. ⌜ r ≡ droppedState self slot ⌝ }
     {
@@ -79,7 +85,13 @@ impl State {
         self
     }
 
-    pub fn abort_step(self, memory: &mut [u8], tail: &mut [u8], end: usize, slot: usize) -> Self
+    pub(crate) fn abort_step(
+        self,
+        memory: &mut [u8],
+        tail: &mut [u8],
+        end: usize,
+        slot: usize,
+    ) -> Self
         requires { ⌜ (slot < self .count) × (self .count ≤ 8) × (length (now memory) ≡ 4096) ⌝ }
         requires { ⌜ (recordsOk (rangesOf (txAt self slot .undo)) ≡ true) × (end + 4 ≤ length (now tail)) ⌝ }
         ensures { λ r. ⌜ r ≡ droppedState self slot ⌝ }

@@ -3,3 +3,4 @@ pub mod Lists
 pub mod Ranges
 pub mod Writes
 pub mod Pushed
+pub mod Held

@@ -3,23 +3,22 @@ use Prim.Native.Nat.{ℕ, zero, suc, _+_, _*_, _≤_, _<_}
 use native.Mathlib.Nat.{zero-add, suc-add}
 use native.Mathlib.Numerals.{add-one}
 use native.Mathlib.Omega.{arith}
-use mathlib.Core.Bool.{Bool, true, false, _&&_}
+use mathlib.Core.Bool.{true}
 use mathlib.Core.List.{List, [], _∷_, _++_, append-assoc}
 use mathlib.Core.Path.{_≡_, refl, sym, ap, ap₂, _∙_}
 use lib.ListN.{length, getD, take, drop, set, length-set, length-append, length-replicate}
 use lib.Seq.{sets, sets-eq, take-nil, take-set-le, take-at, drop-at, length-take-le, length-sets, getD-set-same, getD-set-other}
-use lib.Dec.{eqb, leb}
 use borrow.Author.Tests.{eq-eqb, le-leb}
 use Rattle.recovery.specs.Group.{Write}
 use Rattle.log.specs.Record.{inRange}
 use Rattle.log.specs.Flat.{writeAt}
 use Rattle.transaction.specs.declared.Records.{Records}
-use Rattle.transaction.specs.Lists.{upFrom, every, sumOf}
+use Rattle.transaction.specs.Lists.{upFrom, every}
 use Rattle.transaction.specs.Flat.{emptyRecords}
 use Rattle.transaction.specs.View.{Range, range, rangeAt, rangesOf, writesOf}
-use Rattle.transaction.specs.Rules.{rangeOk, recordsOk, sameRange, sameRanges, rangeSize, rangesSize}
+use Rattle.transaction.specs.Rules.{rangeOk, recordsOk, sameRange, sameRanges, rangesSize}
 use Rattle.transaction.specs.Steps.{pushed}
-use Rattle.transaction.proofs.Lists.{up-snoc, up-same, length-up, and-left, and-right}
+use Rattle.transaction.proofs.Lists.{up-snoc, up-same, and-left, and-right}
 use Rattle.transaction.proofs.Writes.{writes-up}
 
 -- the arrays' lengths, which every value of the code has

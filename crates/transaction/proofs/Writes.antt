@@ -4,7 +4,7 @@ use native.Mathlib.Omega.{arith}
 use mathlib.Core.List.{List, [], _∷_, _++_}
 use mathlib.Core.Path.{_≡_, refl, sym, ap, ap₂, _∙_}
 use lib.ListN.{length, getD, take, drop, length-drop}
-use lib.Seq.{sets, length-take-le}
+use lib.Seq.{length-take-le}
 use Rattle.recovery.specs.Group.{Write, redoSize}
 use Rattle.recovery.specs.Replay.{undoAll, layBytes}
 use Rattle.log.specs.Flat.{writeAt, writesFrom}

@@ -15,7 +15,7 @@ ghost use Rattle.recovery.specs.Replay.{undoAll, layBytes};
 ghost use Rattle.log.specs.Group.{encodeGroup};
 ghost use Rattle.transaction.specs.Flat.{emptyRecords, emptyTx};
 ghost use Rattle.transaction.specs.View.{rangesOf, writesOf, outlineOf};
-ghost use Rattle.transaction.specs.Rules.{recordsOk, headOk, outlineOk, alike, sameRanges, redoOk, meets, heldAgainst, rangesSize, roomOf};
+ghost use Rattle.transaction.specs.Rules.{recordsOk, headOk, outlineOk, sameRanges, redoOk, meets, heldAgainst, rangesSize, roomOf};
 ghost use Rattle.transaction.specs.Steps.{pushed, freshTx, written, precommitted};
 
 // Undo or redo records, oldest first: the i-th has the len[i] bytes from 32 * i on.
@@ -66,7 +66,7 @@ impl Records {
     }
 
     // Whether the other records are as many, with the same ranges one by one.
-    pub fn same_ranges(self, other: Records) -> bool
+    fn same_ranges(self, other: Records) -> bool
         requires { ⌜ self .count ≤ 16 ⌝ }
         ensures { λ r. ⌜ r ≡ sameRanges (rangesOf self) (rangesOf other) ⌝ }
     {
@@ -88,7 +88,7 @@ impl Records {
     }
 
     // Whether a record has a byte in common with the len bytes from addr on.
-    pub fn meets(self, addr: usize, len: usize) -> bool
+    fn meets(self, addr: usize, len: usize) -> bool
         requires { ⌜ (self .count ≤ 16) × (addr ≤ 4096) × (len ≤ 32) ⌝ }
         ensures { λ r. ⌜ r ≡ any (meets addr len) (rangesOf self) ⌝ }
     {
@@ -108,7 +108,7 @@ impl Records {
     }
 
     // The bytes that these records take in the log as redo records.
-    pub fn size(self) -> usize
+    fn size(self) -> usize
         requires { ⌜ recordsOk (rangesOf self) ≡ true ⌝ }
         ensures { λ r. ⌜ r ≡ rangesSize (rangesOf self) ⌝ }
     {
@@ -225,19 +225,6 @@ impl Tx {
         }
         let undo = self.undo;
         undo.same_ranges(self.redo)
-    }
-
-    // Whether it has this id, or this commit number where that is one.
-    pub fn alike(self, id: TxId, csn: Csn) -> bool
-        ensures { λ r. ⌜ r ≡ alike (id .0) (csn .0) (outlineOf self) ⌝ }
-    {
-        if id.0 == self.id.0 {
-            return true;
-        }
-        if csn.0 == 0 {
-            return false;
-        }
-        csn.0 == self.csn.0
     }
 
     // The log room that it has reserved.

@@ -1,17 +1,17 @@
 use borrow.Author.Needs.{needs}
-use Prim.Native.Nat.{ℕ, _+_, _-_, _*_, _≤_, _<_}
+use Prim.Native.Nat.{ℕ, _≤_}
 use native.Mathlib.Omega.{arith}
-use mathlib.Core.Bool.{Bool, true, _&&_}
+use mathlib.Core.Bool.{true, _&&_}
 use mathlib.Core.List.{List}
-use mathlib.Core.Path.{_≡_, sym, ap, ap₂, _∙_}
+use mathlib.Core.Path.{_≡_, sym, ap₂, _∙_}
 use lib.ListN.{length}
 use borrow.Author.Tests.{not-true, not-false}
 use Rattle.transaction.specs.Lists.{every, sumOf}
 use Rattle.transaction.specs.Rules.{redoOk, roomOf}
 use Rattle.store.specs.declared.State.{State}
 use Rattle.store.specs.State.{txsOf, outlinesOf}
-use Rattle.store.specs.Rules.{headOk, outlinesOk, tailLength, tailOk, unfit}
-use Rattle.store.specs.Admission.{admission}
+use Rattle.store.specs.Rules.{outlinesOk, tailLength, tailOk, unfit}
+use Rattle.store.specs.Admission.{headOk, admission}
 use Rattle.store.proofs.Zeros.{log-within}
 use Rattle.store.proofs.Admitting.{refusedBy, head-count, unfit-head, unfit-txs, unfit-tail, unfit-room, unfit-none, txs-measured, txs-room, tail-measured, tail-room, reserved-bound, admit-memory, admit-tail, admit-unfit, admit-fit}
 use Rattle.store.proofs.State.admit.Statement.{statement}

@@ -2,14 +2,14 @@ use borrow.Author.Needs.{needs}
 use Prim.Native.Nat.{ℕ, _+_, _≤_, _<_}
 use native.Mathlib.Omega.{arith}
 use mathlib.Core.List.{[], _∷_}
-use mathlib.Core.Path.{_≡_, refl, sym, ap, _∙_}
+use mathlib.Core.Path.{_≡_, sym, ap, _∙_}
 use lib.Dec.{ltb}
 use borrow.Author.Tests.{eq-eqb, ne-eqb, lt-ltb, le-ltb}
 use Rattle.store.specs.declared.choose.Choice.{Choice}
 use Rattle.store.specs.State.{txAt, slotOf}
 use Rattle.store.specs.Numbers.{check, txOf, check8, check9, check10, readChecks}
 use Rattle.store.proofs.Fits.{image-count}
-use Rattle.store.proofs.Choosing.{choice-stops, choice-refuses, choice-goes, choice-passed, choice-slot, Running, running, ranged-by-8}
+use Rattle.store.proofs.Choosing.{choice-stops, choice-refuses, choice-goes, choice-passed, choice-slot, running, ranged-by-8}
 use Rattle.store.proofs.State.choose_write.Statement.{statement}
 use Rattle.store.proofs.State.choose_write.Tie as tie
 

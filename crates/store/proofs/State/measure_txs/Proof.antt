@@ -1,23 +1,24 @@
 use borrow.Author.Needs.{needs}
-use Prim.Native.Nat.{ℕ, _+_, _-_, _*_, _≤_, _<_}
+use Prim.Native.Nat.{ℕ, _+_, _-_, _*_, _≤_}
 use native.Mathlib.Nat.{sub-zero}
 use native.Mathlib.Omega.{arith}
-use mathlib.Core.Path.{_≡_, refl, sym, ap, _∙_}
-use mathlib.Core.Bool.{Bool, true}
+use mathlib.Core.Path.{_≡_, sym, ap, _∙_}
+use mathlib.Core.Bool.{true}
 use borrow.Author.Tests.{not-true, not-false}
+use Rattle.recovery.specs.Lists.{any}
 use Rattle.transaction.specs.Lists.{upFrom, every, sumOf}
 use Rattle.transaction.specs.View.{rangesOf}
-use Rattle.transaction.specs.Rules.{recordsOk, headOk, outlineOk, redoOk, roomOf}
+use Rattle.transaction.specs.Rules.{recordsOk, headOk, outlineOk, alike, redoOk, roomOf}
 use Rattle.transaction.proofs.Lists.{and-right, up-done, every-bad, every-good, sum-turn}
 use Rattle.transaction.proofs.Ranges.{counted}
 use Rattle.store.specs.State.{txAt, txsOf, outlineAt, outlinesOf}
 use Rattle.store.specs.Rules.{distinct}
-use Rattle.store.proofs.Admitting.{bad-outline, bad-alike, bad-redo, good-txs, distinct-bad, distinct-good, redo-records, room-bound}
+use Rattle.store.proofs.Admitting.{by-keys, bad-outline, bad-alike, bad-redo, good-txs, distinct-bad, distinct-good, redo-records, room-bound}
 use Rattle.store.proofs.State.measure_txs.Statement.{statement}
 use Rattle.store.proofs.State.measure_txs.Tie as tie
 
 abbrev Inv-loop : tie.InvT-loop
-Inv-loop self n last assigned room₀ i₀ room i =
+Inv-loop self n last assigned keys room₀ i₀ room i =
     (i ≤ n)
     × (room ≤ 632 * i)
     × (every (outlineOk (self .lastid .0) (self .assigned .0)) (outlinesOf self) ≡ every (outlineOk (self .lastid .0) (self .assigned .0)) (upFrom (outlineAt self) (n - i) i))
@@ -26,14 +27,17 @@ Inv-loop self n last assigned room₀ i₀ room i =
     × (sumOf roomOf (txsOf self) ≡ room + sumOf roomOf (upFrom (txAt self) (n - i) i))
 
 abbrev μ-loop : tie.MeasureT-loop
-μ-loop self n last assigned room₀ i₀ room i = n - i
+μ-loop self n last assigned keys room₀ i₀ room i = n - i
 
 cast-n : tie.Need-cast-n Inv-loop μ-loop
 cast-n c = search needs
 
+keys-requires : tie.Need-keys-requires Inv-loop μ-loop
+keys-requires c κs = search needs
+
 loop-holds : tie.Need-loop-holds Inv-loop μ-loop
 loop-holds c =
-    let s = c .before .before .args .t1 in
+    let s = c .before .before .before .args .t1 in
     let z = sub-zero (s .count) in
     (omega arith, omega arith, rw z, rw z, rw z, rw z (omega arith))
 
@@ -48,21 +52,21 @@ image-ok-requires c κs = search needs
 
 returns : tie.Need-returns Inv-loop μ-loop
 returns c =
-    let s = c .before .before .before .before .before .before .before .args .t1 in
+    let s = c .before .before .before .before .before .before .before .before .args .t1 in
     sym
     (bad-outline s
     (c .before .before .before .before .loop .inv .2 ∙ every-bad (outlineAt s) _ _ (c .before .before .before .loop-test .taken) (outlineOk (s .lastid .0) (s .assigned .0)) (sym (c .before .image-ok .ensures) ∙ not-true _ (c .if1 .taken))))
 
 -- in a turn: what the rules that were tested say of the transaction at hand
-undo : (c : tie.After-t Inv-loop μ-loop) → outlineOk (c .before .before .before .before .before .args .t1 .lastid .0) (c .before .before .before .before .before .args .t1 .assigned .0) (outlineAt (c .before .before .before .before .before .args .t1) (c .before .before .loop .i)) ≡ true → recordsOk (rangesOf (txAt (c .before .before .before .before .before .args .t1) (c .before .before .loop .i) .undo)) ≡ true
-undo c e = let t = txAt (c .before .before .before .before .before .args .t1) (c .before .before .loop .i) in and-right (headOk (c .before .before .before .before .before .args .t1 .lastid .0) (c .before .before .before .before .before .args .t1 .assigned .0) (t .id .0) (t .status) (t .csn .0)) _ e
+undo : (c : tie.After-t Inv-loop μ-loop) → outlineOk (c .before .before .before .before .before .before .args .t1 .lastid .0) (c .before .before .before .before .before .before .args .t1 .assigned .0) (outlineAt (c .before .before .before .before .before .before .args .t1) (c .before .before .loop .i)) ≡ true → recordsOk (rangesOf (txAt (c .before .before .before .before .before .before .args .t1) (c .before .before .loop .i) .undo)) ≡ true
+undo c e = let t = txAt (c .before .before .before .before .before .before .args .t1) (c .before .before .loop .i) in and-right (headOk (c .before .before .before .before .before .before .args .t1 .lastid .0) (c .before .before .before .before .before .before .args .t1 .assigned .0) (t .id .0) (t .status) (t .csn .0)) _ e
 
 redo-ok-requires : tie.Need-redo-ok-requires Inv-loop μ-loop
-redo-ok-requires c κs = counted (txAt (c .before .before .before .before .before .before .before .args .t1) (c .before .before .before .before .loop .i) .undo) (undo (c .before .before) (sym (c .before .image-ok .ensures) ∙ not-false _ (c .if1 .left)))
+redo-ok-requires c κs = counted (txAt (c .before .before .before .before .before .before .before .before .args .t1) (c .before .before .before .before .loop .i) .undo) (undo (c .before .before) (sym (c .before .image-ok .ensures) ∙ not-false _ (c .if1 .left)))
 
 returns-2 : tie.Need-returns-2 Inv-loop μ-loop
 returns-2 c =
-    let s = c .before .before .before .before .before .before .before .before .before .args .t1 in
+    let s = c .before .before .before .before .before .before .before .before .before .before .args .t1 in
     sym (bad-redo s (c .before .before .before .before .before .before .loop .inv .4 ∙ every-bad (txAt s) _ _ (c .before .before .before .before .before .loop-test .taken) redoOk (sym (c .before .redo-ok .ensures) ∙ not-true _ (c .if2 .taken))))
 
 add-alike-from : tie.Need-add-alike-from Inv-loop μ-loop
@@ -71,25 +75,36 @@ add-alike-from c = search needs
 alike-from-requires : tie.Need-alike-from-requires Inv-loop μ-loop
 alike-from-requires c κs = search needs
 
-good-undo : (c : tie.Else2 Inv-loop μ-loop) → recordsOk (rangesOf (txAt (c .before .before .before .before .before .before .before .before .before .args .t1) (c .before .before .before .before .before .before .loop .i) .undo)) ≡ true
+good-undo : (c : tie.Else2 Inv-loop μ-loop) → recordsOk (rangesOf (txAt (c .before .before .before .before .before .before .before .before .before .before .args .t1) (c .before .before .before .before .before .before .loop .i) .undo)) ≡ true
 good-undo c = undo (c .before .before .before .before) (sym (c .before .before .before .image-ok .ensures) ∙ not-false _ (c .before .before .if1 .left))
 
-good-redo : (c : tie.Else2 Inv-loop μ-loop) → redoOk (txAt (c .before .before .before .before .before .before .before .before .before .args .t1) (c .before .before .before .before .before .before .loop .i)) ≡ true
+good-redo : (c : tie.Else2 Inv-loop μ-loop) → redoOk (txAt (c .before .before .before .before .before .before .before .before .before .before .args .t1) (c .before .before .before .before .before .before .loop .i)) ≡ true
 good-redo c = sym (c .before .redo-ok .ensures) ∙ not-false _ (c .if2 .left)
+
+-- what the keys tell of the later transactions
+compared : (c : tie.After-alike-from Inv-loop μ-loop)
+    → let s = c .before .before .before .before .before .before .before .before .before .before .before .args .t1 in
+    let i = c .before .before .before .before .before .before .before .loop .i in
+    c .alike-from .result ≡ any (alike (txAt s i .id .0) (txAt s i .csn .0)) (upFrom (outlineAt s) (s .count - (i + 1)) (i + 1))
+compared c =
+    let s = c .before .before .before .before .before .before .before .before .before .before .before .args .t1 in
+    let i = c .before .before .before .before .before .before .before .loop .i in
+    c .alike-from .ensures
+    ∙ by-keys s (c .before .before .before .before .before .before .before .before .keys .result) (c .before .before .before .before .before .before .before .before .keys .ensures) (txAt s i .id .0) (txAt s i .csn .0) (s .count - (i + 1)) (i + 1) (omega (arith, c .before .before .before .before .before .before .before .before .before .before .before .pre, c .before .before .before .before .before .before .loop-test .taken))
 
 returns-3 : tie.Need-returns-3 Inv-loop μ-loop
 returns-3 c =
-    let s = c .before .before .before .before .before .before .before .before .before .before .before .args .t1 in
-    sym (bad-alike s (c .before .before .before .before .before .before .before .before .loop .inv .3 ∙ distinct-bad s _ _ (c .before .before .before .before .before .before .before .loop-test .taken) (sym (c .before .alike-from .ensures) ∙ c .if3 .taken)))
+    let s = c .before .before .before .before .before .before .before .before .before .before .before .before .args .t1 in
+    sym (bad-alike s (c .before .before .before .before .before .before .before .before .loop .inv .3 ∙ distinct-bad s _ _ (c .before .before .before .before .before .before .before .loop-test .taken) (sym (compared (c .before)) ∙ c .if3 .taken)))
 
 room-requires : tie.Need-room-requires Inv-loop μ-loop
-room-requires c κs = redo-records (txAt (c .before .before .before .before .before .before .before .before .before .before .before .args .t1) (c .before .before .before .before .before .before .before .before .loop .i)) (good-undo (c .before .before)) (good-redo (c .before .before))
+room-requires c κs = redo-records (txAt (c .before .before .before .before .before .before .before .before .before .before .before .before .args .t1) (c .before .before .before .before .before .before .before .before .loop .i)) (good-undo (c .before .before)) (good-redo (c .before .before))
 
 small : (c : tie.After-room Inv-loop μ-loop) → c .room .result ≤ 632
-small c = omega (arith, c .room .ensures, room-bound (txAt (c .before .before .before .before .before .before .before .before .before .before .before .before .args .t1) (c .before .before .before .before .before .before .before .before .before .loop .i)) (good-undo (c .before .before .before)) (good-redo (c .before .before .before)))
+small c = omega (arith, c .room .ensures, room-bound (txAt (c .before .before .before .before .before .before .before .before .before .before .before .before .before .args .t1) (c .before .before .before .before .before .before .before .before .before .loop .i)) (good-undo (c .before .before .before)) (good-redo (c .before .before .before)))
 
 add-room : tie.Need-add-room Inv-loop μ-loop
-add-room c = let h = small (c) in let g = c .before .before .before .before .before .before .before .before .before .before .before .before .pre in omega arith
+add-room c = let h = small (c) in let g = c .before .before .before .before .before .before .before .before .before .before .before .before .before .pre in omega arith
 
 add-i : tie.Need-add-i Inv-loop μ-loop
 add-i c = search needs
@@ -99,20 +114,20 @@ loop-less c = search needs
 
 loop-again : tie.Need-loop-again Inv-loop μ-loop
 loop-again c =
-    let s = c .before .before .before .before .before .before .before .before .before .before .before .before .args .t1 in
+    let s = c .before .before .before .before .before .before .before .before .before .before .before .before .before .args .t1 in
     let h = c .before .before .before .before .before .before .before .before .loop-test .taken in
     let t = sum-turn (txAt s) (s .count) (c .before .before .before .before .before .before .before .before .before .loop .i) h roomOf in (
       omega arith,
       (let b = small (c) in omega arith),
       c .before .before .before .before .before .before .before .before .before .loop .inv .2 ∙ every-good (outlineAt s) _ _ h (outlineOk (s .lastid .0) (s .assigned .0)) (sym (c .before .before .before .before .before .before .image-ok .ensures) ∙ not-false _ (c .before .before .before .before .before .if1 .left)),
-      c .before .before .before .before .before .before .before .before .before .loop .inv .3 ∙ distinct-good s _ _ h (sym (c .before .before .alike-from .ensures) ∙ c .before .if3 .left),
+      c .before .before .before .before .before .before .before .before .before .loop .inv .3 ∙ distinct-good s _ _ h (sym (compared (c .before .before)) ∙ c .before .if3 .left),
       c .before .before .before .before .before .before .before .before .before .loop .inv .4 ∙ every-good (txAt s) _ _ h redoOk (good-redo (c .before .before .before)),
       omega (arith, t, c .before .before .before .before .before .before .before .before .before .loop .inv .5, c .room .ensures),
     )
 
 returns-4 : tie.Need-returns-4 Inv-loop μ-loop
 returns-4 c =
-    let s = c .before .before .before .before .args .t1 in
+    let s = c .before .before .before .before .before .args .t1 in
     let i = c .before .loop .i in
     let h = c .loop-test .left in
     let o = up-done (outlineAt s) (s .count) i h in
@@ -129,6 +144,7 @@ measure-txs-spec =
     Inv-loop
     μ-loop
     cast-n
+    keys-requires
     loop-holds
     mul-t
     element-copy-out-t

@@ -1,10 +1,9 @@
 use borrow.Author.Needs.{needs}
 use Prim.Native.Nat.{ℕ, _+_, _-_, _≤_}
 use native.Mathlib.Omega.{arith}
-use mathlib.Core.List.{List, [], _∷_}
-use mathlib.Core.Path.{_≡_, refl, sym, ap, _∙_, subst}
+use mathlib.Core.List.{[], _∷_}
+use mathlib.Core.Path.{_≡_, sym, ap, _∙_}
 use lib.ListN.{length, take, drop}
-use Rattle.store.specs.State.{slotOf}
 use Rattle.store.specs.declared.choose.Choice.{Choice}
 use Rattle.store.specs.Numbers.{readChecks, check8, check9}
 use Rattle.store.specs.Calls.{readNumber}

@@ -1,5 +1,5 @@
 use borrow.Author.Tests.{le-leb, lt-leb, not-true, not-false}
-use Rattle.store.specs.Rules.{headOk}
+use Rattle.store.specs.Admission.{headOk}
 use Rattle.store.proofs.admit.head_ok.Statement.{statement}
 use Rattle.store.proofs.admit.head_ok.Tie as tie
 
