@@ -28,7 +28,8 @@ use Rattle.image.specs.Pack.{packed}
 use Rattle.image.specs.Decode.{decodeOf}
 use Rattle.image.proofs.Lists.{up-map}
 use Rattle.image.proofs.Rules.{rules-records}
-use Rattle.image.proofs.Packing.{UndosOk, undos-few, undos-ranged, first-ranged, rest-ranged, TxsOk, ranges-of, packed-content, packed-rules, packed-transactions}
+use Rattle.image.proofs.Pushing.{UndosOk, undos-few, undos-ranged, first-ranged, rest-ranged, ranges-of}
+use Rattle.image.proofs.Packing.{TxsOk, packed-transactions, packed-arrays, packed-content, packed-rules}
 use Rattle.image.proofs.Readings.{here-yes}
 use Rattle.image.proofs.TxReadings.{tx-undos, content-txs, decode-good}
 use Rattle.image.proofs.Sizes.{length-tx, length-content, content-few, content-each, image-small}
@@ -107,7 +108,13 @@ module _ (c : Content) (m rest : List ℕ) (l : length m ≡ 4096) where
     pub decode-written : decodeOf (encodeContent c m ++ rest) ≡ record { ok = true; image = packed c }
     decode-written = decode-good (encodeContent c m ++ rest) c content-written e
 
--- the layout of a content that keeps the rules: it holds that content, keeps the rules, and has these transactions for recovery
+-- ---- an image in flat arrays
+
+-- the bytes of each transaction listed have their length, as those of every value of the code do
+abbrev pub Whole : Image → Type 0
+Whole i = (j : ℕ) → j < i .count → length (slotAt (i .txs) j .undo .bytes) ≡ 512
+
+-- the layout of a content that keeps the rules: it holds that content, keeps the rules, has these transactions for recovery, and is whole
 module _ (c : Content) (e : contentOk c ≡ true) where
   pub packed-holds : contentOf (packed c) ≡ c
   packed-holds = packed-content c (content-few c e) (content-each c e)
@@ -119,10 +126,9 @@ module _ (c : Content) (e : contentOk c ≡ true) where
   unfolding packed
   packed-recovers = packed-transactions (c .txs) (content-few c e) (content-each c e)
 
--- ---- an image in flat arrays: the arrays of each transaction listed have their length, as those of every value of the code do
-
-abbrev pub Whole : Image → Type 0
-Whole i = (j : ℕ) → j < i .count → length (slotAt (i .txs) j .undo .bytes) ≡ 512
+  pub packed-whole : Whole (packed c)
+  unfolding packed
+  packed-whole j h = packed-arrays (c .txs) (content-few c e) (content-each c e) j h .bytes
 
 -- the transactions for recovery, without redo records
 abbrev pub withoutRedo : Transaction → Transaction

@@ -29,7 +29,8 @@ use Rattle.image.specs.Reading.{readUndos, savedIf, readTx, andTx, onTx,
 use Rattle.image.specs.Pack.{pushedAll, packedTx, packedTxs, packed}
 use Rattle.image.specs.Decode.{noUndos, noTxRead, noTxs, notDecoded, undosRead, txRead, txsRead, decodedOf, decodeOf}
 use Rattle.image.proofs.Readings.{UndosAt, undos-inv, undos-kept}
-use Rattle.image.proofs.Packing.{UndosOk, TxsOk, packed-rules}
+use Rattle.image.proofs.Pushing.{UndosOk}
+use Rattle.image.proofs.Packing.{TxsOk, packed-rules}
 
 -- ---- what the answer of the records' reader says of the reading
 
