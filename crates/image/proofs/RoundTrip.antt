@@ -22,7 +22,7 @@ use Rattle.image.specs.declared.Image.{Image}
 use Rattle.image.specs.declared.read.Decoded.{Decoded}
 use Rattle.image.specs.Slots.{slotAt, listed, outlineAt}
 use Rattle.image.specs.Rules.{imageOk, keepsRules}
-use Rattle.image.specs.Content.{Saved, saved, Content, savedAt, savedIn, contentOf, rangeOf, outlineIn, contentOk, transactionOf}
+use Rattle.image.specs.Content.{Saved, saved, Content, savedAt, savedIn, contentOf, rangeOf, outlineIn, contentOk, transactionOf, withoutRedo, transactionsIn}
 use Rattle.image.specs.Format.{encodeHead, encodeUndo, encodeUndos, encodeTx, encodeTxs, encodeContent, encodeImage, undosIn, txSize, imageSize}
 use Rattle.image.specs.Reading.{undoHere, firstUndo, readUndos, savedIf, readTx, andTx, onTx, readTxs, contentIf, readContent, memoryOf}
 use Rattle.image.specs.Pack.{packed}
@@ -110,13 +110,6 @@ module _ (c : Content) (m rest : List ℕ) (l : length m ≡ 4096) where
     decode-written = decode-good (encodeContent c m ++ rest) c content-written e
 
 -- ---- an image in flat arrays
-
--- its transactions as recovery has them
-abbrev pub transactionsIn : Image → List Transaction
-transactionsIn i = map viewOf (listed (i .txs) (i .count))
-
-abbrev pub withoutRedo : Transaction → Transaction
-withoutRedo t = record { id = t .id; committing = t .committing; csn = t .csn; undo = t .undo; redo = [] }
 
 -- the bytes of each transaction listed have their length, as those of every value of the code do
 abbrev pub Whole : Image → Type 0
