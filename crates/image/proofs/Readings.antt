@@ -48,7 +48,7 @@ module _ (t : List ℕ) where
   unfolding undoHere
   here-within e = leb-true _ _ (and-right (inRange (be2 t 0) (getD t 2 0)) _ e)
 
-  pub here-ranged : undoHere t ≡ true → inRange (be2 t 0) (getD t 2 0) ≡ true
+  here-ranged : undoHere t ≡ true → inRange (be2 t 0) (getD t 2 0) ≡ true
   unfolding undoHere
   here-ranged e = and-left (inRange (be2 t 0) (getD t 2 0)) _ e
 

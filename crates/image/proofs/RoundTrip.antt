@@ -4,7 +4,7 @@ use native.Mathlib.Omega.{arith}
 use mathlib.Core.Bool.{true}
 use mathlib.Core.List.{List, [], _∷_, _++_, append-assoc, map}
 use mathlib.Core.Option.{some}
-use mathlib.Core.Path.{_≡_, refl, sym, ap, ap₂, _∙_}
+use mathlib.Core.Path.{_≡_, refl, sym, ap, ap₂, _∙_, subst}
 use lib.ListN.{length, take, drop, length-append}
 use lib.Seq.{sets, sets-eq, take-at, drop-at}
 use Rattle.recovery.specs.Group.{Write}
@@ -19,16 +19,18 @@ use Rattle.transaction.specs.Rules.{rangeOk}
 use Rattle.transaction.proofs.Lists.{up-same}
 use Rattle.transaction.proofs.Ranges.{counted, ranged}
 use Rattle.image.specs.declared.Image.{Image}
+use Rattle.image.specs.declared.read.Decoded.{Decoded}
 use Rattle.image.specs.Slots.{slotAt, listed, outlineAt}
 use Rattle.image.specs.Rules.{imageOk, keepsRules}
-use Rattle.image.specs.Content.{Saved, saved, Content, savedAt, savedIn, contentOf, rangeOf, outlineIn, contentOk, transactionOf}
+use Rattle.image.specs.Content.{Saved, saved, Content, savedAt, savedIn, contentOf, rangeOf, outlineIn, contentOk, transactionOf, withoutRedo, transactionsIn}
 use Rattle.image.specs.Format.{encodeHead, encodeUndo, encodeUndos, encodeTx, encodeTxs, encodeContent, encodeImage, undosIn, txSize, imageSize}
 use Rattle.image.specs.Reading.{undoHere, firstUndo, readUndos, savedIf, readTx, andTx, onTx, readTxs, contentIf, readContent, memoryOf}
 use Rattle.image.specs.Pack.{packed}
 use Rattle.image.specs.Decode.{decodeOf}
 use Rattle.image.proofs.Lists.{up-map}
 use Rattle.image.proofs.Rules.{rules-records}
-use Rattle.image.proofs.Packing.{UndosOk, undos-few, undos-ranged, first-ranged, rest-ranged, TxsOk, ranges-of, packed-content, packed-rules, packed-transactions}
+use Rattle.image.proofs.Pushing.{UndosOk, undos-few, undos-ranged, first-ranged, rest-ranged, ranges-of}
+use Rattle.image.proofs.Packing.{TxsOk, packed-transactions, packed-arrays, packed-content, packed-rules}
 use Rattle.image.proofs.Readings.{here-yes}
 use Rattle.image.proofs.TxReadings.{tx-undos, content-txs, decode-good}
 use Rattle.image.proofs.Sizes.{length-tx, length-content, content-few, content-each, image-small}
@@ -107,7 +109,13 @@ module _ (c : Content) (m rest : List ℕ) (l : length m ≡ 4096) where
     pub decode-written : decodeOf (encodeContent c m ++ rest) ≡ record { ok = true; image = packed c }
     decode-written = decode-good (encodeContent c m ++ rest) c content-written e
 
--- the layout of a content that keeps the rules: it holds that content, keeps the rules, and has these transactions for recovery
+-- ---- an image in flat arrays
+
+-- the bytes of each transaction listed have their length, as those of every value of the code do
+abbrev pub Whole : Image → Type 0
+Whole i = (j : ℕ) → j < i .count → length (slotAt (i .txs) j .undo .bytes) ≡ 512
+
+-- the layout of a content that keeps the rules: it holds that content, keeps the rules, has these transactions for recovery, and is whole
 module _ (c : Content) (e : contentOk c ≡ true) where
   pub packed-holds : contentOf (packed c) ≡ c
   packed-holds = packed-content c (content-few c e) (content-each c e)
@@ -115,20 +123,15 @@ module _ (c : Content) (e : contentOk c ≡ true) where
   pub packed-keeps : keepsRules (packed c) ≡ true
   packed-keeps = packed-rules c (content-few c e) (content-each c e) ∙ e
 
-  pub packed-recovers : map viewOf (listed (packed c .txs) (packed c .count)) ≡ map transactionOf (c .txs)
+  pub packed-recovers : transactionsIn (packed c) ≡ map transactionOf (c .txs)
   unfolding packed
   packed-recovers = packed-transactions (c .txs) (content-few c e) (content-each c e)
 
--- ---- an image in flat arrays: the arrays of each transaction listed have their length, as those of every value of the code do
+  pub packed-whole : Whole (packed c)
+  unfolding packed
+  packed-whole j h = packed-arrays (c .txs) (content-few c e) (content-each c e) j h .bytes
 
-abbrev pub Whole : Image → Type 0
-Whole i = (j : ℕ) → j < i .count → length (slotAt (i .txs) j .undo .bytes) ≡ 512
-
--- the transactions for recovery, without redo records
-abbrev pub withoutRedo : Transaction → Transaction
-withoutRedo t = record { id = t .id; committing = t .committing; csn = t .csn; undo = t .undo; redo = [] }
-
-saved-transactions : (i : Image) → map transactionOf (savedIn (i .txs) (i .count)) ≡ map withoutRedo (map viewOf (listed (i .txs) (i .count)))
+saved-transactions : (i : Image) → map transactionOf (savedIn (i .txs) (i .count)) ≡ map withoutRedo (transactionsIn i)
 saved-transactions i =
     sym (up-map transactionOf (savedAt (i .txs)) (i .count) 0)
     ∙ up-map (λ t. withoutRedo (viewOf t)) (slotAt (i .txs)) (i .count) 0
@@ -137,6 +140,14 @@ saved-transactions i =
     twice : (ts : List Tx) → map (λ t. withoutRedo (viewOf t)) ts ≡ map withoutRedo (map viewOf ts)
     twice [] = refl
     twice (t ∷ ts) = ap (λ (us : List Transaction). withoutRedo (viewOf t) ∷ us) (twice ts)
+
+-- s is read as the image i with the memory m: ids, statuses, commit numbers and undo records of its transactions, for recovery all but
+-- their redo records
+pub record Restored (i : Image) (m s : List ℕ) : Type 0 where
+  pub ok : decodeOf s .ok ≡ true
+  pub memory : memoryOf s ≡ m
+  pub content : contentOf (decodeOf s .image) ≡ contentOf i
+  pub recovers : transactionsIn (decodeOf s .image) ≡ map withoutRedo (transactionsIn i)
 
 module _ (i : Image) (w : Whole i) (e : keepsRules i ≡ true) where
   pub image-content : contentOk (contentOf i) ≡ true
@@ -155,16 +166,14 @@ module _ (i : Image) (w : Whole i) (e : keepsRules i ≡ true) where
     pub image-decoded : decodeOf (encodeImage i m ++ rest) ≡ record { ok = true; image = packed (contentOf i) }
     image-decoded = decode-written (contentOf i) m rest l image-content
 
-    pub image-memory : memoryOf (encodeImage i m ++ rest) ≡ m
-    image-memory = memory-written (contentOf i) m rest l
-
-  -- counters, ids, statuses, commit numbers and undo records are those of the image
-  pub image-held : contentOf (packed (contentOf i)) ≡ contentOf i
-  image-held = packed-holds (contentOf i) image-content
-
-  -- and so are the transactions that recovery sees, but for redo records
-  pub image-recovers : map viewOf (listed (packed (contentOf i) .txs) (packed (contentOf i) .count)) ≡ map withoutRedo (map viewOf (listed (i .txs) (i .count)))
-  image-recovers = packed-recovers (contentOf i) image-content ∙ saved-transactions i
+    pub image-restored : Restored i m (encodeImage i m ++ rest)
+    image-restored =
+        record {
+          ok = ap (λ (d : Decoded). d .ok) image-decoded;
+          memory = memory-written (contentOf i) m rest l;
+          content = ap (λ (d : Decoded). contentOf (d .image)) image-decoded ∙ packed-holds (contentOf i) image-content;
+          recovers = ap (λ (d : Decoded). transactionsIn (d .image)) image-decoded ∙ packed-recovers (contentOf i) image-content ∙ saved-transactions i;
+        }
 
 -- ---- a buffer that an image was written into: the used bytes are the image, and the others stay
 
@@ -178,6 +187,5 @@ module _ (i : Image) (e : keepsRules i ≡ true) (m b : List ℕ) (l : length m 
   pub encode-used : take (imageSize i) (sets b 0 (encodeImage i m)) ≡ encodeImage i m
   encode-used = ap (take (imageSize i)) encode-stored ∙ take-at (encodeImage i m) _ (imageSize i) (length-content (contentOf i) m l)
 
-  -- decode of what encode left
-  pub encode-decoded : Whole i → decodeOf (sets b 0 (encodeImage i m)) ≡ record { ok = true; image = packed (contentOf i) }
-  encode-decoded w = ap decodeOf encode-stored ∙ image-decoded i w e m (drop (imageSize i) b) l
+  pub encode-restored : Whole i → Restored i m (sets b 0 (encodeImage i m))
+  encode-restored w = subst (λ (s : List ℕ). Restored i m s) (sym encode-stored) (image-restored i w e m (drop (imageSize i) b) l)

@@ -22,11 +22,8 @@ use Rattle.image.specs.Pack.{emptyImage}
 -- ---- the tests, in the code's order
 
 module _ (i : Image) where
-  abbrev ts : List Outline
-  ts = outlined (i .txs) (i .count)
-
-  abbrev pub EachOk : Bool
-  EachOk = every (outlineOk (i .lastid .0) (i .assigned .0)) (outlined (i .txs) (i .count))
+  abbrev pub eachOk : Bool
+  eachOk = every (outlineOk (i .lastid .0) (i .assigned .0)) (outlined (i .txs) (i .count))
 
   pub rules-end : 16384 < i .logend → keepsRules i ≡ false
   rules-end a = rw (lt-leb _ _ a)
@@ -39,7 +36,7 @@ module _ (i : Image) where
       pub rules-many : 8 < i .count → keepsRules i ≡ false
       rules-many d = rw (le-leb _ _ a, le-leb _ _ b, length-up (outlineAt (i .txs)) (i .count) 0, lt-leb _ _ d)
 
-      pub rules-few : i .count ≤ 8 → keepsRules i ≡ EachOk && distinct (outlined (i .txs) (i .count))
+      pub rules-few : i .count ≤ 8 → keepsRules i ≡ eachOk && distinct (outlined (i .txs) (i .count))
       rules-few d = rw (le-leb _ _ a, le-leb _ _ b, length-up (outlineAt (i .txs)) (i .count) 0, le-leb _ _ d)
 
 -- ---- a turn of the loop over pairs

@@ -20,7 +20,8 @@ use Rattle.image.specs.Rules.{keepsRules}
 use Rattle.image.specs.Content.{Saved, saved, Content, savedAt, rangeOf, outlineIn, contentOk}
 use Rattle.image.specs.Format.{encodeUndo, encodeUndos, encodeTx, encodeTxs, encodeContent, undosSize, txSize, txsSize, contentSize, imageSize}
 use Rattle.image.proofs.Rules.{rules-length, rules-each, rules-count, rules-records}
-use Rattle.image.proofs.Packing.{undos-few, undos-ranged, first-ranged, rest-ranged, TxsOk}
+use Rattle.image.proofs.Pushing.{undos-few, undos-ranged, first-ranged, rest-ranged}
+use Rattle.image.proofs.Packing.{TxsOk}
 
 -- ---- the length of what is written
 

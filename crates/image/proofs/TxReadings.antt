@@ -29,7 +29,8 @@ use Rattle.image.specs.Reading.{readUndos, savedIf, readTx, andTx, onTx,
 use Rattle.image.specs.Pack.{pushedAll, packedTx, packedTxs, packed}
 use Rattle.image.specs.Decode.{noUndos, noTxRead, noTxs, notDecoded, undosRead, txRead, txsRead, decodedOf, decodeOf}
 use Rattle.image.proofs.Readings.{UndosAt, undos-inv, undos-kept}
-use Rattle.image.proofs.Packing.{UndosOk, TxsOk, packed-rules}
+use Rattle.image.proofs.Pushing.{UndosOk}
+use Rattle.image.proofs.Packing.{TxsOk, packed-rules}
 
 -- ---- what the answer of the records' reader says of the reading
 
@@ -63,7 +64,7 @@ abbrev pub TxAt : List ℕ → Saved → Type 0
 TxAt s (saved id status csn us) =
     (8 ≤ length s) × (length us ≤ 16) × (id ≡ be2 s 0) × (status ≡ getD s 2 0) × (csn ≡ be4 s 3) × (length us ≡ getD s 7 0) × UndosAt (drop 8 s) us
 
-pub tx-inv : (s : List ℕ) (t : Saved) → readTx s ≡ some t → TxAt s t
+tx-inv : (s : List ℕ) (t : Saved) → readTx s ≡ some t → TxAt s t
 unfolding readTx
 tx-inv s t e = go (leb 8 (length s)) (leb (getD s 7 0) 16) refl refl
   where
@@ -83,14 +84,14 @@ tx-inv s t e = go (leb 8 (length s)) (leb (getD s 7 0) 16) refl refl
     go false b p q = let f : _≡_ {A = Option Saved} none (some t) = rw p at e in clash (cc)
 
 -- it lies within the list, and its records keep the rules
-pub tx-kept : (s : List ℕ) (t : Saved) → TxAt s t → (txSize t ≤ length s) × UndosOk (undosIn t)
+tx-kept : (s : List ℕ) (t : Saved) → TxAt s t → (txSize t ≤ length s) × UndosOk (undosIn t)
 tx-kept s (saved id status csn us) a =
     let k = undos-kept (drop 8 s) us (a .6) in
     let d : undosSize us ≤ length s - 8 = rw length-drop at (k .0) in
     let l : length (map rangeOf us) ≤ 16 = omega (arith, a .1, length-map us rangeOf) in
     (omega (arith, d, a .0), and-both (leb (length (map rangeOf us)) 16) (every rangeOk (map rangeOf us)) (le-leb _ _ l) (k .1))
 
-pub tx-none : (y : Option Saved) (x : TxRead) → x ≡ txRead y → x .ok ≡ false → y ≡ none
+tx-none : (y : Option Saved) (x : TxRead) → x ≡ txRead y → x .ok ≡ false → y ≡ none
 tx-none none x e f = refl
 tx-none (some t) x e f = let g : true ≡ false = sym (ap (λ (u : TxRead). u .ok) e) ∙ f in clash (cc)
 

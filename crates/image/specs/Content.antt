@@ -8,9 +8,9 @@ use Rattle.recovery.specs.Group.{Write}
 use Rattle.recovery.specs.Transaction.{Tx as Transaction}
 use Rattle.transaction.specs.declared.Tx.{Tx}
 use Rattle.transaction.specs.Lists.{upFrom}
-use Rattle.transaction.specs.View.{Range, range, writesOf, Outline, outline}
+use Rattle.transaction.specs.View.{Range, range, writesOf, Outline, outline, viewOf}
 use Rattle.image.specs.declared.Image.{Image}
-use Rattle.image.specs.Slots.{slotAt}
+use Rattle.image.specs.Slots.{slotAt, listed}
 use Rattle.image.specs.Rules.{imageOk}
 
 -- a transaction: id, status (1 running, 2 committing), commit number, undo records oldest first
@@ -57,7 +57,13 @@ outlineIn (saved id status csn us) = outline id status csn (map rangeOf us)
 abbrev pub contentOk : Content → Bool
 contentOk c = imageOk (c .logEnd) (c .onDisk) (c .assigned) (c .lastId) (map outlineIn (c .txs))
 
--- ---- a transaction as recovery has it: an image holds no redo records
+-- ---- transactions as recovery has them: an image on disk holds no redo records
 
 abbrev pub transactionOf : Saved → Transaction
 transactionOf (saved id status csn us) = record { id = id; committing = eqb status 2; csn = csn; undo = us; redo = [] }
+
+abbrev pub withoutRedo : Transaction → Transaction
+withoutRedo t = record { id = t .id; committing = t .committing; csn = t .csn; undo = t .undo; redo = [] }
+
+abbrev pub transactionsIn : Image → List Transaction
+transactionsIn i = map viewOf (listed (i .txs) (i .count))

@@ -203,7 +203,8 @@ pub fn decode(s: &[u8]) -> Decoded
         return not_decoded();
     }
     let x = read_txs(&s[4109..], n as usize);
-    if !x.ok {
+    let whole = x.ok;
+    if !whole {
         return not_decoded();
     }
     let logend = be16(s, 0);
@@ -219,7 +220,8 @@ pub fn decode(s: &[u8]) -> Decoded
         count: n,
         txs: txs,
     };
-    if !image.ok() {
+    let kept = image.ok();
+    if !kept {
         return not_decoded();
     }
     Decoded {

@@ -3,7 +3,7 @@ use mathlib.Core.Path.{_≡_, sym, ap, _∙_}
 use borrow.Author.Tests.{not-true, not-false}
 use Rattle.image.specs.Slots.{outlined}
 use Rattle.image.specs.Rules.{distinct, keepsRules}
-use Rattle.image.proofs.Rules.{EachOk, rules-end, rules-disk, rules-many, rules-few}
+use Rattle.image.proofs.Rules.{eachOk, rules-end, rules-disk, rules-many, rules-few}
 use borrow.Author.Needs.{needs}
 use Rattle.image.proofs.Image.ok.Statement.{statement}
 use Rattle.image.proofs.Image.ok.Tie as tie
@@ -21,7 +21,7 @@ returns-3 c =
 each-ok-requires : tie.Need-each-ok-requires
 each-ok-requires c κs = search needs
 
-few : (c : tie.After-each-ok) → let i = c .before .before .before .before .before .before .before .args .self in keepsRules i ≡ EachOk i && distinct (outlined (i .txs) (i .count))
+few : (c : tie.After-each-ok) → let i = c .before .before .before .before .before .before .before .args .self in keepsRules i ≡ eachOk i && distinct (outlined (i .txs) (i .count))
 few c = rules-few (c .before .before .before .before .before .before .before .args .self) (c .before .before .before .before .before .if1 .left) (c .before .before .before .if2 .left) (c .before .if3 .left)
 
 returns-4 : tie.Need-returns-4

@@ -66,10 +66,10 @@ not-decoded-requires-3 c κs = search needs
 
 returns-3 : tie.Need-returns-3
 returns-3 c =
-    let s = c .before .before .before .before .before .before .before .before .before .args .s .now in
-    let x = c .before .before .before .read-txs .result in
+    let s = c .before .before .before .before .before .before .before .before .args .s .now in
+    let x = c .before .before .read-txs .result in
     c .not-decoded3 .ensures
-    ∙ sym (decode-none s (content-none s (c .before .before .before .before .before .before .before .if1 .left) (c .before .before .before .before .before .if2 .left) x (read-at (c .before .before .before)) (not-true _ (c .before .if3 .taken))))
+    ∙ sym (decode-none s (content-none s (c .before .before .before .before .before .before .if1 .left) (c .before .before .before .before .if2 .left) x (read-at (c .before .before)) (not-true _ (c .before .if3 .taken))))
 
 be16-requires : tie.Need-be16-requires
 be16-requires c κs = search needs
@@ -89,23 +89,23 @@ ok-requires c κs = search needs
 -- the image that the code makes, of the numbers that it read
 abbrev made : tie.After-txs → Image
 made c =
-    imageWith (c .before .before .before .before .be16 .result) (c .before .before .before .be32 .result) (c .before .before .be322 .result) (c .before .be162 .result) (getD (c .before .before .before .before .before .before .before .before .before .before .before .before .before .args .s .now) 12 0)
-    (c .before .before .before .before .before .before .before .read-txs .result .txs)
+    imageWith (c .before .before .before .before .be16 .result) (c .before .before .before .be32 .result) (c .before .before .be322 .result) (c .before .be162 .result) (getD (c .before .before .before .before .before .before .before .before .before .before .before .before .args .s .now) 12 0)
+    (c .before .before .before .before .before .before .read-txs .result .txs)
 
-made-here : (c : tie.After-txs) → made c ≡ imageHere (c .before .before .before .before .before .before .before .before .before .before .before .before .before .args .s .now) (c .before .before .before .before .before .before .before .read-txs .result .txs)
+made-here : (c : tie.After-txs) → made c ≡ imageHere (c .before .before .before .before .before .before .before .before .before .before .before .before .args .s .now) (c .before .before .before .before .before .before .read-txs .result .txs)
 made-here c =
-    let s = c .before .before .before .before .before .before .before .before .before .before .before .before .before .args .s .now in
+    let s = c .before .before .before .before .before .before .before .before .before .before .before .before .args .s .now in
     let n = getD s 12 0 in
-    let txs = c .before .before .before .before .before .before .before .read-txs .result .txs in
+    let txs = c .before .before .before .before .before .before .read-txs .result .txs in
     ap₂ (λ (e d : ℕ). imageWith e d (c .before .before .be322 .result) (c .before .be162 .result) n txs) (c .before .before .before .before .be16 .ensures) (c .before .before .before .be32 .ensures)
     ∙ ap₂ (λ (a l : ℕ). imageWith (be2 s 0) (be4 s 2) a l n txs) (c .before .before .be322 .ensures) (c .before .be162 .ensures)
 
 -- the content that was read, its layout, and what the rules say of it
 found : (c : tie.After-ok)
-    → (x : Content) × (readContent (c .before .before .before .before .before .before .before .before .before .before .before .before .before .before .args .s .now) ≡ some x) × (made (c .before) ≡ packed x) × (c .ok .result ≡ contentOk x)
+    → (x : Content) × (readContent (c .before .before .before .before .before .before .before .before .before .before .before .before .before .args .s .now) ≡ some x) × (made (c .before) ≡ packed x) × (c .ok .result ≡ contentOk x)
 found c =
     let h = made-here (c .before) in
-    let w = content-some (c .before .before .before .before .before .before .before .before .before .before .before .before .before .before .args .s .now) (c .before .before .before .before .before .before .before .before .before .before .before .before .if1 .left) (c .before .before .before .before .before .before .before .before .before .before .if2 .left) (c .before .before .before .before .before .before .before .before .read-txs .result) (read-at (c .before .before .before .before .before .before .before .before)) (not-false _ (c .before .before .before .before .before .before .if3 .left)) in
+    let w = content-some (c .before .before .before .before .before .before .before .before .before .before .before .before .before .args .s .now) (c .before .before .before .before .before .before .before .before .before .before .before .if1 .left) (c .before .before .before .before .before .before .before .before .before .if2 .left) (c .before .before .before .before .before .before .before .read-txs .result) (read-at (c .before .before .before .before .before .before .before)) (not-false _ (c .before .before .before .before .before .before .if3 .left)) in
     (w .0, w .1, h ∙ w .2, c .ok .ensures ∙ ap keepsRules h ∙ w .3)
 
 not-decoded-requires-4 : tie.Need-not-decoded-requires-4
@@ -114,13 +114,13 @@ not-decoded-requires-4 c κs = search needs
 returns-4 : tie.Need-returns-4
 returns-4 c =
     let w = found (c .before .before) in
-    c .not-decoded4 .ensures ∙ sym (decode-bad (c .before .before .before .before .before .before .before .before .before .before .before .before .before .before .before .before .args .s .now) (w .0) (w .1) (sym (w .3) ∙ not-true _ (c .before .if4 .taken)))
+    c .not-decoded4 .ensures ∙ sym (decode-bad (c .before .before .before .before .before .before .before .before .before .before .before .before .before .before .before .args .s .now) (w .0) (w .1) (sym (w .3) ∙ not-true _ (c .before .if4 .taken)))
 
 returns-5 : tie.Need-returns-5
 returns-5 c =
     let w = found (c .before) in
     ap (λ (i : Image). record { ok = true; image = i }) (w .2)
-    ∙ sym (decode-good (c .before .before .before .before .before .before .before .before .before .before .before .before .before .before .before .args .s .now) (w .0) (w .1) (sym (w .3) ∙ not-false _ (c .if4 .left)))
+    ∙ sym (decode-good (c .before .before .before .before .before .before .before .before .before .before .before .before .before .before .args .s .now) (w .0) (w .1) (sym (w .3) ∙ not-false _ (c .if4 .left)))
 
 pub decode-spec : {M : Type 1} → statement M
 decode-spec =

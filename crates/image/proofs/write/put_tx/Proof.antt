@@ -4,7 +4,7 @@ use lib.ListN.{length, length-set}
 use Rattle.transaction.specs.View.{writesOf}
 use Rattle.transaction.proofs.Lists.{length-up}
 use Rattle.transaction.proofs.Writes.{writes-up}
-use Rattle.image.proofs.Packing.{undoAt}
+use Rattle.image.proofs.Pushing.{undoAt}
 use Rattle.image.proofs.Writings.{tx-stores}
 use borrow.Author.Needs.{needs}
 use Rattle.image.proofs.write.put_tx.Statement.{statement}
