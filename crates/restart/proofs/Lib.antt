@@ -10,3 +10,4 @@ pub mod Undos
 pub mod Select
 pub mod Passed
 pub mod Recovery
+pub mod Worked

@@ -2,28 +2,26 @@
 use Prim.Native.Nat.{ℕ, zero, suc, _+_, _*_, _-_, _≤_, _<_, max}
 use native.Mathlib.Omega.{arith}
 use mathlib.Core.Bool.{Bool, true, false, not, cond, _&&_}
-use mathlib.Core.List.{List, [], _∷_, _++_}
-use mathlib.Core.Path.{_≡_, refl, sym, ap, ap₂, _∙_, subst}
+use mathlib.Core.List.{List, [], _++_}
+use mathlib.Core.Path.{_≡_, refl, sym, ap, ap₂, _∙_}
 use lib.ListN.{length, getD, drop, replicate, length-replicate, length-append}
 use lib.Dec.{eqb, ltb}
 use lib.Seq.{sets, sets-eq}
 use borrow.Author.Tests.{ne-eqb}
-use Rattle.recovery.specs.Group.{Group, groupsSize, lastCsn}
+use Rattle.recovery.specs.Group.{groupsSize, lastCsn}
 use Rattle.recovery.specs.Lists.{All, nil, cons, filter, has}
 use Rattle.recovery.specs.Transaction.{Tx, running, committing}
 use Rattle.recovery.specs.Replay.{undoEach, layBytes}
-use Rattle.recovery.specs.Restart.{groupId, finished, unfinished, sortDesc, above, undoOrder, undone, aborts, forward, recover}
+use Rattle.recovery.specs.Restart.{groupId, finished, unfinished, sortDesc, above, undoOrder, undone, aborts, recover}
 use Rattle.recovery.proofs.Lists.{all-map, all-filter, filter-append, filter-filter}
 use Rattle.recovery.proofs.AbortLaw.{order-all}
 use Rattle.log.specs.Log.{readLog, encodeLog, wellFormedLog}
 use Rattle.log.proofs.Torn.{log-padded}
-use Rattle.transaction.specs.Lists.{upFrom}
 use Rattle.image.specs.declared.Image.{Image}
-use Rattle.image.specs.Slots.{slotAt}
 use Rattle.image.specs.Rules.{keepsRules}
 use Rattle.restart.specs.declared.forward.Pass.{Pass}
 use Rattle.restart.specs.Slots.{txAt, txsOf, filterBelow}
-use Rattle.restart.specs.Forward.{Went, startOf, groupsOf, goOver, forwardOf}
+use Rattle.restart.specs.Forward.{startOf, groupsOf, forwardOf}
 use Rattle.restart.specs.Undo.{isRunning, isLost, runningAt, lostAt, lostBy, runningOf, lostOf, undoneOf}
 use Rattle.restart.specs.Restart.{restartOf}
 use Rattle.restart.proofs.SlotLaws.{filter-up, all-up, txs-up}

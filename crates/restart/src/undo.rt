@@ -93,15 +93,15 @@ fn better(t: Tx, code: u8, b: Best, i: usize) -> Best
     }
 }
 
-// The unfinished committing one with the highest number above csn.
-fn highest(image: Image, found: [u8; 8], csn: Csn) -> Best
+// The unfinished committing one with the highest number above the last one found.
+fn highest(image: Image, found: [u8; 8], last: Csn) -> Best
     requires { ⌜ image .count ≤ 8 ⌝ }
-    ensures { λ r. ⌜ r ≡ bestOf image found csn (image .count) ⌝ }
+    ensures { λ r. ⌜ r ≡ bestOf image found last (image .count) ⌝ }
 {
     let m = image.count as usize;
     let mut b = Best {
         at: Slot::Nowhere,
-        top: csn,
+        top: last,
     };
     let mut i: usize = 0;
     while i < m {
@@ -121,11 +121,11 @@ pub fn undo_lost(image: Image, p: Pass, memory: &mut [u8], tail: &mut [u8], n: u
     ensures { λ _. ⌜ now (memory .exit) ≡ undoEach layBytes (lostOf image p) (now (memory .entry)) ⌝ }
     ensures { λ _. ⌜ now (tail .exit) ≡ sets (now (tail .entry)) (n * 4) (encodeLog (aborts (lostOf image p))) ⌝ }
 {
-    let csn = p.csn;
+    let last = p.csn;
     let mut found = p.found;
     let mut k = n;
     loop {
-        let best = highest(image, found, csn);
+        let best = highest(image, found, last);
         let at = best.at;
         let Slot::At(i) = at else {
             return k;

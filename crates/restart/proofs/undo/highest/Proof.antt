@@ -52,7 +52,7 @@ returns c =
     let a = c .before .before .args in
     let l = c .before .loop in
     let e : l .i ≡ a .t1 .count = omega (arith, c .loop-test .left, l .inv .0, l .inv .1) in
-    l .inv .2 ∙ ap (bestOf (a .t1) (a .t2) (a .csn)) e
+    l .inv .2 ∙ ap (bestOf (a .t1) (a .t2) (a .last)) e
 
 pub highest-spec : {M : Type 1} → statement M
 highest-spec =
