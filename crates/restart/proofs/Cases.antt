@@ -17,7 +17,8 @@ use Rattle.restart.specs.declared.forward.Slot.the-variants.{At}
 use Rattle.restart.specs.declared.undo.Best.{Best}
 use Rattle.restart.specs.Slots.{txAt}
 use Rattle.restart.specs.Forward.{marked, undoLogged, past}
-use Rattle.restart.specs.Undo.{isRunning, isLost, betterOf}
+use Rattle.restart.specs.Undo.{isRunning, isLost}
+use Rattle.restart.specs.Turns.{betterOf}
 
 module _ (slot : Slot) (i : ℕ) (at : slot ≡ At i) where
   pub marked-hit : (found : List ℕ) (code : ℕ) → getD found i 0 ≡ 0 → marked found code slot ≡ set found i code

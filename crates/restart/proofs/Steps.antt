@@ -16,8 +16,8 @@ use Rattle.image.specs.declared.Image.{Image}
 use Rattle.restart.specs.declared.forward.Pass.{Pass}
 use Rattle.restart.specs.declared.forward.Slot.{Slot}
 use Rattle.restart.specs.Slots.{slotOf}
-use Rattle.restart.specs.Redo.{frontWrites}
-use Rattle.restart.specs.Forward.{Went, wentBy, undoLogged, past, onGroup, goOver, onFound, stepOf}
+use Rattle.restart.specs.Forward.{Went, wentBy, undoLogged, past, onGroup, goOver}
+use Rattle.restart.specs.Turns.{frontWrites, onFound, stepOf}
 use Rattle.restart.proofs.RedoLaws.{front-body}
 
 -- the two parts of a step from those of what it is

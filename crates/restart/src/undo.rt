@@ -15,8 +15,9 @@ ghost use Rattle.recovery.specs.Restart.{aborts};
 ghost use Rattle.log.specs.Log.{encodeLog};
 ghost use Rattle.transaction.specs.View.{rangesOf, viewOf};
 ghost use Rattle.transaction.specs.Rules.{recordsOk};
-ghost use Rattle.restart.specs.Slots.{Undoable, oneIf};
-ghost use Rattle.restart.specs.Undo.{isRunning, runningOf, betterOf, bestOf, lostOf};
+ghost use Rattle.restart.specs.Slots.{oneIf};
+ghost use Rattle.restart.specs.Undo.{isRunning, runningOf, lostOf};
+ghost use Rattle.restart.specs.Turns.{Undoable, betterOf, bestOf};
 
 // The committing transaction with the highest number so far, and that number.
 pub struct Best {

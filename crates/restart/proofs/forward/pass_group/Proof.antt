@@ -2,8 +2,8 @@ use Prim.Native.Nat.{_<_}
 use mathlib.Core.Path.{ap, subst}
 use borrow.Author.Needs.{needs}
 use Rattle.restart.specs.declared.forward.Slot.{Slot}
-use Rattle.restart.specs.Slots.{Below}
 use Rattle.restart.specs.Forward.{marked}
+use Rattle.restart.specs.Turns.{Below}
 use Rattle.restart.proofs.Cases.{past-case, marked-hit, marked-miss}
 use Rattle.restart.proofs.forward.pass_group.Statement.{statement}
 use Rattle.restart.proofs.forward.pass_group.Tie as tie

@@ -10,8 +10,8 @@ use Rattle.recovery.specs.Replay.{redoAll, layBytes}
 use Rattle.log.specs.Group.{readGroup, endOf}
 use Rattle.log.proofs.Basics.{from}
 use Rattle.log.proofs.Answers.{end-aborted, end-committed, end-none}
-use Rattle.restart.specs.Redo.{frontWrites}
 use Rattle.restart.specs.Forward.{wentBy}
+use Rattle.restart.specs.Turns.{frontWrites}
 use Rattle.restart.proofs.SlotLaws.{slot-below}
 use Rattle.restart.proofs.Steps.{as-step, step-none, step-abort, step-commit, step-room}
 use Rattle.restart.proofs.forward.step.Statement.{statement}

@@ -3,7 +3,7 @@ use native.Mathlib.Omega.{arith}
 use mathlib.Core.Path.{sym, _∙_, subst}
 use borrow.Author.Needs.{needs}
 use Rattle.restart.specs.declared.forward.Slot.{Slot}
-use Rattle.restart.specs.Slots.{Below}
+use Rattle.restart.specs.Turns.{Below}
 use Rattle.restart.proofs.Cases.{undone-hit, undone-miss}
 use Rattle.restart.proofs.forward.undo_logged.Statement.{statement}
 use Rattle.restart.proofs.forward.undo_logged.Tie as tie

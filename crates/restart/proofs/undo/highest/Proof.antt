@@ -6,7 +6,7 @@ use lib.ListN.{getD}
 use borrow.Author.Needs.{needs}
 use Rattle.image.specs.Slots.{slotAt}
 use Rattle.restart.specs.declared.undo.Best.{Best}
-use Rattle.restart.specs.Undo.{betterOf, bestOf}
+use Rattle.restart.specs.Turns.{betterOf, bestOf}
 use Rattle.restart.proofs.undo.highest.Statement.{statement}
 use Rattle.restart.proofs.undo.highest.Tie as tie
 
