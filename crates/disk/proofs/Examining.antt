@@ -17,6 +17,7 @@ use Rattle.image.specs.Reading.{memoryOf}
 use Rattle.image.specs.Calls.{emptyImage, decodeOf}
 use Rattle.image.proofs.Soundness.{decode-keeps}
 use Rattle.restart.specs.Restart.{Outcome, restartOf}
+use Rattle.restart.proofs.Rules.{image-few}
 use Rattle.restart.proofs.Recovery.{end-is, count-is, undone-few}
 use Rattle.disk.specs.Layout.{pointerOf, imagePart, logFrom}
 use Rattle.disk.specs.Examine.{Loaded, loadOf, Meaning, refusedBy, stepsOf, meant, fitting, ofLoaded, examineOf}
@@ -61,7 +62,7 @@ module _ (i : Image) (ok : keepsRules i ≡ true) (m disk : List ℕ) (l : lengt
 
   pub undone-within : stepsOf i m disk .answer .undone ≤ 16
   unfolding stepsOf
-  undone-within = let log = logFrom (i .logend) disk in omega (arith, count-is i ok log m (replicate 16384 0), undone-few i ok log m)
+  undone-within = let log = logFrom (i .logend) disk in omega (arith, count-is i ok log m (replicate 16384 0), undone-few i log, image-few i ok)
 
 -- ---- the meaning
 

@@ -17,21 +17,21 @@ use Rattle.restart.specs.declared.forward.Slot.the-variants.{At}
 use Rattle.restart.specs.declared.undo.Best.{Best}
 use Rattle.restart.specs.Slots.{txAt}
 use Rattle.restart.specs.Forward.{marked, undoLogged, past}
-use Rattle.restart.specs.Undo.{isRunning, isLost, betterOf}
+use Rattle.restart.specs.Undo.{isRunning, isLost}
+use Rattle.restart.specs.Turns.{betterOf}
 
-module _ (found : List ℕ) (code i : ℕ) where
-  pub marked-hit : getD found i 0 ≡ 0 → marked found code (At i) ≡ set found i code
-  marked-hit e = simp (eq-eqb _ _ e)
+module _ (slot : Slot) (i : ℕ) (at : slot ≡ At i) where
+  pub marked-hit : (found : List ℕ) (code : ℕ) → getD found i 0 ≡ 0 → marked found code slot ≡ set found i code
+  marked-hit found code e = rw at (simp (eq-eqb _ _ e))
 
-  pub marked-miss : (getD found i 0 ≡ 0 → ⊥) → marked found code (At i) ≡ found
-  marked-miss e = simp (ne-eqb _ _ e)
+  pub marked-miss : (found : List ℕ) (code : ℕ) → (getD found i 0 ≡ 0 → ⊥) → marked found code slot ≡ found
+  marked-miss found code e = rw at (simp (ne-eqb _ _ e))
 
-module _ (image : Image) (found m : List ℕ) (i : ℕ) where
-  pub undone-hit : getD found i 0 ≡ 0 → undoLogged image found (At i) m ≡ undoAll layBytes (txAt image i .undo) m
-  undone-hit e = simp (eq-eqb _ _ e)
+  pub undone-hit : (image : Image) (found m : List ℕ) → getD found i 0 ≡ 0 → undoLogged image found slot m ≡ undoAll layBytes (txAt image i .undo) m
+  undone-hit image found m e = rw at (simp (eq-eqb _ _ e))
 
-  pub undone-miss : (getD found i 0 ≡ 0 → ⊥) → undoLogged image found (At i) m ≡ m
-  undone-miss e = simp (ne-eqb _ _ e)
+  pub undone-miss : (image : Image) (found m : List ℕ) → (getD found i 0 ≡ 0 → ⊥) → undoLogged image found slot m ≡ m
+  undone-miss image found m e = rw at (simp (ne-eqb _ _ e))
 
 pub past-case : (p : Pass) (slot : Slot) (id code end : ℕ) (csn : Csn) (l : TxId) (found : List ℕ)
     → l .0 ≡ max (p .last .0) id → marked (p .found) code slot ≡ found

@@ -1,5 +1,5 @@
--- The laws of restart: slots and the image rules, the pass over the log (RedoLaws, Steps), step 4 (Undos, Sort, Select), the cases of the
--- definitions that the code's branches meet (Cases).
+-- The laws of restart. Recovery: what `restartOf` leaves, in recovery's terms; Worked: cases M3 to M5. Under them: slots (SlotLaws), the image
+-- rules (Rules), the pass over the log (RedoLaws, Steps, Passed), step 4 (Undos, Sort, Select), and the branches of the code (Cases).
 pub mod SlotLaws
 pub mod Rules
 pub mod RedoLaws
@@ -10,3 +10,4 @@ pub mod Undos
 pub mod Select
 pub mod Passed
 pub mod Recovery
+pub mod Worked

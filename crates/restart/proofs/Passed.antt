@@ -1,18 +1,18 @@
 -- What the pass over groups leaves: the codes, memory as recovery's `forward` has it, and the numbers.
-use Prim.Native.Nat.{ℕ, zero, suc, _+_, _≤_, _<_, max}
+use Prim.Native.Nat.{ℕ, _+_, _≤_, _<_, max}
 use native.Mathlib.Omega.{arith}
 use mathlib.Core.Bool.{Bool, true, false, cond, not, _||_}
 use mathlib.Core.List.{List, [], _∷_}
 use mathlib.Core.Option.{Option}
 use mathlib.Core.Path.{_≡_, refl, sym, ap, _∙_}
-use lib.ListN.{length, getD, set, length-set, replicate}
+use lib.ListN.{length, getD, set, length-set}
 use lib.Dec.{eqb}
 use lib.Seq.{getD-set-same, getD-set-other}
 use borrow.Author.Tests.{eqb-true, eqb-false, ne-eqb}
-use Rattle.recovery.specs.Group.{Write, Group, committed, aborted, groupSize, groupsSize, csnAfter, lastCsn}
+use Rattle.recovery.specs.Group.{Group, committed, aborted, groupsSize, lastCsn}
 use Rattle.recovery.specs.Lists.{All, nil, cons, has}
 use Rattle.recovery.specs.Transaction.{Tx}
-use Rattle.recovery.specs.Replay.{redoAll, undoAll, layBytes}
+use Rattle.recovery.specs.Replay.{undoAll, layBytes}
 use Rattle.recovery.specs.Restart.{groupId, finished, undoRecords, undoOf, forward}
 use Rattle.recovery.proofs.Lists.{all-map}
 use Rattle.image.specs.declared.Image.{Image}

@@ -3,33 +3,32 @@ use Prim.Native.Nat.{ℕ, zero, suc, _+_, _*_, _-_, _≤_, _<_, max}
 use native.Mathlib.Omega.{arith}
 use mathlib.Core.Bool.{Bool, true, false, not, cond, _&&_}
 use mathlib.Core.List.{List, [], _∷_, _++_}
-use mathlib.Core.Path.{_≡_, refl, sym, ap, ap₂, _∙_, subst}
+use mathlib.Core.Path.{_≡_, refl, sym, ap, ap₂, _∙_}
 use lib.ListN.{length, getD, drop, replicate, length-replicate, length-append}
 use lib.Dec.{eqb, ltb}
 use lib.Seq.{sets, sets-eq}
 use borrow.Author.Tests.{ne-eqb}
-use Rattle.recovery.specs.Group.{Group, groupsSize, lastCsn}
+use Rattle.recovery.specs.Group.{groupsSize, lastCsn}
 use Rattle.recovery.specs.Lists.{All, nil, cons, filter, has}
 use Rattle.recovery.specs.Transaction.{Tx, running, committing}
 use Rattle.recovery.specs.Replay.{undoEach, layBytes}
-use Rattle.recovery.specs.Restart.{groupId, finished, unfinished, sortDesc, above, undoOrder, undone, aborts, forward, recover}
+use Rattle.recovery.specs.Restart.{groupId, finished, unfinished, sortDesc, above, undoOrder, undone, aborts, recover}
 use Rattle.recovery.proofs.Lists.{all-map, all-filter, filter-append, filter-filter}
 use Rattle.recovery.proofs.AbortLaw.{order-all}
 use Rattle.log.specs.Log.{readLog, encodeLog, wellFormedLog}
 use Rattle.log.proofs.Torn.{log-padded}
-use Rattle.transaction.specs.Lists.{upFrom}
+use Rattle.transaction.proofs.Lists.{length-up}
 use Rattle.image.specs.declared.Image.{Image}
-use Rattle.image.specs.Slots.{slotAt}
 use Rattle.image.specs.Rules.{keepsRules}
 use Rattle.restart.specs.declared.forward.Pass.{Pass}
 use Rattle.restart.specs.Slots.{txAt, txsOf, filterBelow}
-use Rattle.restart.specs.Forward.{Went, startOf, groupsOf, goOver, forwardOf}
+use Rattle.restart.specs.Forward.{startOf, groupsOf, forwardOf}
 use Rattle.restart.specs.Undo.{isRunning, isLost, runningAt, lostAt, lostBy, runningOf, lostOf, undoneOf}
 use Rattle.restart.specs.Restart.{restartOf}
 use Rattle.restart.proofs.SlotLaws.{filter-up, all-up, txs-up}
 use Rattle.restart.proofs.Rules.{image-few, ruled}
-use Rattle.restart.proofs.Sort.{filter-sort}
-use Rattle.restart.proofs.Undos.{aborts-length, running-few, lost-few}
+use Rattle.restart.proofs.Sort.{sort-length, filter-sort}
+use Rattle.restart.proofs.Undos.{aborts-length}
 use Rattle.restart.proofs.Passed.{highestId, ids-below, counted, firstCode, codes-from, unused-codes, Marks, Seen, seen}
 
 abbrev pub zeros : ℕ → List ℕ
@@ -44,6 +43,46 @@ drop-zeros : (n k : ℕ) → k ≤ n → drop k (zeros n) ≡ zeros (n - k)
 drop-zeros n zero h = let e : n ≡ n - 0 = omega arith in ap zeros e
 drop-zeros zero (suc k) h = absurd (omega arith)
 drop-zeros (suc n) (suc k) h = let e : n - k ≡ suc n - suc k = omega arith in drop-zeros n k (omega arith) ∙ ap zeros e
+
+-- ---- how many step 4 undoes
+
+-- what step 4 undoes, by recovery
+abbrev pub undoneBy : Image → List ℕ → List Tx
+undoneBy image log = undone (txsOf image) (image .ondisk .0) (groupsOf image log)
+
+filter-few : (p : Tx → Bool) (ts : List Tx) → length (filter p ts) ≤ length ts
+filter-few p [] = omega arith
+filter-few p (t ∷ ts) = go (p t) (filter-few p ts)
+  where
+    go : (b : Bool) → length (filter p ts) ≤ length ts → length (cond b (t ∷ filter p ts) (filter p ts)) ≤ suc (length ts)
+    go true h = omega arith
+    go false h = omega arith
+
+both-kinds : (ts : List Tx) → length (running ts) + length (committing ts) ≡ length ts
+both-kinds [] = refl
+both-kinds (t ∷ ts) = go (t .committing) (both-kinds ts)
+  where
+    go : (b : Bool) → length (running ts) + length (committing ts) ≡ length ts
+        → length (cond (not b) (t ∷ running ts) (running ts)) + length (cond b (t ∷ committing ts) (committing ts)) ≡ suc (length ts)
+    go true h = omega arith
+    go false h = omega arith
+
+-- no more than the image lists
+pub undone-few : (image : Image) (log : List ℕ) → length (undoneBy image log) ≤ image .count
+unfolding undoOrder
+undone-few image log =
+    let txs = txsOf image in
+    let n = lastCsn (image .ondisk .0) (groupsOf image log) in
+    let late = above n (committing txs) in
+    omega (
+      arith,
+      filter-few (λ t. not (has (t .id) (finished (groupsOf image log) []))) (undoOrder txs n),
+      length-append (running txs) (sortDesc late),
+      sort-length late,
+      filter-few (λ t. ltb n (t .csn)) (committing txs),
+      both-kinds txs,
+      ap length (txs-up image) ∙ length-up (txAt image) (image .count) 0,
+    )
 
 module _ (image : Image) (ok : keepsRules image ≡ true) where
   -- ---- step 4, for codes that mark the finished ids
@@ -106,12 +145,8 @@ module _ (image : Image) (ok : keepsRules image ≡ true) where
     passed : Seen image ok (groupsOf image log) (startOf image m) []
     passed = seen image ok (groupsOf image log) (startOf image m) [] refl (λ i h. sym (ap (λ (x : ℕ). not (eqb x 0)) (zero-at 8 i)))
 
-    -- what step 4 undoes, by recovery
-    abbrev pub undoneBy : List Tx
-    undoneBy = undone (txsOf image) (image .ondisk .0) (groupsOf image log)
-
     -- those undone in step 4, in order
-    pub undone-is : undoneOf image (forwardOf image log m .pass) ≡ undoneBy
+    pub undone-is : undoneOf image (forwardOf image log m .pass) ≡ undoneBy image log
     unfolding forwardOf
     undone-is =
         undone-by (forwardOf image log m .pass) (finished (groupsOf image log) []) (passed .marks)
@@ -122,7 +157,7 @@ module _ (image : Image) (ok : keepsRules image ≡ true) where
       unfolding restartOf forwardOf
       memory-is = ap₂ (λ (ts : List Tx) (x : List ℕ). undoEach layBytes ts x) undone-is (passed .memory)
 
-      pub count-is : restartOf image log m tail .answer .undone ≡ length undoneBy
+      pub count-is : restartOf image log m tail .answer .undone ≡ length (undoneBy image log)
       unfolding restartOf
       count-is = ap length undone-is
 
@@ -160,34 +195,29 @@ module _ (image : Image) (ok : keepsRules image ≡ true) where
 
     -- ---- the tail
 
-    pub undone-few : length undoneBy ≤ 16
-    unfolding lostOf
-    undone-few =
-        let p = forwardOf image log m .pass in
-        omega (arith, ap length undone-is, length-append (runningOf image p) (lostOf image p), running-few image p, lost-few image (p .found) (p .csn .0), image-few image ok)
-
     -- a tail of zeros has the abort records of those undone, and zeros after them
-    pub tail-is : restartOf image log m (zeros 16384) .tail ≡ encodeLog (aborts undoneBy) ++ zeros (16384 - 4 * length undoneBy)
+    pub tail-is : restartOf image log m (zeros 16384) .tail ≡ encodeLog (aborts (undoneBy image log)) ++ zeros (16384 - 4 * length (undoneBy image log))
     unfolding restartOf
     tail-is =
-        let xs = encodeLog (aborts undoneBy) in
-        let l = aborts-length undoneBy in
-        let few = undone-few in
+        let xs = encodeLog (aborts (undoneBy image log)) in
+        let l = aborts-length (undoneBy image log) in
+        let few = undone-few image log in
+        let most = image-few image ok in
         let z : 0 + length xs ≤ length (zeros 16384) = omega (arith, length-replicate {A = ℕ} 16384 0) in
-        let e : 0 + length xs ≡ 4 * length undoneBy = omega arith in
+        let e : 0 + length xs ≡ 4 * length (undoneBy image log) = omega arith in
         ap (λ (ts : List Tx). sets (zeros 16384) 0 (encodeLog (aborts ts))) undone-is
         ∙ sets-eq xs (zeros 16384) 0 z
         ∙ ap (λ (k : ℕ). xs ++ drop k (zeros 16384)) e
-        ∙ ap (λ (ys : List ℕ). xs ++ ys) (drop-zeros 16384 (4 * length undoneBy) (omega arith))
+        ∙ ap (λ (ys : List ℕ). xs ++ ys) (drop-zeros 16384 (4 * length (undoneBy image log)) (omega arith))
 
     aborts-well : (prev : ℕ) {ts : List Tx} → All (λ t. 1 ≤ t .id) ts → wellFormedLog prev (aborts ts) ≡ true
     aborts-well prev nil = refl
     aborts-well prev (cons {x} h hs) = rw (ne-eqb (x .id) 0 (λ e. omega arith)) (aborts-well prev hs)
 
     -- it is read back as exactly those groups, after any commit number
-    pub tail-read : (prev : ℕ) → readLog prev (restartOf image log m (zeros 16384) .tail) ≡ aborts undoneBy
+    pub tail-read : (prev : ℕ) → readLog prev (restartOf image log m (zeros 16384) .tail) ≡ aborts (undoneBy image log)
     tail-read prev =
         let named : All (λ t. 1 ≤ t .id) (txsOf image) = rw txs-up (all-up (txAt image) (image .count) 0 (λ j a b. ruled image ok j (omega arith) .named)) in
         ap (readLog prev) tail-is
-        ∙ log-padded prev (aborts undoneBy) (16384 - 4 * length undoneBy)
+        ∙ log-padded prev (aborts (undoneBy image log)) (16384 - 4 * length (undoneBy image log))
         (aborts-well prev (all-filter (λ t. not (has (t .id) (finished (groupsOf image log) []))) (order-all (txsOf image) (lastCsn (image .ondisk .0) (groupsOf image log)) named)))

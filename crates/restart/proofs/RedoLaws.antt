@@ -1,7 +1,6 @@
 -- Laws of the redo records at the front of a list: one at a time, as the code does them, and that of a whole group they are its writes.
-use Prim.Native.Nat.{ℕ, _+_, _-_, _≤_, _<_}
+use Prim.Native.Nat.{ℕ, _+_, _-_, _≤_}
 use native.Mathlib.Omega.{arith}
-use mathlib.Core.Bool.{_&&_}
 use mathlib.Core.List.{List, [], _∷_}
 use mathlib.Core.Option.{Option, none, some}
 use mathlib.Core.Path.{_≡_, refl, sym, ap, ap₂, _∙_, subst}
@@ -19,7 +18,7 @@ use Rattle.log.proofs.Reader.{Shrinks, step}
 use Rattle.log.proofs.RecordLaws.{keep-inv, record-cases, record-within}
 use Rattle.log.proofs.GroupLaws.{body-inv}
 use Rattle.transaction.proofs.Ranges.{in-range}
-use Rattle.restart.specs.Redo.{layFront, frontSize, onRecord, redoStep, frontWrites}
+use Rattle.restart.specs.Turns.{layFront, frontSize, onRecord, redoStep, frontWrites}
 
 -- ---- what a redo record that is read says of its bytes
 

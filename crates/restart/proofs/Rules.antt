@@ -1,7 +1,7 @@
 -- What the image rules say of the transactions in the slots.
 use Prim.Native.Nat.{ℕ, zero, suc, _+_, _≤_, _<_}
 use native.Mathlib.Omega.{arith}
-use mathlib.Core.Bool.{Bool, true, false, cond, not, _&&_, _||_}
+use mathlib.Core.Bool.{Bool, true, false, cond, not, _&&_}
 use mathlib.Core.List.{List}
 use mathlib.Core.Option.{none, some}
 use mathlib.Core.Path.{_≡_, refl, sym, ap, _∙_, subst}
@@ -24,7 +24,8 @@ use Rattle.image.specs.declared.Image.{Image}
 use Rattle.image.specs.Slots.{slotAt, outlineAt, outlined}
 use Rattle.image.specs.Rules.{alikeTo, distinct, keepsRules}
 use Rattle.restart.specs.declared.forward.Slot.the-variants.{At, Nowhere}
-use Rattle.restart.specs.Slots.{txAt, txsOf, hasId, slotOf, Undoable}
+use Rattle.restart.specs.Slots.{txAt, txsOf, hasId, slotOf}
+use Rattle.restart.specs.Turns.{Undoable}
 use Rattle.restart.proofs.SlotLaws.{first-at, first-none, all-at, all-up, txs-up}
 
 -- ---- the rules of one transaction

@@ -8,7 +8,7 @@ use lib.ListN.{length, getD, set}
 use lib.Dec.{eqb, ltb}
 use lib.Seq.{getD-set-same, getD-set-other}
 use borrow.Author.Tests.{ltb-true, ltb-false, lt-ltb}
-use Rattle.recovery.specs.Lists.{All, nil, cons}
+use Rattle.recovery.specs.Lists.{nil, cons}
 use Rattle.recovery.specs.Transaction.{Tx}
 use Rattle.recovery.specs.Restart.{sortDesc}
 use Rattle.recovery.proofs.Lists.{all-map, all-append}
@@ -20,7 +20,8 @@ use Rattle.restart.specs.declared.forward.Slot.{Slot}
 use Rattle.restart.specs.declared.forward.Slot.the-variants.{At, Nowhere}
 use Rattle.restart.specs.declared.undo.Best.{Best}
 use Rattle.restart.specs.Slots.{txAt, oneIf, filterBelow}
-use Rattle.restart.specs.Undo.{isLost, lostAt, betterOf, bestOf, lostBy}
+use Rattle.restart.specs.Undo.{isLost, lostAt, lostBy}
+use Rattle.restart.specs.Turns.{betterOf, bestOf}
 use Rattle.restart.proofs.SlotLaws.{filter-same}
 use Rattle.restart.proofs.Sort.{AllLe, AllLt, sort-pick}
 

@@ -21,7 +21,8 @@ use Rattle.image.specs.declared.Image.{Image}
 use Rattle.image.specs.Slots.{slotAt}
 use Rattle.restart.specs.declared.forward.Slot.{Slot}
 use Rattle.restart.specs.declared.forward.Slot.the-variants.{At, Nowhere}
-use Rattle.restart.specs.Slots.{txAt, txsOf, orAt, firstBelow, hasId, slotOf, Below, oneIf, filterBelow}
+use Rattle.restart.specs.Slots.{txAt, txsOf, orAt, firstBelow, hasId, slotOf, oneIf, filterBelow}
+use Rattle.restart.specs.Turns.{Below}
 
 module _ (p : ℕ → Bool) (i : ℕ) where
   pub first-miss : firstBelow p i ≡ Nowhere → p i ≡ false → firstBelow p (i + 1) ≡ Nowhere

@@ -1,9 +1,9 @@
 -- Laws of the pass over the log, a group at a time.
 use Prim.Native.Nat.{ℕ, _+_, _≤_}
 use native.Mathlib.Omega.{arith}
-use mathlib.Core.List.{List, []}
+use mathlib.Core.List.{List}
 use mathlib.Core.Option.{Option, none, some}
-use mathlib.Core.Path.{_≡_, refl, sym, ap, ap₂, _∙_}
+use mathlib.Core.Path.{_≡_, refl, sym, ap, _∙_}
 use lib.ListN.{length, drop, length-drop}
 use lib.Seq.{drop-drop}
 use Rattle.recovery.specs.Group.{Write, Group, committed, aborted, redoSize, groupSize, csnAfter}
@@ -16,8 +16,8 @@ use Rattle.image.specs.declared.Image.{Image}
 use Rattle.restart.specs.declared.forward.Pass.{Pass}
 use Rattle.restart.specs.declared.forward.Slot.{Slot}
 use Rattle.restart.specs.Slots.{slotOf}
-use Rattle.restart.specs.Redo.{frontWrites}
-use Rattle.restart.specs.Forward.{Went, wentBy, undoLogged, past, onGroup, goOver, onFound, stepOf}
+use Rattle.restart.specs.Forward.{Went, wentBy, undoLogged, past, onGroup, goOver}
+use Rattle.restart.specs.Turns.{frontWrites, onFound, stepOf}
 use Rattle.restart.proofs.RedoLaws.{front-body}
 
 -- the two parts of a step from those of what it is

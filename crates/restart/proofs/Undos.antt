@@ -20,7 +20,7 @@ use Rattle.restart.specs.declared.forward.Pass.{Pass}
 use Rattle.restart.specs.Slots.{txAt, oneIf}
 use Rattle.restart.specs.Forward.{Went, wentBy, forwardOf}
 use Rattle.restart.specs.Undo.{runningAt, lostAt, lostBy, runningOf, lostOf}
-use Rattle.restart.specs.Restart.{Outcome, answerOf, outcome, restartOf}
+use Rattle.restart.specs.Restart.{Outcome, outcome, restartOf}
 use Rattle.restart.proofs.SlotLaws.{filter-length}
 use Rattle.restart.proofs.Sort.{sort-length}
 

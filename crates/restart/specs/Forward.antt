@@ -2,13 +2,11 @@
 use Prim.Native.Nat.{ℕ, _+_, max}
 use mathlib.Core.Bool.{cond}
 use mathlib.Core.List.{List, [], _∷_}
-use mathlib.Core.Option.{Option, none, some}
-use lib.ListN.{getD, set, drop, replicate}
+use lib.ListN.{getD, set, replicate}
 use lib.Dec.{eqb}
 use Rattle.recovery.specs.Group.{Group, committed, aborted, groupSize, csnAfter}
 use Rattle.recovery.specs.Replay.{redoAll, undoAll, layBytes}
 use Rattle.recovery.specs.Restart.{groupId}
-use Rattle.log.specs.Group.{readGroup}
 use Rattle.log.specs.Log.{readLog}
 use Rattle.image.specs.declared.Image.{Image}
 use Rattle.restart.specs.declared.forward.Pass.{Pass}
@@ -70,11 +68,3 @@ groupsOf image log = readLog (image .ondisk .0) log
 
 unfoldable pub forwardOf : Image → List ℕ → List ℕ → Went
 forwardOf image log m = goOver image (groupsOf image log) (startOf image m)
-
--- one turn of the code: the group at the end reached, if one stands there
-abbrev pub onFound : Image → Option Group → Went → Went
-onFound image none w = w
-onFound image (some g) w = onGroup image g w
-
-unfoldable pub stepOf : Image → List ℕ → Went → Went
-stepOf image log w = onFound image (readGroup (w .pass .csn .0) (drop (w .pass .end) log)) w

@@ -1,12 +1,10 @@
 -- The image's transactions by slot and by id, and lists over its slots.
-use Prim.Native.Nat.{ℕ, zero, suc, _≤_, _<_}
+use Prim.Native.Nat.{ℕ, zero, suc}
 use mathlib.Core.Bool.{Bool, true, false}
 use mathlib.Core.List.{List, [], _∷_, _++_, map}
-use mathlib.Core.Path.{_≡_}
 use lib.Dec.{eqb}
 use Rattle.recovery.specs.Transaction.{Tx as Transaction}
-use Rattle.transaction.specs.View.{rangesOf, viewOf}
-use Rattle.transaction.specs.Rules.{recordsOk}
+use Rattle.transaction.specs.View.{viewOf}
 use Rattle.image.specs.declared.Image.{Image}
 use Rattle.image.specs.Slots.{slotAt, listed}
 use Rattle.restart.specs.declared.forward.Slot.{Slot}
@@ -38,11 +36,6 @@ hasId image id i = eqb (txAt image i .id) id
 abbrev pub slotOf : Image → ℕ → Slot
 slotOf image id = firstBelow (hasId image id) (image .count)
 
--- a slot, if it is one, lies below n
-abbrev pub Below : ℕ → Slot → Type 0
-Below n Nowhere = Unit {0}
-Below n (At i) = i < n
-
 -- one element, or none
 abbrev pub oneIf : {A : Type 0} → Bool → A → List A
 oneIf true a = a ∷ []
@@ -52,8 +45,3 @@ oneIf false a = []
 abbrev pub filterBelow : {A : Type 0} → (ℕ → Bool) → (ℕ → A) → ℕ → List A
 filterBelow p f zero = []
 filterBelow p f (suc n) = filterBelow p f n ++ oneIf (p n) (f n)
-
--- of the image rules, what the inner functions rest on
-pub record Undoable (image : Image) : Type 0 where
-  pub few : image .count ≤ 8
-  pub ranged : (i : ℕ) → i < image .count → recordsOk (rangesOf (slotAt (image .txs) i .undo)) ≡ true

@@ -1,18 +1,15 @@
 -- Step 4: what is left unfinished, in the order of undoing.
-use Prim.Native.Nat.{ℕ, zero, suc}
-use mathlib.Core.Bool.{Bool, cond, _&&_}
+use Prim.Native.Nat.{ℕ}
+use mathlib.Core.Bool.{Bool, _&&_}
 use mathlib.Core.List.{List, _++_}
 use lib.ListN.{getD}
 use lib.Dec.{eqb, ltb}
 use Rattle.recovery.specs.Transaction.{Tx as Transaction}
 use Rattle.recovery.specs.Restart.{sortDesc}
-use Rattle.log.specs.declared.Csn.{Csn}
 use Rattle.transaction.specs.declared.Tx.{Tx}
 use Rattle.image.specs.declared.Image.{Image}
 use Rattle.image.specs.Slots.{slotAt}
 use Rattle.restart.specs.declared.forward.Pass.{Pass}
-use Rattle.restart.specs.declared.forward.Slot.the-variants.{At, Nowhere}
-use Rattle.restart.specs.declared.undo.Best.{Best}
 use Rattle.restart.specs.Slots.{txAt, filterBelow}
 
 -- a transaction with that code is unfinished and running
@@ -44,11 +41,3 @@ lostOf image p = sortDesc (lostBy image (p .found) (p .csn .0))
 -- "Undo the unfinished running ones .., then the unfinished committing ones"
 abbrev pub undoneOf : Image → Pass → List Transaction
 undoneOf image p = runningOf image p ++ lostOf image p
-
--- as the code looks for the highest: the better of b and a transaction, which stands in slot i
-unfoldable pub betterOf : Tx → ℕ → Best → ℕ → Best
-betterOf t code b i = cond (isLost (b .top .0) code t) (record { at = At i; top = t .csn }) b
-
-abbrev pub bestOf : Image → List ℕ → Csn → ℕ → Best
-bestOf image found csn zero = record { at = Nowhere; top = csn }
-bestOf image found csn (suc n) = betterOf (slotAt (image .txs) n) (getD found n 0) (bestOf image found csn n) n

@@ -12,9 +12,9 @@ ghost use Prim.Native.Nat.{_≤_, max};
 ghost use lib.ListN.{length};
 ghost use Rattle.recovery.specs.Replay.{redoAll, layBytes};
 ghost use Rattle.log.specs.Record.{readRecord};
-ghost use Rattle.restart.specs.Slots.{Undoable, Below, slotOf};
-ghost use Rattle.restart.specs.Redo.{layFront, frontSize, frontWrites};
-ghost use Rattle.restart.specs.Forward.{wentBy, undoLogged, past, stepOf, forwardOf};
+ghost use Rattle.restart.specs.Slots.{slotOf};
+ghost use Rattle.restart.specs.Forward.{wentBy, undoLogged, past, forwardOf};
+ghost use Rattle.restart.specs.Turns.{Undoable, Below, layFront, frontSize, frontWrites, stepOf};
 
 // What the pass has found: the end that it reached, the last commit number, the highest id, and for each transaction of the image a code by
 // the first group of its id: 0 none, 1 a commit, 2 an abort. A transaction with a code is finished.

@@ -15,8 +15,9 @@ ghost use Rattle.recovery.specs.Restart.{aborts};
 ghost use Rattle.log.specs.Log.{encodeLog};
 ghost use Rattle.transaction.specs.View.{rangesOf, viewOf};
 ghost use Rattle.transaction.specs.Rules.{recordsOk};
-ghost use Rattle.restart.specs.Slots.{Undoable, oneIf};
-ghost use Rattle.restart.specs.Undo.{isRunning, runningOf, betterOf, bestOf, lostOf};
+ghost use Rattle.restart.specs.Slots.{oneIf};
+ghost use Rattle.restart.specs.Undo.{isRunning, runningOf, lostOf};
+ghost use Rattle.restart.specs.Turns.{Undoable, betterOf, bestOf};
 
 // The committing transaction with the highest number so far, and that number.
 pub struct Best {
@@ -93,15 +94,15 @@ fn better(t: Tx, code: u8, b: Best, i: usize) -> Best
     }
 }
 
-// The unfinished committing one with the highest number above csn.
-fn highest(image: Image, found: [u8; 8], csn: Csn) -> Best
+// The unfinished committing one with the highest number above the last one found.
+fn highest(image: Image, found: [u8; 8], last: Csn) -> Best
     requires { ⌜ image .count ≤ 8 ⌝ }
-    ensures { λ r. ⌜ r ≡ bestOf image found csn (image .count) ⌝ }
+    ensures { λ r. ⌜ r ≡ bestOf image found last (image .count) ⌝ }
 {
     let m = image.count as usize;
     let mut b = Best {
         at: Slot::Nowhere,
-        top: csn,
+        top: last,
     };
     let mut i: usize = 0;
     while i < m {
@@ -121,11 +122,11 @@ pub fn undo_lost(image: Image, p: Pass, memory: &mut [u8], tail: &mut [u8], n: u
     ensures { λ _. ⌜ now (memory .exit) ≡ undoEach layBytes (lostOf image p) (now (memory .entry)) ⌝ }
     ensures { λ _. ⌜ now (tail .exit) ≡ sets (now (tail .entry)) (n * 4) (encodeLog (aborts (lostOf image p))) ⌝ }
 {
-    let csn = p.csn;
+    let last = p.csn;
     let mut found = p.found;
     let mut k = n;
     loop {
-        let best = highest(image, found, csn);
+        let best = highest(image, found, last);
         let at = best.at;
         let Slot::At(i) = at else {
             return k;

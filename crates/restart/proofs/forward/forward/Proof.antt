@@ -2,7 +2,8 @@ use Prim.Native.Nat.{_-_, _≤_}
 use native.Mathlib.Omega.{arith}
 use mathlib.Core.Path.{_≡_, refl, sym, ap, ap₂, _∙_}
 use lib.ListN.{length}
-use Rattle.restart.specs.Forward.{Went, wentBy, stepOf, forwardOf}
+use Rattle.restart.specs.Forward.{Went, wentBy, forwardOf}
+use Rattle.restart.specs.Turns.{stepOf}
 use Rattle.restart.proofs.Steps.{rest, rest-step, rest-done, step-within}
 use Rattle.restart.proofs.forward.forward.Statement.{statement}
 use Rattle.restart.proofs.forward.forward.Tie as tie

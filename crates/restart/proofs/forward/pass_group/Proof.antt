@@ -1,10 +1,9 @@
 use Prim.Native.Nat.{_<_}
-use mathlib.Core.List.{List}
-use mathlib.Core.Path.{_≡_, ap, _∙_, subst}
+use mathlib.Core.Path.{ap, subst}
 use borrow.Author.Needs.{needs}
 use Rattle.restart.specs.declared.forward.Slot.{Slot}
-use Rattle.restart.specs.Slots.{Below}
 use Rattle.restart.specs.Forward.{marked}
+use Rattle.restart.specs.Turns.{Below}
 use Rattle.restart.proofs.Cases.{past-case, marked-hit, marked-miss}
 use Rattle.restart.proofs.forward.pass_group.Statement.{statement}
 use Rattle.restart.proofs.forward.pass_group.Tie as tie
@@ -32,7 +31,7 @@ element-copy-out-if1 c = few (c .before)
 returns-2 : tie.Need-returns-2
 returns-2 c =
     let a = c .before .before .before .before .before .before .before .args in
-    past-case (a .t1) (a .slot) _ (a .code) _ _ _ _ (c .before .before .before .before .before .larger .ensures) (ap (marked (a .t1 .found) (a .code)) (c .before .before .before .slot .given .1) ∙ marked-miss _ (a .code) _ (c .if1 .taken))
+    past-case (a .t1) (a .slot) _ (a .code) _ _ _ _ (c .before .before .before .before .before .larger .ensures) (marked-miss (a .slot) _ (c .before .before .before .slot .given .1) (a .t1 .found) (a .code) (c .if1 .taken))
 
 element-write-p : tie.Need-element-write-p
 element-write-p c = few (c .before .before .before)
@@ -40,8 +39,7 @@ element-write-p c = few (c .before .before .before)
 returns-3 : tie.Need-returns-3
 returns-3 c =
     let a = c .before .before .before .before .before .before .before .args in
-    past-case (a .t1) (a .slot) _ (a .code) _ _ _ _ (c .before .before .before .before .before .larger .ensures)
-    (ap (marked (a .t1 .found) (a .code)) (c .before .before .before .slot .given .1) ∙ marked-hit (a .t1 .found) (a .code) (c .before .before .before .slot .given .0 .0) (c .if1 .left))
+    past-case (a .t1) (a .slot) _ (a .code) _ _ _ _ (c .before .before .before .before .before .larger .ensures) (marked-hit (a .slot) _ (c .before .before .before .slot .given .1) (a .t1 .found) (a .code) (c .if1 .left))
 
 pub pass-group-spec : {M : Type 1} → statement M
 pass-group-spec =

@@ -8,7 +8,7 @@ use borrow.Author.Needs.{needs}
 use Rattle.recovery.specs.Replay.{redoAll, layBytes}
 use Rattle.log.specs.Record.{readRecord}
 use Rattle.log.proofs.Basics.{from, Turned}
-use Rattle.restart.specs.Redo.{layFront, frontSize, frontWrites}
+use Rattle.restart.specs.Turns.{layFront, frontSize, frontWrites}
 use Rattle.restart.proofs.RedoLaws.{redo-turn, redo-done}
 use Rattle.restart.proofs.forward.redo_all.Statement.{statement}
 use Rattle.restart.proofs.forward.redo_all.Tie as tie

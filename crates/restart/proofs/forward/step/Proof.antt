@@ -10,8 +10,8 @@ use Rattle.recovery.specs.Replay.{redoAll, layBytes}
 use Rattle.log.specs.Group.{readGroup, endOf}
 use Rattle.log.proofs.Basics.{from}
 use Rattle.log.proofs.Answers.{end-aborted, end-committed, end-none}
-use Rattle.restart.specs.Redo.{frontWrites}
 use Rattle.restart.specs.Forward.{wentBy}
+use Rattle.restart.specs.Turns.{frontWrites}
 use Rattle.restart.proofs.SlotLaws.{slot-below}
 use Rattle.restart.proofs.Steps.{as-step, step-none, step-abort, step-commit, step-room}
 use Rattle.restart.proofs.forward.step.Statement.{statement}
@@ -59,9 +59,10 @@ undo-logged-requires c κs =
 
 add-pass-group : tie.Need-add-pass-group
 add-pass-group c =
-    let a = c .before .before .before .before .before .before .before .before .before .before .before .before .before .before .args in
+    let s = c .before .before .before .before .before .before .before .before .before .before .before .before .before .before in
+    let a = s .args in
     let e = abort-at (c .before .before .before .before .before .before .before) in
-    omega (arith, step-room (a .image) (a .log .now) (wentBy (a .memory .now) (a .p)) _ (c .before .before .before .before .before .before .before .before .before .before .before .before .before .before .pre .1 .1) (e .0), e .1, c .before .before .before .before .before .before .before .before .before .before .before .before .before .before .good)
+    omega (arith, step-room (a .image) (a .log .now) (wentBy (a .memory .now) (a .p)) _ (s .pre .1 .1) (e .0), e .1, s .good)
 
 pass-group-requires : tie.Need-pass-group-requires
 pass-group-requires c κs =
@@ -98,9 +99,10 @@ redo-all-requires c κs = search needs
 
 add-pass-group-2 : tie.Need-add-pass-group-2
 add-pass-group-2 c =
-    let a = c .before .before .before .before .before .before .before .before .before .before .before .before .before .before .args in
+    let s = c .before .before .before .before .before .before .before .before .before .before .before .before .before .before in
+    let a = s .args in
     let e = commit-at (c .before .before .before .before .before .before .before) in
-    omega (arith, step-room (a .image) (a .log .now) (wentBy (a .memory .now) (a .p)) _ (c .before .before .before .before .before .before .before .before .before .before .before .before .before .before .pre .1 .1) (e .1), e .2, c .before .before .before .before .before .before .before .before .before .before .before .before .before .before .good)
+    omega (arith, step-room (a .image) (a .log .now) (wentBy (a .memory .now) (a .p)) _ (s .pre .1 .1) (e .1), e .2, s .good)
 
 pass-group-requires-2 : tie.Need-pass-group-requires-2
 pass-group-requires-2 c κs =

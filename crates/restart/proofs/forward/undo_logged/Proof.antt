@@ -1,10 +1,9 @@
 use Prim.Native.Nat.{_<_}
 use native.Mathlib.Omega.{arith}
-use mathlib.Core.Path.{_≡_, sym, ap, _∙_, subst}
+use mathlib.Core.Path.{sym, _∙_, subst}
 use borrow.Author.Needs.{needs}
 use Rattle.restart.specs.declared.forward.Slot.{Slot}
-use Rattle.restart.specs.Slots.{Below}
-use Rattle.restart.specs.Forward.{undoLogged}
+use Rattle.restart.specs.Turns.{Below}
 use Rattle.restart.proofs.Cases.{undone-hit, undone-miss}
 use Rattle.restart.proofs.forward.undo_logged.Statement.{statement}
 use Rattle.restart.proofs.forward.undo_logged.Tie as tie
@@ -30,7 +29,7 @@ array-read-if1 c = few (c .before)
 returns-2 : tie.Need-returns-2
 returns-2 c =
     let a = c .before .before .before .before .before .args in
-    sym (ap (λ (x : Slot). undoLogged (a .t1) (a .t2) x (a .memory .now)) (c .before .before .slot .given .1) ∙ undone-miss (a .t1) (a .t2) (a .memory .now) _ (c .if1 .taken))
+    sym (undone-miss (a .slot) _ (c .before .before .slot .given .1) (a .t1) (a .t2) (a .memory .now) (c .if1 .taken))
 
 mul-t : tie.Need-mul-t
 mul-t c = omega (arith, few (c .before .before))
@@ -39,7 +38,9 @@ element-copy-out-t : tie.Need-element-copy-out-t
 element-copy-out-t c = few (c .before .before)
 
 lay-back-requires : tie.Need-lay-back-requires
-lay-back-requires c κs = (c .before .before .before .before .before .before .before .before .pre .0 .0 .ranged _ (below (c .before .before .before .before .before)), c .before .before .before .before .before .before .before .before .pre .1)
+lay-back-requires c κs =
+    let p = c .before .before .before .before .before .before .before .before .pre in
+    (p .0 .0 .ranged _ (below (c .before .before .before .before .before)), p .1)
 
 same-length : tie.Need-same-length
 same-length c = search needs
@@ -47,8 +48,8 @@ same-length c = search needs
 returns-3 : tie.Need-returns-3
 returns-3 c =
     let a = c .before .before .before .before .before .before .before .before .before .before .before .args in
-    c .before .before .lay-back .ensures
-    ∙ sym (ap (λ (x : Slot). undoLogged (a .t1) (a .t2) x (a .memory .now)) (c .before .before .before .before .before .before .before .before .slot .given .1) ∙ undone-hit (a .t1) (a .t2) (a .memory .now) _ (c .before .before .before .before .before .before .if1 .left))
+    let left = c .before .before .before .before .before .before .if1 .left in
+    c .before .before .lay-back .ensures ∙ sym (undone-hit (a .slot) _ (c .before .before .before .before .before .before .before .before .slot .given .1) (a .t1) (a .t2) (a .memory .now) left)
 
 pub undo-logged-spec : {M : Type 1} → statement M
 undo-logged-spec =

@@ -6,7 +6,7 @@ use lib.ListN.{getD}
 use borrow.Author.Needs.{needs}
 use Rattle.image.specs.Slots.{slotAt}
 use Rattle.restart.specs.declared.undo.Best.{Best}
-use Rattle.restart.specs.Undo.{betterOf, bestOf}
+use Rattle.restart.specs.Turns.{betterOf, bestOf}
 use Rattle.restart.proofs.undo.highest.Statement.{statement}
 use Rattle.restart.proofs.undo.highest.Tie as tie
 
@@ -52,7 +52,7 @@ returns c =
     let a = c .before .before .args in
     let l = c .before .loop in
     let e : l .i ≡ a .t1 .count = omega (arith, c .loop-test .left, l .inv .0, l .inv .1) in
-    l .inv .2 ∙ ap (bestOf (a .t1) (a .t2) (a .csn)) e
+    l .inv .2 ∙ ap (bestOf (a .t1) (a .t2) (a .last)) e
 
 pub highest-spec : {M : Type 1} → statement M
 highest-spec =

@@ -15,12 +15,12 @@ use Rattle.restart.proofs.undo.undo_lost.Statement.{statement}
 use Rattle.restart.proofs.undo.undo_lost.Tie as tie
 
 abbrev Inv-loop : tie.InvT-loop
-Inv-loop memory₀ tail₀ n image csn found₀ k₀ memory tail found k =
+Inv-loop memory₀ tail₀ n image last found₀ k₀ memory tail found k =
     (length found ≡ 8) × (length memory ≡ length memory₀) × (length tail ≡ length tail₀)
-    × ((done : List Tx) × (sortDesc (lostBy image found₀ (csn .0)) ≡ done ++ sortDesc (lostBy image found (csn .0))) × Undid done memory₀ tail₀ n memory tail k)
+    × ((done : List Tx) × (sortDesc (lostBy image found₀ (last .0)) ≡ done ++ sortDesc (lostBy image found (last .0))) × Undid done memory₀ tail₀ n memory tail k)
 
 abbrev μ-loop : tie.MeasureT-loop
-μ-loop memory₀ tail₀ n image csn found₀ k₀ memory tail found k = length (sortDesc (lostBy image found (csn .0)))
+μ-loop memory₀ tail₀ n image last found₀ k₀ memory tail found k = length (sortDesc (lostBy image found (last .0)))
 
 next : (c : tie.After-at Inv-loop μ-loop)
     → let a = c .before .before .before .before .before .before .before .before .args in

@@ -41,11 +41,13 @@ is-running-requires c κs = search needs
 
 undo-one-requires : tie.Need-undo-one-requires Inv-loop μ-loop
 undo-one-requires c κs =
-    let a = c .before .before .before .before .before .before .before .before .before .args in
-    let p = c .before .before .before .before .before .before .before .before .before .pre in
+    let s = c .before .before .before .before .before .before .before .before .before in
+    let p = s .pre in
     let l = c .before .before .before .before .before .loop in
-    let k = filter-length (runningAt (a .t1) (a .p .found)) (txAt (a .t1)) (l .i) in
-    (p .0 .ranged (l .i) (c .before .before .before .before .loop-test .taken), (omega (arith, l .inv .1, p .1 .0), omega (arith, l .inv .2, p .1 .1, l .inv .3 .count, k, p .0 .few, l .inv .0)))
+    let k = filter-length (runningAt (s .args .t1) (s .args .p .found)) (txAt (s .args .t1)) (l .i) in (
+      p .0 .ranged (l .i) (c .before .before .before .before .loop-test .taken),
+      (omega (arith, l .inv .1, p .1 .0), omega (arith, l .inv .2, p .1 .1, l .inv .3 .count, k, p .0 .few, l .inv .0)),
+    )
 
 add-i : tie.Need-add-i Inv-loop μ-loop
 add-i c = omega (arith, c .before .before .before .before .before .before .before .before .before .before .before .before .before .before .pre .0 .few, c .before .before .before .before .before .before .before .before .before .loop-test .taken)
@@ -57,12 +59,17 @@ loop-again : tie.Need-loop-again Inv-loop μ-loop
 loop-again c =
     let a = c .before .before .before .before .before .before .before .before .before .before .before .before .before .before .args in
     let l = c .before .before .before .before .before .before .before .before .before .before .loop in
+    let t = txAt (a .t1) (l .i) in
     let f = filterBelow (runningAt (a .t1) (a .p .found)) (txAt (a .t1)) (l .i) in
-    let o = oneIf (c .before .before .before .before .before .before .before .is-running .result) (txAt (a .t1) (l .i)) in
+    let w = c .before .before .before .before .before .before .before .is-running in
     let r = c .before .before .before .before .undo-one in
-    let u = undid-more f o _ _ 0 _ _ _ _ _ _ (l .inv .3) (record { count = r .ensures .0; memory = r .ensures .1 .0; tail = r .ensures .1 .1 }) in
-    let e = ap (λ (b : Bool). oneIf b (txAt (a .t1) (l .i))) (c .before .before .before .before .before .before .before .is-running .ensures) in
-    (omega (arith, c .before .before .before .before .before .before .before .before .before .loop-test .taken), r .kept .1 .1 .0 ∙ l .inv .1, r .kept .1 .1 .1 .0 ∙ l .inv .2, rw add-one (rw e at u))
+    let u = undid-more f (oneIf (w .result) t) _ _ 0 _ _ _ _ _ _ (l .inv .3) (record { count = r .ensures .0; memory = r .ensures .1 .0; tail = r .ensures .1 .1 }) in
+    let e = ap (λ (b : Bool). oneIf b t) (w .ensures) in (
+      omega (arith, c .before .before .before .before .before .before .before .before .before .loop-test .taken),
+      r .kept .1 .1 .0 ∙ l .inv .1,
+      r .kept .1 .1 .1 .0 ∙ l .inv .2,
+      rw add-one (rw e at u),
+    )
 
 same-length : tie.Need-same-length Inv-loop μ-loop
 same-length c = c .before .loop .inv .1
