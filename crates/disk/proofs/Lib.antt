@@ -5,3 +5,4 @@ pub mod Bytes
 pub mod Examining
 pub mod Parts
 pub mod Restarting
+pub mod Equals

@@ -4,10 +4,11 @@ use native.Mathlib.Omega.{arith}
 use mathlib.Core.Bool.{true, false, cond}
 use mathlib.Core.List.{List, _++_}
 use mathlib.Core.Path.{_≡_, sym, ap, subst, _∙_}
-use lib.ListN.{length, take, drop, replicate}
+use lib.ListN.{length, take, drop, length-drop}
 use lib.Dec.{eqb, ltb}
 use borrow.Author.Tests.{eq-eqb, ne-eqb, lt-ltb, le-ltb}
 use Rattle.log.specs.Stores.{apply, clears}
+use Rattle.log.proofs.Basics.{from}
 use Rattle.log.proofs.StoreLaws.{length-clears}
 use Rattle.disk.specs.declared.examine.Examined.{Examined}
 use Rattle.disk.specs.Layout.{whole}
@@ -22,6 +23,12 @@ pub log-cleared : (n end : ℕ) (d ys : List ℕ) → length d ≡ 33691
 log-cleared n end d ys l e =
     let z : length d - 17307 - end ≡ 16384 - end = omega arith in
     clears-part 17307 n end d ys (omega arith) e ∙ ap (λ (k : ℕ). apply (take n (clears (17307 + end) k)) d) z
+
+pub log-count : (end : ℕ) (d : List ℕ) → length d ≡ 33691 → length (clears end (length (take (length d - 17307) (drop 17307 d)) - end)) ≡ length (clearing end)
+log-count end d l =
+    let p : length (take (length d - 17307) (drop 17307 d)) ≡ length d - 17307 = ap length (from d 17307) ∙ length-drop 17307 d in
+    let z : length (take (length d - 17307) (drop 17307 d)) - end ≡ 16384 - end = omega arith in
+    length-clears end (length (take (length d - 17307) (drop 17307 d)) - end) ∙ z ∙ sym (length-clears (17307 + end) (16384 - end))
 
 pub restart-1 : (disk memory tail : List ℕ) (allowed : ℕ) → whole disk memory tail ≡ false → restartOf disk memory tail allowed ≡ refusedWith 1 disk memory tail
 unfolding restartOf

@@ -1,134 +1,172 @@
+use Prim.Native.Nat.{ℕ, _+_, _-_, _≤_, min}
 use borrow.Author.Needs.{needs}
+use native.Mathlib.Omega.{arith}
+use mathlib.Core.List.{List}
+use mathlib.Core.Path.{_≡_, sym, ap, ap₂, _∙_}
+use lib.ListN.{length, take, replicate}
+use borrow.Author.Tests.{eq-eqb, ne-eqb}
+use Rattle.log.specs.Stores.{apply}
+use Rattle.log.proofs.StoreLaws.{length-clears}
+use Rattle.store.specs.declared.State.{State}
+use Rattle.store.specs.declared.Answer.the-variants.{Done, Cut}
+use Rattle.disk.specs.declared.examine.Examined.{Examined}
+use Rattle.disk.specs.Restart.{Outcome, recoveredState, refusedRestart, clearing}
+use Rattle.disk.proofs.Examining.{roomy}
+use Rattle.disk.proofs.Restarting.{log-cleared, log-count, restart-1, restart-refused, restart-cut, restart-done}
 use Rattle.disk.proofs.call.restart.Statement.{statement}
 use Rattle.disk.proofs.call.restart.Tie as tie
-use Rattle.disk.proofs.call.restart.Reads as reads
-use Rattle.disk.proofs.call.restart.Lts as lts
-use Rattle.disk.proofs.call.recovered.Reads as recovered-reads
-use Rattle.disk.proofs.call.refused.Reads as refused-reads
-use Rattle.disk.proofs.examine.examine.Reads as examine-reads
-use Rattle.log.proofs.stores.clear_down.Reads as clear-down-reads
-use Rattle.log.proofs.stores.fill_zero.Reads as fill-zero-reads
-use Rattle.store.proofs.State.unrecovered.Reads as unrecovered-reads
 
--- src/call.rt:56:9
 refused-requires : tie.Need-refused-requires
 refused-requires c κs = search needs
 
--- src/call.rt:56:9
 returns : tie.Need-returns
-returns c = ?
+returns c =
+    let a = c .before .before .before .before .before .args in
+    let e = restart-1 (a .disk .now) (a .memory .now) (a .tail .now) (a .allowed) (rw (ne-eqb (length (a .disk .now)) 33691 (c .before .if1 .taken))) in
+    (c .refused .ensures ∙ sym (ap (λ (o : Outcome). o .result) e), (sym (ap (λ (o : Outcome). o .disk) e), (sym (ap (λ (o : Outcome). o .memory) e), sym (ap (λ (o : Outcome). o .tail) e))))
 
--- src/call.rt:59:9
 refused-requires-2 : tie.Need-refused-requires-2
 refused-requires-2 c κs = search needs
 
--- src/call.rt:59:9
 returns-2 : tie.Need-returns-2
-returns-2 c = ?
+returns-2 c =
+    let a = c .before .before .before .before .before .before .args in
+    let e = restart-1 (a .disk .now) (a .memory .now) (a .tail .now) (a .allowed)
+    (rw (eq-eqb (length (a .disk .now)) 33691 (c .before .before .if1 .left), ne-eqb (length (a .memory .now)) 4096 (c .before .if2 .taken))) in
+    (c .refused2 .ensures ∙ sym (ap (λ (o : Outcome). o .result) e), (sym (ap (λ (o : Outcome). o .disk) e), (sym (ap (λ (o : Outcome). o .memory) e), sym (ap (λ (o : Outcome). o .tail) e))))
 
--- src/call.rt:62:9
 refused-requires-3 : tie.Need-refused-requires-3
 refused-requires-3 c κs = search needs
 
--- src/call.rt:62:9
 returns-3 : tie.Need-returns-3
-returns-3 c = ?
+returns-3 c =
+    let a = c .before .before .before .before .before .before .before .args in
+    let e = restart-1 (a .disk .now) (a .memory .now) (a .tail .now) (a .allowed)
+    (rw (eq-eqb (length (a .disk .now)) 33691 (c .before .before .before .if1 .left), eq-eqb (length (a .memory .now)) 4096 (c .before .before .if2 .left), ne-eqb (length (a .tail .now)) 16384 (c .before .if3 .taken))) in
+    (c .refused3 .ensures ∙ sym (ap (λ (o : Outcome). o .result) e), (sym (ap (λ (o : Outcome). o .disk) e), (sym (ap (λ (o : Outcome). o .memory) e), sym (ap (λ (o : Outcome). o .tail) e))))
 
--- src/call.rt:64:9
 examine-requires : tie.Need-examine-requires
 examine-requires c κs = search needs
 
--- src/call.rt:66:9
 refused-requires-4 : tie.Need-refused-requires-4
 refused-requires-4 c κs = search needs
 
--- src/call.rt:66:9
 same-length : tie.Need-same-length
 same-length c = search needs
 
--- src/call.rt:66:9
 same-length-2 : tie.Need-same-length-2
 same-length-2 c = search needs
 
--- src/call.rt:66:9
 same-length-3 : tie.Need-same-length-3
 same-length-3 c = search needs
 
--- src/call.rt:66:9
 returns-4 : tie.Need-returns-4
-returns-4 c = ?
+returns-4 c =
+    let a = c .before .before .before .before .before .before .before .before .before .before .before .before .before .before .before .before .before .args in
+    let x = c .before .before .before .before .before .before .before .examine in
+    let n = ap (λ (r : Examined). r .number) (x .ensures .0) in
+    let e = restart-refused (a .disk .now) (a .memory .now) (a .tail .now) (a .allowed) (c .before .before .before .before .before .before .before .before .before .before .before .before .before .if1 .left) (c .before .before .before .before .before .before .before .before .before .before .before .before .if2 .left) (c .before .before .before .before .before .before .before .before .before .before .before .if3 .left) (λ z. c .before .if4 .taken (n ∙ z)) in (
+      c .refused4 .ensures ∙ (ap refusedRestart n ∙ sym (ap (λ (o : Outcome). o .result) e)),
+      (sym (ap (λ (o : Outcome). o .disk) e), (x .ensures .1 .0 ∙ sym (ap (λ (o : Outcome). o .memory) e), x .ensures .1 .1 ∙ sym (ap (λ (o : Outcome). o .tail) e))),
+    )
 
--- src/call.rt:69:27
 sub-clear-down : tie.Need-sub-clear-down
 sub-clear-down c = search needs
 
--- src/call.rt:69:27
 part-clear-down-start : tie.Need-part-clear-down-start
 part-clear-down-start c = search needs
 
--- src/call.rt:69:27
 part-clear-down-end : tie.Need-part-clear-down-end
 part-clear-down-end c = search needs
 
--- src/call.rt:69:9
 clear-down-requires : tie.Need-clear-down-requires
 clear-down-requires c κs = search needs
 
--- src/call.rt:70:15
-sub-if5 : tie.Need-sub-if5
-sub-if5 c = ?
+-- the end lies within the log
+within : (c : tie.After-examine) → c .examine .result .end ≤ 16384
+within c = omega (arith, roomy (c .before .before .before .before .before .before .before .before .before .before .args .disk .now), ap (λ (r : Examined). r .end) (c .examine .ensures .0))
 
--- src/call.rt:71:9
+-- the stores made
+made : (c : tie.After-clear-down) → c .clear-down .result ≡ min (c .before .before .before .before .before .before .before .before .before .before .before .before .before .before .before .before .before .before .args .allowed) (length (clearing (c .before .before .before .before .before .before .before .before .examine .result .end)))
+made c = c .clear-down .ensures .0 ∙ ap (λ (n : ℕ). min (c .before .before .before .before .before .before .before .before .before .before .before .before .before .before .before .before .before .before .args .allowed) n) (log-count (c .before .before .before .before .before .before .before .before .examine .result .end) (c .before .before .before .before .before .before .before .before .before .before .before .before .before .before .before .before .before .before .args .disk .now) (c .before .before .before .before .before .before .before .before .before .before .before .before .before .before .if1 .left))
+
+sub-if5 : tie.Need-sub-if5
+sub-if5 c = within (c .before .before .before .before .before .before .before .before .before .before)
+
 fill-zero-requires : tie.Need-fill-zero-requires
 fill-zero-requires c κs = search needs
 
--- src/call.rt:72:9
 fill-zero-requires-2 : tie.Need-fill-zero-requires-2
 fill-zero-requires-2 c κs = search needs
 
--- src/call.rt:73:13
 unrecovered-requires : tie.Need-unrecovered-requires
 unrecovered-requires c κs = search needs
 
--- src/call.rt:74:9
 same-length-4 : tie.Need-same-length-4
 same-length-4 c = search needs
 
--- src/call.rt:74:9
 same-length-5 : tie.Need-same-length-5
 same-length-5 c = search needs
 
--- src/call.rt:74:9
 same-length-6 : tie.Need-same-length-6
 same-length-6 c = search needs
 
--- src/call.rt:74:9
 returns-5 : tie.Need-returns-5
-returns-5 c = ?
+returns-5 c =
+    let a = c .before .before .before .before .before .before .before .before .before .before .before .before .before .before .before .before .before .before .before .before .before .before .before .before .before .before .before .before .before .before .args in
+    let x = c .before .before .before .before .before .before .before .before .before .before .before .before .before .before .before .before .before .before .before .before .examine in
+    let end = x .result .end in
+    let f = ap (λ (r : Examined). r .end) (x .ensures .0) in
+    let l = length-clears (17307 + end) (16384 - end) in
+    let n : c .before .before .before .before .before .before .before .before .before .before .before .before .clear-down .result ≡ a .allowed = omega (arith, made (c .before .before .before .before .before .before .before .before .before .before .before .before), c .before .before .before .before .before .before .before .before .before .if5 .taken) in
+    let e = restart-cut (a .disk .now) (a .memory .now) (a .tail .now) (a .allowed) (c .before .before .before .before .before .before .before .before .before .before .before .before .before .before .before .before .before .before .before .before .before .before .before .before .before .before .if1 .left) (c .before .before .before .before .before .before .before .before .before .before .before .before .before .before .before .before .before .before .before .before .before .before .before .before .before .if2 .left) (c .before .before .before .before .before .before .before .before .before .before .before .before .before .before .before .before .before .before .before .before .before .before .before .before .if3 .left)
+    (sym (ap (λ (r : Examined). r .number) (x .ensures .0)) ∙ c .before .before .before .before .before .before .before .before .before .before .before .before .before .before .if4 .left)
+    (omega (arith, made (c .before .before .before .before .before .before .before .before .before .before .before .before), c .before .before .before .before .before .before .before .before .before .if5 .taken)) in (
+      ap₂ (λ (k : ℕ) (s : State). record { answer = Cut; undone = 0; stores = k; state = s }) n (c .unrecovered .ensures) ∙ sym (ap (λ (o : Outcome). o .result) e),
+      (
+        log-cleared (a .allowed) end (a .disk .now) (c .before .before .before .before .before .before .before .before .before .before .before .before .clear-down .last .0) (c .before .before .before .before .before .before .before .before .before .before .before .before .before .before .before .before .before .before .before .before .before .before .before .before .before .before .if1 .left) (c .before .before .before .before .before .before .before .before .before .before .before .before .clear-down .ensures .1)
+            ∙ (ap (λ (k : ℕ). apply (take (a .allowed) (clearing k)) (a .disk .now)) f ∙ sym (ap (λ (o : Outcome). o .disk) e)),
+        (
+          c .before .before .before .before .before .before .before .fill-zero .ensures ∙ (ap (λ (k : ℕ). replicate k 0) (x .kept .1 .0 ∙ c .before .before .before .before .before .before .before .before .before .before .before .before .before .before .before .before .before .before .before .before .before .before .before .before .before .if2 .left) ∙ sym (ap (λ (o : Outcome). o .memory) e)),
+          c .before .before .before .fill-zero2 .ensures ∙ (ap (λ (k : ℕ). replicate k 0) (x .kept .1 .1 .0 ∙ c .before .before .before .before .before .before .before .before .before .before .before .before .before .before .before .before .before .before .before .before .before .before .before .before .if3 .left) ∙ sym (ap (λ (o : Outcome). o .tail) e)),
+        ),
+      ),
+    )
 
--- src/call.rt:83:27
 cast-recovered : tie.Need-cast-recovered
-cast-recovered c = ?
+cast-recovered c = omega (arith, within (c .before .before .before .before .before .before .before .before .before .before .before .before .before))
 
--- src/call.rt:83:9
 recovered-requires : tie.Need-recovered-requires
 recovered-requires c κs = search needs
 
--- src/call.rt:49:1
 same-length-7 : tie.Need-same-length-7
 same-length-7 c = search needs
 
--- src/call.rt:49:1
 same-length-8 : tie.Need-same-length-8
 same-length-8 c = search needs
 
--- src/call.rt:49:1
 same-length-9 : tie.Need-same-length-9
 same-length-9 c = search needs
 
--- src/call.rt:49:1
 returns-6 : tie.Need-returns-6
-returns-6 c = ?
+returns-6 c =
+    let a = c .before .before .before .before .before .before .before .before .before .before .before .before .before .before .before .before .before .before .before .before .before .before .before .before .args in
+    let x = c .before .before .before .before .before .before .before .before .before .before .before .before .before .before .examine in
+    let end = x .result .end in
+    let f = ap (λ (r : Examined). r .end) (x .ensures .0) in
+    let l = length-clears (17307 + end) (16384 - end) in
+    let e = restart-done (a .disk .now) (a .memory .now) (a .tail .now) (a .allowed) (c .before .before .before .before .before .before .before .before .before .before .before .before .before .before .before .before .before .before .before .before .if1 .left) (c .before .before .before .before .before .before .before .before .before .before .before .before .before .before .before .before .before .before .before .if2 .left) (c .before .before .before .before .before .before .before .before .before .before .before .before .before .before .before .before .before .before .if3 .left)
+    (sym (ap (λ (r : Examined). r .number) (x .ensures .0)) ∙ c .before .before .before .before .before .before .before .before .if4 .left)
+    (omega (arith, made (c .before .before .before .before .before .before), c .before .before .before .if5 .left)) in (
+      ap₂ (λ (k : ℕ) (s : State). record { answer = Done; undone = x .result .undone; stores = k; state = s }) (made (c .before .before .before .before .before .before)) (c .recovered .ensures)
+          ∙ (ap (λ (r : Examined). record { answer = Done; undone = r .undone; stores = min (a .allowed) (length (clearing (r .end))); state = recoveredState (r .end) (r .csn) (r .last) }) (x .ensures .0)
+          ∙ sym (ap (λ (o : Outcome). o .result) e)),
+      (
+        log-cleared (a .allowed) end (a .disk .now) (c .before .before .before .before .before .before .clear-down .last .0) (c .before .before .before .before .before .before .before .before .before .before .before .before .before .before .before .before .before .before .before .before .if1 .left) (c .before .before .before .before .before .before .clear-down .ensures .1)
+            ∙ (ap (λ (k : ℕ). apply (take (a .allowed) (clearing k)) (a .disk .now)) f ∙ sym (ap (λ (o : Outcome). o .disk) e)),
+        (x .ensures .1 .0 ∙ sym (ap (λ (o : Outcome). o .memory) e), x .ensures .1 .1 ∙ sym (ap (λ (o : Outcome). o .tail) e)),
+      ),
+    )
 
 pub restart-spec : {M : Type 1} → statement M
 restart-spec =

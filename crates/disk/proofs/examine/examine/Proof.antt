@@ -155,8 +155,7 @@ returns-4 c =
     let f = found (c .before .before .before .before .before .before .before .before .before .before) in
     let s = steps (c .before .before .before .before .before .before .before .before .before .before) in
     let e = means (c .before .before .before .before .before .before .before .before .before .before .before .before .before .before .before .before .before .before .before .before .before .before .before .before .before .before .before .before .before .before .before .args .disk .now) (c .before .before .before .before .before .before .before .before .before .before .before .before .before .before .before .before .before .before .before .before .before .before .before .before .before .before .if1 .left) (l .result) (l .last .1 .1 .0) (l .ensures .0) (l .ensures .1) (not-no _ (c .before .before .before .before .before .before .before .before .before .before .before .before .before .before .before .before .before .before .before .before .if2 .left))
-    (omega (arith, c .before .before .before .if3 .left, ap (λ (x : Recovered). x .end) f, ap (λ (x : Recovered). x .undone) f)) in
-    (
+    (omega (arith, c .before .before .before .if3 .left, ap (λ (x : Recovered). x .end) f, ap (λ (x : Recovered). x .undone) f)) in (
       ap (λ (x : Recovered). record { number = 0; end = l .result .image .logend + x .end; csn = x .csn; last = x .last; undone = x .undone; found = x .found }) f
           ∙ sym (ap (λ (m : Meaning). m .result) e),
       (
