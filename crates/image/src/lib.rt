@@ -5,6 +5,7 @@ pub mod write;
 use log::Csn;
 use log::TxId;
 use transaction::Tx;
+use transaction::alike;
 ghost use mathlib.Core.Path.{_≡_};
 ghost use Prim.Native.Nat.{_-_, _≤_};
 ghost use Rattle.recovery.specs.Lists.{any};
@@ -103,7 +104,7 @@ impl Image {
         let mut j = i;
         while j < n {
             let t = self.txs[j];
-            if t.alike(id, csn) {
+            if alike(id, csn, t.id, t.csn) {
                 return true;
             }
             j += 1;

@@ -3,13 +3,12 @@ use crate::State;
 use log::Csn;
 use log::TxId;
 use log::scan::read_log;
+use transaction::alike;
 ghost use mathlib.Core.Path.{_≡_};
-ghost use mathlib.Core.List.{[]};
 ghost use Prim.Native.Nat.{ℕ, _-_, _≤_, _<_};
 ghost use lib.ListN.{getD};
 ghost use Rattle.recovery.specs.Lists.{any};
 ghost use Rattle.transaction.specs.Lists.{upFrom};
-ghost use Rattle.transaction.specs.View.{outline};
 ghost use Rattle.transaction.specs.Rules.{alike};
 ghost use Rattle.store.specs.State.{txAt};
 ghost use Rattle.store.specs.Rules.{allZero};
@@ -79,19 +78,6 @@ fn measure_tail(tail: &[u8], ondisk: Csn, assigned: Csn) -> Measured
         ok: true,
         room: end,
     }
-}
-
-// Whether two transactions have one id, or one commit number where that is one.
-fn alike(id: TxId, csn: Csn, other: TxId, number: Csn) -> bool
-    ensures { λ r. ⌜ r ≡ alike (id .0) (csn .0) (outline (other .0) 0 (number .0) []) ⌝ }
-{
-    if id.0 == other.0 {
-        return true;
-    }
-    if csn.0 == 0 {
-        return false;
-    }
-    csn.0 == number.0
 }
 
 // Whether one of the n transactions from slot i on has this id or this commit number.

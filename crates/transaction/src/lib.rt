@@ -6,6 +6,7 @@ use log::record::in_range;
 use log::stores::copy;
 ghost use mathlib.Core.Path.{_≡_};
 ghost use mathlib.Core.Bool.{true};
+ghost use mathlib.Core.List.{[]};
 ghost use Prim.Native.Nat.{_+_, _≤_, _<_};
 ghost use lib.ListN.{length};
 ghost use lib.Seq.{sets};
@@ -14,8 +15,8 @@ ghost use Rattle.recovery.specs.Lists.{any};
 ghost use Rattle.recovery.specs.Replay.{undoAll, layBytes};
 ghost use Rattle.log.specs.Group.{encodeGroup};
 ghost use Rattle.transaction.specs.Flat.{emptyRecords, emptyTx};
-ghost use Rattle.transaction.specs.View.{rangesOf, writesOf, outlineOf};
-ghost use Rattle.transaction.specs.Rules.{recordsOk, headOk, outlineOk, sameRanges, redoOk, meets, heldAgainst, rangesSize, roomOf};
+ghost use Rattle.transaction.specs.View.{rangesOf, writesOf, outline, outlineOf};
+ghost use Rattle.transaction.specs.Rules.{recordsOk, headOk, outlineOk, alike, sameRanges, redoOk, meets, heldAgainst, rangesSize, roomOf};
 ghost use Rattle.transaction.specs.Steps.{pushed, freshTx, written, precommitted};
 
 // Undo or redo records, oldest first: the i-th has the len[i] bytes from 32 * i on.
@@ -33,6 +34,19 @@ pub struct Tx {
     pub csn: Csn,
     pub undo: Records,
     pub redo: Records,
+}
+
+// Whether two transactions have one id, or one commit number where that is one.
+pub fn alike(id: TxId, csn: Csn, other: TxId, number: Csn) -> bool
+    ensures { λ r. ⌜ r ≡ alike (id .0) (csn .0) (outline (other .0) 0 (number .0) []) ⌝ }
+{
+    if id.0 == other.0 {
+        return true;
+    }
+    if csn.0 == 0 {
+        return false;
+    }
+    csn.0 == number.0
 }
 
 impl Records {

@@ -1,6 +1,6 @@
 use borrow.Author.Tests.{eq-eqb, ne-eqb}
-use Rattle.store.proofs.admit.alike.Statement.{statement}
-use Rattle.store.proofs.admit.alike.Tie as tie
+use Rattle.transaction.proofs.alike.Statement.{statement}
+use Rattle.transaction.proofs.alike.Tie as tie
 
 returns : tie.Need-returns
 returns c = rw (eq-eqb _ _ (c .if1 .taken))
