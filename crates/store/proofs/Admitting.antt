@@ -23,7 +23,8 @@ use Rattle.store.specs.declared.admit.Measured.{Measured}
 use Rattle.store.specs.declared.admit.Keys.{Keys}
 use Rattle.store.specs.declared.admit.Admission.{Admission}
 use Rattle.store.specs.State.{txAt, txsOf, outlineAt, outlinesOf}
-use Rattle.store.specs.Rules.{distinct, outlinesOk, allZero, tailLength, tailOk, roomUsed, unfit}
+use Rattle.image.specs.Rules.{distinct, outlinesOk}
+use Rattle.store.specs.Rules.{allZero, tailLength, tailOk, roomUsed, unfit}
 use Rattle.store.specs.Numbers.{Check, firstNumber, sharedChecks}
 use Rattle.store.specs.Admission.{headOk, keyAt, measuredIf, measuredTxs, measuredTail, admission}
 use Rattle.store.proofs.Fits.{Fit, fit, unfit-no, running-redo}

@@ -1,39 +1,32 @@
 -- Checkpoint: its stores as the code makes them, its cases, and that the state's image keeps the image rules.
 use Prim.Native.Nat.{ℕ, _+_, _≤_, _<_, min}
 use native.Mathlib.Omega.{arith}
-use mathlib.Core.Bool.{Bool, true, false, cond, not, _&&_}
+use mathlib.Core.Bool.{Bool, true, false, cond}
 use mathlib.Core.List.{List, [], _∷_, _++_}
 use mathlib.Core.Path.{_≡_, refl, sym, ap, ap₂, _∙_}
 use lib.ListN.{length, take, getD, set, length-append}
 use lib.Seq.{sets, take-all, take-append-le}
 use borrow.Author.Tests.{eq-eqb, ne-eqb}
-use Rattle.recovery.specs.Lists.{any}
 use Rattle.log.specs.Stores.{Store, store, apply, copies}
 use Rattle.log.proofs.StoreLaws.{length-apply, length-copies}
-use Rattle.transaction.specs.View.{Outline, outline}
-use Rattle.transaction.specs.Rules.{alike}
 use Rattle.image.specs.declared.Image.{Image}
-use Rattle.image.specs.Rules.{keepsRules, distinct as distinctIn}
+use Rattle.image.specs.Rules.{keepsRules}
 use Rattle.image.specs.Content.{contentOf}
 use Rattle.image.specs.Format.{encodeImage, imageSize}
 use Rattle.image.proofs.Sizes.{length-content, image-small}
 use Rattle.image.proofs.RoundTrip.{encode-used}
 use Rattle.store.specs.declared.State.{State}
-use Rattle.store.specs.State.{unrecovered, outlinesOf}
+use Rattle.store.specs.State.{unrecovered}
 use Rattle.store.specs.Answer.{done, cut, refused}
-use Rattle.store.specs.Rules.{distinct, keepsImageRules}
+use Rattle.store.specs.Rules.{keepsImageRules}
 use Rattle.store.specs.Stored.{stored, zeroed}
 use Rattle.store.specs.Checkpoint.{imageOf, slotStores, intoA, imageStores, checkpointStores, checkpointPlan, checkpointOf}
 use Rattle.store.proofs.Storing.{diskNumber, disk-admitted, disk-passes, stored-refused, stored-cut, stored-done}
 
 -- ---- the image rules are the same of a state and of its image
 
-distinct-same : (ts : List Outline) → distinct ts ≡ distinctIn ts
-distinct-same [] = refl
-distinct-same (outline id status csn undo ∷ ts) = ap (λ (b : Bool). not (any (alike id csn) ts) && b) (distinct-same ts)
-
 pub image-keeps : (s : State) → keepsImageRules s ≡ keepsRules (imageOf s)
-image-keeps s = rw (distinct-same (outlinesOf s))
+image-keeps s = refl
 
 -- ---- the stores
 

@@ -15,7 +15,8 @@ use Rattle.transaction.proofs.Lists.{and-left, and-right, every-at, length-up}
 use Rattle.transaction.proofs.Ranges.{equal-ranges}
 use Rattle.store.specs.declared.State.{State}
 use Rattle.store.specs.State.{txAt, txsOf, outlineAt, outlinesOf}
-use Rattle.store.specs.Rules.{distinct, outlinesOk, keepsImageRules, tailOk, roomUsed, unfit}
+use Rattle.image.specs.Rules.{distinct, outlinesOk}
+use Rattle.store.specs.Rules.{keepsImageRules, tailOk, roomUsed, unfit}
 
 pub or-left : (a b : Bool) → a || b ≡ false → a ≡ false
 or-left true b e = e

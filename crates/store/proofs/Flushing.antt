@@ -24,7 +24,8 @@ use Rattle.transaction.proofs.Lists.{and-left, and-right}
 use Rattle.store.specs.declared.State.{State}
 use Rattle.store.specs.State.{unrecovered, outlinesOf}
 use Rattle.store.specs.Answer.{done, cut, refused}
-use Rattle.store.specs.Rules.{isZero, allZero, tailLength, outlinesOk}
+use Rattle.image.specs.Rules.{outlinesOk}
+use Rattle.store.specs.Rules.{isZero, allZero, tailLength}
 use Rattle.store.specs.Stored.{stored, zeroed}
 use Rattle.store.specs.Flush.{withLog, firstGroups, firstSize, flushedState, flushedTail, flushStores, flushPlan, flushOf}
 use Rattle.store.proofs.Fits.{Fit}

@@ -26,7 +26,8 @@ use Rattle.transaction.proofs.Lists.{and-left, and-right, every-at, length-up, 
 use Rattle.transaction.proofs.Pushed.{pushed-ranges, one-more, ranges-self, size-snoc}
 use Rattle.store.specs.declared.State.{State}
 use Rattle.store.specs.State.{txAt, txsOf, outlineAt, outlinesOf, slotOf}
-use Rattle.store.specs.Rules.{alikeTo, distinct, keepsImageRules, roomUsed, unfit}
+use Rattle.image.specs.Rules.{alikeTo, distinct}
+use Rattle.store.specs.Rules.{keepsImageRules, roomUsed, unfit}
 use Rattle.store.specs.declared.call.Begun.{Begun}
 use Rattle.store.specs.declared.call.Precommitted.{Precommitted}
 use Rattle.store.specs.declared.call.Returned.{Returned}

@@ -12,7 +12,8 @@ use Rattle.store.specs.declared.admit.Measured.{Measured}
 use Rattle.store.specs.declared.admit.Keys.{Keys}
 use Rattle.store.specs.declared.admit.Admission.{Admission}
 use Rattle.store.specs.State.{txsOf, outlinesOf}
-use Rattle.store.specs.Rules.{outlinesOk, tailLength, tailOk, roomUsed}
+use Rattle.image.specs.Rules.{outlinesOk}
+use Rattle.store.specs.Rules.{tailLength, tailOk, roomUsed}
 use Rattle.store.specs.Numbers.{firstNumber, sharedChecks}
 
 -- recovered, and the image rules of the counters

@@ -1,34 +1,18 @@
 -- Number 2: what a state and the tail lent with it have to be.
 use Prim.Native.Nat.{ℕ, _+_}
-use mathlib.Core.Bool.{Bool, true, not, _&&_, _||_}
-use mathlib.Core.List.{List, [], _∷_}
-use lib.ListN.{length, drop}
-use lib.Dec.{eqb, leb, ltb}
+use mathlib.Core.Bool.{Bool, not, _&&_, _||_}
+use mathlib.Core.List.{List}
+use lib.ListN.{drop}
+use lib.Dec.{eqb, ltb}
 use Rattle.recovery.specs.Group.{groupsSize, lastCsn}
-use Rattle.recovery.specs.Lists.{any}
 use Rattle.log.specs.Log.{readLog}
 use Rattle.transaction.specs.Lists.{every, sumOf}
-use Rattle.transaction.specs.View.{Outline, outline}
-use Rattle.transaction.specs.Rules.{outlineOk, alike, redoOk, roomOf}
+use Rattle.transaction.specs.Rules.{redoOk, roomOf}
+use Rattle.image.specs.Rules.{imageOk}
 use Rattle.store.specs.declared.State.{State}
 use Rattle.store.specs.State.{txsOf, outlinesOf}
 
 -- ---- the image rules, for numbers 2 and 4
-
--- "ids distinct", commit numbers "no two alike": each differs from those after it
-abbrev pub alikeTo : Outline → Outline → Bool
-alikeTo (outline id status csn undo) t = alike id csn t
-
-abbrev pub distinct : List Outline → Bool
-distinct [] = true
-distinct (t ∷ ts) = not (any (alikeTo t) ts) && distinct ts
-
-abbrev pub outlinesOk : ℕ → ℕ → List Outline → Bool
-outlinesOk last assigned ts = every (outlineOk last assigned) ts && distinct ts
-
--- "log end ≤ 16,384; number on disk ≤ number assigned; at most 8 transactions", and the rules of the transactions
-abbrev pub imageOk : ℕ → ℕ → ℕ → ℕ → List Outline → Bool
-imageOk logEnd ondisk assigned last ts = leb logEnd 16384 && leb ondisk assigned && leb (length ts) 8 && outlinesOk last assigned ts
 
 abbrev pub keepsImageRules : State → Bool
 keepsImageRules s = imageOk (s .logend) (s .ondisk .0) (s .assigned .0) (s .lastid .0) (outlinesOf s)

@@ -10,7 +10,8 @@ use Rattle.transaction.specs.Lists.{every, sumOf}
 use Rattle.transaction.specs.Rules.{redoOk, roomOf}
 use Rattle.store.specs.declared.State.{State}
 use Rattle.store.specs.State.{txsOf, outlinesOf}
-use Rattle.store.specs.Rules.{outlinesOk, tailLength, tailOk, unfit}
+use Rattle.image.specs.Rules.{outlinesOk}
+use Rattle.store.specs.Rules.{tailLength, tailOk, unfit}
 use Rattle.store.specs.Admission.{headOk, admission}
 use Rattle.store.proofs.Zeros.{log-within}
 use Rattle.store.proofs.Admitting.{refusedBy, head-count, unfit-head, unfit-txs, unfit-tail, unfit-room, unfit-none, txs-measured, txs-room, tail-measured, tail-room, reserved-bound, admit-memory, admit-tail, admit-unfit, admit-fit}

@@ -12,7 +12,7 @@ use Rattle.transaction.specs.Rules.{recordsOk, headOk, outlineOk, alike, redoOk
 use Rattle.transaction.proofs.Lists.{and-right, up-done, every-bad, every-good, sum-turn}
 use Rattle.transaction.proofs.Ranges.{counted}
 use Rattle.store.specs.State.{txAt, txsOf, outlineAt, outlinesOf}
-use Rattle.store.specs.Rules.{distinct}
+use Rattle.image.specs.Rules.{distinct}
 use Rattle.store.proofs.Admitting.{by-keys, bad-outline, bad-alike, bad-redo, good-txs, distinct-bad, distinct-good, redo-records, room-bound}
 use Rattle.store.proofs.State.measure_txs.Statement.{statement}
 use Rattle.store.proofs.State.measure_txs.Tie as tie
