@@ -2,8 +2,8 @@
 -- what the first one did. This makes a restart repeatable, cut or not.
 use mathlib.Core.Path.{_≡_, refl, sym, ap, _∙_, subst}
 use mathlib.Core.Logic.{_≢_, _⊎_, inl, inr}
-use mathlib.Core.Bool.{Bool, true, false, not, cond, _||_, _&&_}
-use mathlib.Core.List.{List, [], _∷_, _++_, append-nil}
+use mathlib.Core.Bool.{Bool, true, false, not, cond}
+use mathlib.Core.List.{List, [], _∷_, _++_}
 use Prim.Native.Nat.{ℕ, _≤_}
 use lib.Dec.{eqb, ltb}
 use Rattle.recovery.specs.Group.{Write, Group, lastCsn}
@@ -11,54 +11,35 @@ use Rattle.recovery.specs.Lists.{All, nil, cons, has}
 use Rattle.recovery.specs.Transaction.{Tx, running, committing}
 use Rattle.recovery.specs.Replay.{undoAll, undoEach}
 use Rattle.recovery.specs.Restart.{finished, undoRecords, undoOf, unfinished, sortDesc, above, undoOrder, undone, aborts, forward, recover}
-use Rattle.recovery.proofs.Bool.{eqb-same, eqb-no, not-ltb, or-both}
-use Rattle.recovery.proofs.Lists.{all-map, all-append, all-left, all-right, all-filter, all-unfilter, all-passing, filter-all, filter-filter}
-use Rattle.recovery.proofs.Distinct.{Distinct, more, distinct-append, distinct-filter, distinct-left}
+use Rattle.recovery.proofs.Bool.{eqb-no, not-ltb, not-true, or-both}
+use Rattle.recovery.proofs.Lists.{all-map, all-append, all-left, all-right, all-filter, all-unfilter, all-passed}
+use Rattle.recovery.proofs.Distinct.{more, distinct-append, distinct-filter, distinct-left}
+use Rattle.recovery.proofs.Transactions.{DistinctIds, lookup-own, running-committing, isRunning, isCommitting, isAbove, isUnfinished}
 use Rattle.recovery.proofs.Sorting.{sort-all, unsort-all, sort-distinct}
-use Rattle.recovery.proofs.Transactions.{DistinctIds, lookup-own, running-committing}
-use Rattle.recovery.proofs.Groups.{lastCsn-append, finished-append, undoEach-append, forward-append, lastCsn-aborts, still-finished, aborts-finish}
+use Rattle.recovery.proofs.Groups.{lastCsn-append, undoEach-append, forward-append, lastCsn-aborts}
+use Rattle.recovery.proofs.Finished.{finished-append, unfinished-more, leave-one, still-finished, aborts-finish}
 
 -- step 4's order lists transactions of the image, each once
 
-abbrev isCommitting : Tx → Bool
-isCommitting t = t .committing
-
 pub order-all : {p : Tx → Type 0} (txs : List Tx) (n : ℕ) → All p txs → All p (undoOrder txs n)
 unfolding undoOrder
-order-all txs n h = all-append (all-filter (λ t. not (t .committing)) h) (sort-all (all-filter (λ t. ltb n (t .csn)) (all-filter isCommitting h)))
+order-all txs n h = all-append (all-filter isRunning h) (sort-all (all-filter (isAbove n) (all-filter isCommitting h)))
 
 pub order-distinct : (txs : List Tx) (n : ℕ) → DistinctIds txs → DistinctIds (undoOrder txs n)
 unfolding undoOrder
 order-distinct txs n d =
-    distinct-append (distinct-filter (λ t. not (t .committing)) d) (sort-distinct (distinct-filter (λ t. ltb n (t .csn)) (distinct-filter isCommitting d)))
-    (all-map (λ t h. sort-all (all-filter (λ c. ltb n (c .csn)) h)) (running-committing d))
-
--- one more finished id leaves out the transaction that has it
-
-abbrev open? : List ℕ → Tx → Bool
-open? f t = not (has (t .id) f)
-
-unfinished-more : (i : ℕ) (f : List ℕ) (ts : List Tx) → unfinished (i ∷ f) ts ≡ unfinished (i ∷ []) (unfinished f ts)
-unfinished-more i f ts = sym (filter-filter (open? (i ∷ [])) (open? f) (open? (i ∷ f)) (λ t. go (has (t .id) f) (eqb (t .id) i)) ts)
-  where
-    go : (b c : Bool) → (not b && not (c || false)) ≡ not (c || b)
-    go true true = refl
-    go true false = refl
-    go false true = refl
-    go false false = refl
-
-unfinished-head : (t : Tx) {us : List Tx} → All (λ u. u .id ≢ t .id) us → unfinished (t .id ∷ []) (t ∷ us) ≡ us
-unfinished-head t h = rw (eqb-same (t .id)) (filter-all (open? (t .id ∷ [])) (all-map (λ u n. rw (eqb-no (u .id) (t .id) n)) h))
+    distinct-append (distinct-filter isRunning d) (sort-distinct (distinct-filter (isAbove n) (distinct-filter isCommitting d)))
+    (all-map (λ t h. sort-all (all-filter (isAbove n) h)) (running-committing d))
 
 -- after the abort records of vs, which come first, the rest is left to undo
 left-after : (os vs ws : List Tx) (f : List ℕ) → unfinished f os ≡ vs ++ ws → DistinctIds (vs ++ ws) → unfinished (finished (aborts vs) f) os ≡ ws
 left-after os [] ws f e d = e
 left-after os (v ∷ vs) ws f e (more h d) =
-    left-after os vs ws (v .id ∷ f) (unfinished-more (v .id) f os ∙ (ap (λ (r : List Tx). unfinished (v .id ∷ []) r) e ∙ unfinished-head v h)) d
+    left-after os vs ws (v .id ∷ f) (unfinished-more (v .id) f os ∙ (ap (λ (r : List Tx). unfinished (v .id ∷ []) r) e ∙ leave-one [] v _ (more h d))) d
 
 module _ (txs : List Tx) (d : ℕ) (gs : List Group) (vs ws : List Tx) (distinct : DistinctIds txs) (split : undone txs d gs ≡ vs ++ ws) where
   undone-distinct : DistinctIds (vs ++ ws)
-  undone-distinct = subst (λ (l : List Tx). DistinctIds l) split (distinct-filter (open? (finished gs [])) (order-distinct txs (lastCsn d gs) distinct))
+  undone-distinct = subst (λ (l : List Tx). DistinctIds l) split (distinct-filter (isUnfinished (finished gs [])) (order-distinct txs (lastCsn d gs) distinct))
 
   pub undone-after : undone txs d (gs ++ aborts vs) ≡ ws
   undone-after =
@@ -84,27 +65,19 @@ pub abort-law : {M : Type 0} (lay : Write → M → M) (txs : List Tx) (d : ℕ)
 abort-law {M = M} lay txs d gs vs ws m distinct split =
     let f : List ℕ = finished gs [] in
     let own : All (λ t. undoOf (t .id) txs ≡ t .undo) (undone txs d gs) =
-    all-filter (open? f) (order-all txs (lastCsn d gs) (all-map (λ t e. ap undoRecords e) (lookup-own distinct))) in
-    let new : All (λ t. has (t .id) f ≡ false) (undone txs d gs) = all-passing (open? f) (all-any (undoOrder txs (lastCsn d gs))) in
+    all-filter (isUnfinished f) (order-all txs (lastCsn d gs) (all-map (λ t e. ap undoRecords e) (lookup-own distinct))) in
+    let new : All (λ t. has (t .id) f ≡ false) (undone txs d gs) = all-map (λ t e. not-true (has (t .id) f) e) (all-passed (isUnfinished f) (undoOrder txs (lastCsn d gs))) in
     let run : forward lay txs (gs ++ aborts vs) [] m ≡ undoEach lay vs (forward lay txs gs [] m) =
     forward-append lay txs gs (aborts vs) [] m
     ∙ forward-aborts lay txs vs f (forward lay txs gs [] m) (distinct-left vs ws (undone-distinct txs d gs vs ws distinct split)) (all-left vs ws (rw split at new)) (all-left vs ws (rw split at own)) in
     ap (λ (x : M). undoEach lay (undone txs d (gs ++ aborts vs)) x) run
     ∙ (ap (λ (l : List Tx). undoEach lay l (undoEach lay vs (forward lay txs gs [] m))) (undone-after txs d gs vs ws distinct split)
     ∙ (sym (undoEach-append lay vs ws (forward lay txs gs [] m)) ∙ ap (λ (l : List Tx). undoEach lay l (forward lay txs gs [] m)) (sym split)))
-  where
-    not-false : (b : Bool) → not b ≡ true → b ≡ false
-    not-false true e = sym e
-    not-false false e = refl
-
-    all-any : (l : List Tx) → All (λ t. open? (finished gs []) t ≡ true → has (t .id) (finished gs []) ≡ false) l
-    all-any [] = nil
-    all-any (t ∷ l) = cons (λ e. not-false (has (t .id) (finished gs [])) e) (all-any l)
 
 -- after all of them nothing of the image is unfinished, but for committing ones whose commits are in the log
 
 all-finished : (os : List Tx) (f : List ℕ) → All (λ t. has (t .id) (finished (aborts (unfinished f os)) f) ≡ true) os
-all-finished os f = all-map (λ t h. one t (has (t .id) f) refl h) (all-unfilter (open? f) os (aborts-finish (unfinished f os) f))
+all-finished os f = all-map (λ t h. one t (has (t .id) f) refl h) (all-unfilter (isUnfinished f) os (aborts-finish (unfinished f os) f))
   where
     one : (t : Tx) (b : Bool) → has (t .id) f ≡ b → (not (has (t .id) f) ≡ true → has (t .id) (finished (aborts (unfinished f os)) f) ≡ true)
         → has (t .id) (finished (aborts (unfinished f os)) f) ≡ true
@@ -126,7 +99,7 @@ module _ (txs : List Tx) (d : ℕ) (gs : List Group) where
   unfolding undoOrder
   committing-finished =
       all-map (λ c h. one c (ltb (lastCsn d gs) (c .csn)) refl h)
-      (all-unfilter (λ c. ltb (lastCsn d gs) (c .csn)) (committing txs) (unsort-all (above (lastCsn d gs) (committing txs)) (all-right (running txs) order-finished)))
+      (all-unfilter (isAbove (lastCsn d gs)) (committing txs) (unsort-all (above (lastCsn d gs) (committing txs)) (all-right (running txs) order-finished)))
     where
       one : (c : Tx) (b : Bool) → ltb (lastCsn d gs) (c .csn) ≡ b → (ltb (lastCsn d gs) (c .csn) ≡ true → has (c .id) done ≡ true) → (has (c .id) done ≡ true) ⊎ (c .csn ≤ lastCsn d gs)
       one c true e h = inl (h e)

@@ -1,18 +1,17 @@
--- Groups one after the other: sizes, numbers, finished ids, and the memories that they lead to; and the abort records that restart adds.
-use mathlib.Core.Path.{_≡_, refl, sym, ap, _∙_, subst}
-use mathlib.Core.Logic.{_≢_}
-use mathlib.Core.Bool.{Bool, true, false, cond, _||_, or-true}
+-- Groups one after the other: sizes, numbers, the memories that they lead to, what fits; and the abort records that restart adds.
+use mathlib.Core.Path.{_≡_, refl, ap}
+use mathlib.Core.Bool.{Bool, true, false, cond}
 use mathlib.Core.List.{List, [], _∷_, _++_}
-use Prim.Native.Nat.{ℕ, zero, suc, _+_, _*_, _≤_}
+use Prim.Native.Nat.{ℕ, _+_, _-_, _*_, _≤_}
 use native.Mathlib.Omega.{arith}
-use lib.Dec.{eqb}
-use lib.ListN.{length, take}
-use Rattle.recovery.specs.Group.{Write, Group, committed, aborted, redoSize, groupSize, groupsSize, csnAfter, lastCsn}
-use Rattle.recovery.specs.Lists.{All, nil, cons, has}
+use lib.Dec.{leb}
+use lib.ListN.{length, drop}
+use Rattle.recovery.specs.Group.{Write, Group, committed, aborted, redoSize, groupSize, groupsSize, csnAfter, lastCsn, fitting}
+use Rattle.recovery.specs.Lists.{has}
 use Rattle.recovery.specs.Transaction.{Tx, reserved}
 use Rattle.recovery.specs.Replay.{redoAll, undoAll, undoEach, replay}
-use Rattle.recovery.specs.Restart.{groupId, finished, undoOf, unfinished, aborts, forward}
-use Rattle.recovery.proofs.Bool.{eqb-no, eqb-same, or-both}
+use Rattle.recovery.specs.Restart.{finished, undoOf, aborts, forward}
+use Rattle.recovery.proofs.Bool.{leb-yes}
 
 -- sizes
 
@@ -34,10 +33,6 @@ pub lastCsn-append : (n : ℕ) (gs hs : List Group) → lastCsn n (gs ++ hs) ≡
 lastCsn-append n [] hs = refl
 lastCsn-append n (g ∷ gs) hs = lastCsn-append (csnAfter n g) gs hs
 
-pub finished-append : (gs hs : List Group) (f : List ℕ) → finished (gs ++ hs) f ≡ finished hs (finished gs f)
-finished-append [] hs f = refl
-finished-append (g ∷ gs) hs f = finished-append gs hs (groupId g ∷ f)
-
 module _ {M : Type 0} (lay : Write → M → M) where
   pub replay-append : (gs hs : List Group) (m : M) → replay lay (gs ++ hs) m ≡ replay lay hs (replay lay gs m)
   replay-append [] hs m = refl
@@ -54,18 +49,22 @@ module _ {M : Type 0} (lay : Write → M → M) where
   forward-append txs (committed i n ws ∷ gs) hs f m = forward-append txs gs hs (i ∷ f) (redoAll lay ws m)
   forward-append txs (aborted i ∷ gs) hs f m = forward-append txs gs hs (i ∷ f) (cond (has i f) m (undoAll lay (undoOf i txs) m))
 
--- an id without a group is not finished by the groups
-pub unmarked : {i : ℕ} (f : List ℕ) {gs : List Group} → All (λ g. groupId g ≢ i) gs → has i f ≡ false → has i (finished gs f) ≡ false
-unmarked f nil h = h
-unmarked {i} f (cons {x = g} n ns) h =
-    unmarked (groupId g ∷ f) ns (or-both (eqb i (groupId g)) (has i f) (eqb-no i (groupId g) (λ e. n (sym e))) h)
+-- what fits is a first part, and all if there are stores enough
+
+pub fitting-split : (n : ℕ) (gs : List Group) → gs ≡ fitting n gs ++ drop (length (fitting n gs)) gs
+fitting-split n [] = refl
+fitting-split n (g ∷ gs) = go (leb (groupSize g) n) (fitting-split (n - groupSize g) gs)
+  where
+    go : (b : Bool) → gs ≡ fitting (n - groupSize g) gs ++ drop (length (fitting (n - groupSize g) gs)) gs
+        → g ∷ gs ≡ cond b (g ∷ fitting (n - groupSize g) gs) [] ++ drop (length (cond b (g ∷ fitting (n - groupSize g) gs) [])) (g ∷ gs)
+    go true e = ap (λ (l : List Group). g ∷ l) e
+    go false e = refl
+
+pub fitting-all : (n : ℕ) (gs : List Group) → groupsSize gs ≤ n → fitting n gs ≡ gs
+fitting-all n [] h = refl
+fitting-all n (g ∷ gs) h = rw (leb-yes (groupSize g) n (omega arith)) (ap (λ (l : List Group). g ∷ l) (fitting-all (n - groupSize g) gs (omega arith)))
 
 -- restart's own abort records
-
-pub take-aborts : (q : ℕ) (us : List Tx) → take q (aborts us) ≡ aborts (take q us)
-take-aborts zero us = refl
-take-aborts (suc q) [] = refl
-take-aborts (suc q) (u ∷ us) = ap (λ (l : List Group). aborted (u .id) ∷ l) (take-aborts q us)
 
 pub groupsSize-aborts : (us : List Tx) → groupsSize (aborts us) ≡ 4 * length us
 groupsSize-aborts [] = omega arith
@@ -78,15 +77,3 @@ lastCsn-aborts n (u ∷ us) = lastCsn-aborts n us
 pub replay-aborts : {M : Type 0} (lay : Write → M → M) (us : List Tx) (m : M) → replay lay (aborts us) m ≡ m
 replay-aborts lay [] m = refl
 replay-aborts lay (u ∷ us) m = replay-aborts lay us m
-
-pub all-aborts : {p : Group → Type 0} {us : List Tx} → All (λ u. p (aborted (u .id))) us → All p (aborts us)
-all-aborts nil = nil
-all-aborts (cons h hs) = cons h (all-aborts hs)
-
-pub still-finished : (i : ℕ) (us : List Tx) (f : List ℕ) → has i f ≡ true → has i (finished (aborts us) f) ≡ true
-still-finished i [] f h = h
-still-finished i (u ∷ us) f h = still-finished i us (u .id ∷ f) (rw h (or-true (eqb i (u .id))))
-
-pub aborts-finish : (us : List Tx) (f : List ℕ) → All (λ u. has (u .id) (finished (aborts us) f) ≡ true) us
-aborts-finish [] f = nil
-aborts-finish (u ∷ us) f = cons (still-finished (u .id) us (u .id ∷ f) (rw (eqb-same (u .id)))) (aborts-finish us (u .id ∷ f))

@@ -1,8 +1,32 @@
--- The laws of recovery.
+-- The laws of recovery: worked cases; lists; restart without and with bytes; the invariant and each call; the theorem.
+pub mod Cases
+pub mod LedgerCases
 pub mod Bool
 pub mod Lists
 pub mod Distinct
-pub mod Sorting
 pub mod Transactions
+pub mod Sorting
 pub mod Groups
+pub mod Finished
 pub mod AbortLaw
+pub mod Byte
+pub mod LiveByte
+pub mod Held
+pub mod TailFit
+pub mod CheckpointLaw
+pub mod Follows
+pub mod GrowthLaw
+pub mod Numbers
+pub mod Room
+pub mod Ledger
+pub mod Invariant
+pub mod NoRedo
+pub mod BeginStep
+pub mod WriteStep
+pub mod EndSteps
+pub mod FlushStep
+pub mod SettleStep
+pub mod CheckpointStep
+pub mod RestartStep
+pub mod Theorem
+pub mod Example

@@ -1,14 +1,12 @@
 -- Lists: a property of every element, `any`, `filter`, and properties of every first part.
 use mathlib.Core.Path.{_≡_, refl, sym, ap, _∙_, subst}
-use mathlib.Core.Logic.{_≢_}
-use mathlib.Core.Bool.{Bool, true, false, not, cond, _||_, _&&_}
-use mathlib.Core.List.{List, [], _∷_, _++_, reverse, reverse-cons, append-nil}
+use mathlib.Core.Bool.{Bool, true, false, cond, _&&_}
+use mathlib.Core.List.{List, [], _∷_, _++_, map, reverse, reverse-cons, append-nil}
 use Prim.Native.Nat.{ℕ, zero, suc}
-use lib.Dec.{eqb}
-use lib.ListN.{take, drop}
+use lib.ListN.{take}
 use lib.Seq.{take-nil}
-use Rattle.recovery.specs.Lists.{All, nil, cons, any, filter, has}
-use Rattle.recovery.proofs.Bool.{clash, eqb-no, eqb-ne, or-left, or-right, or-both}
+use Rattle.recovery.specs.Lists.{All, nil, cons, any, filter}
+use Rattle.recovery.proofs.Bool.{clash, or-left, or-right}
 
 module _ {A : Type 0} where
   -- every element
@@ -56,10 +54,6 @@ module _ {A : Type 0} where
 
   -- any
 
-  pub any-none : (p : A → Bool) {xs : List A} → All (λ x. p x ≡ false) xs → any p xs ≡ false
-  any-none p nil = refl
-  any-none p (cons {x} {xs} h hs) = or-both (p x) (any p xs) h (any-none p hs)
-
   pub none-any : (p : A → Bool) (xs : List A) → any p xs ≡ false → All (λ x. p x ≡ false) xs
   none-any p [] h = nil
   none-any p (x ∷ xs) h = cons (or-left (p x) (any p xs) h) (none-any p xs (or-right (p x) (any p xs) h))
@@ -98,14 +92,6 @@ module _ {A : Type 0} where
       go true e false g ih = rw (e, g, ← f x, e, g) ih
       go false e c g ih = rw (e, ← f x, e) ih
 
-  pub all-filter : {q : A → Type 0} (p : A → Bool) {xs : List A} → All q xs → All q (filter p xs)
-  all-filter p nil = nil
-  all-filter {q} p (cons {x} {xs} h hs) = go (p x) (all-filter p hs)
-    where
-      go : (b : Bool) → All q (filter p xs) → All q (cond b (x ∷ filter p xs) (filter p xs))
-      go true k = cons h k
-      go false k = k
-
   pub all-unfilter : {q : A → Type 0} (p : A → Bool) (xs : List A) → All q (filter p xs) → All (λ x. p x ≡ true → q x) xs
   all-unfilter p [] h = nil
   all-unfilter {q} p (x ∷ xs) h = go (p x) refl h (λ k. all-unfilter p xs k)
@@ -123,13 +109,15 @@ module _ {A : Type 0} where
       go true e k = cons (h e) k
       go false e k = k
 
--- membership of a number
+  pub all-filter : {q : A → Type 0} (p : A → Bool) {xs : List A} → All q xs → All q (filter p xs)
+  all-filter p h = all-passing p (all-map (λ x k _. k) h)
 
-pub absent : {i : ℕ} {js : List ℕ} → All (λ j. i ≢ j) js → has i js ≡ false
-absent {i} h = any-none (λ j. eqb i j) (all-map (λ j n. eqb-no i j n) h)
-
-pub not-in : (i : ℕ) (js : List ℕ) → has i js ≡ false → All (λ j. i ≢ j) js
-not-in i js h = all-map (λ j e. eqb-ne i j e) (none-any (λ j. eqb i j) js h)
+  pub all-passed : (p : A → Bool) (xs : List A) → All (λ x. p x ≡ true) (filter p xs)
+  all-passed p xs = all-passing p (each xs)
+    where
+      each : (ys : List A) → All (λ x. p x ≡ true → p x ≡ true) ys
+      each [] = nil
+      each (y ∷ ys) = cons (λ e. e) (each ys)
 
 -- every first part of a list has a property
 
@@ -157,3 +145,22 @@ module _ {A : Type 0} where
       each : (q : ℕ) → p (xs ++ take q (y ∷ []))
       each zero = subst p (sym (append-nil xs)) (prefix-whole p xs h)
       each (suc q) = subst (λ (l : List A). p (xs ++ (y ∷ l))) (sym (take-nil q)) k
+
+-- map
+
+pub all-mapped : {A B : Type 0} {p : B → Type 0} (f : A → B) {xs : List A} → All (λ x. p (f x)) xs → All p (map f xs)
+all-mapped f nil = nil
+all-mapped f (cons h hs) = cons h (all-mapped f hs)
+
+pub filter-map : {A : Type 0} (p : A → Bool) (f : A → A) → ((x : A) → p (f x) ≡ p x) → (xs : List A) → filter p (map f xs) ≡ map f (filter p xs)
+filter-map p f e [] = refl
+filter-map {A = A} p f e (x ∷ xs) = rw (e x) (go (p x) (filter-map p f e xs))
+  where
+    go : (b : Bool) → filter p (map f xs) ≡ map f (filter p xs) → cond b (f x ∷ filter p (map f xs)) (filter p (map f xs)) ≡ map f (cond b (x ∷ filter p xs) (filter p xs))
+    go true ih = ap (λ (l : List A). f x ∷ l) ih
+    go false ih = ih
+
+pub take-map : {A B : Type 0} (f : A → B) (q : ℕ) (xs : List A) → take q (map f xs) ≡ map f (take q xs)
+take-map f zero xs = refl
+take-map f (suc q) [] = refl
+take-map {B = B} f (suc q) (x ∷ xs) = ap (λ (l : List B). f x ∷ l) (take-map f q xs)

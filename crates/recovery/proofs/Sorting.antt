@@ -3,20 +3,18 @@ use mathlib.Core.Path.{_≡_, refl, sym, ap, _∙_}
 use mathlib.Core.Logic.{_≢_}
 use mathlib.Core.Bool.{Bool, true, false, cond, _&&_}
 use mathlib.Core.List.{List, [], _∷_, _++_}
-use Prim.Native.Nat.{ℕ, suc, _≤_, _<_}
+use Prim.Native.Nat.{ℕ, _≤_, _<_}
 use native.Mathlib.Omega.{arith}
 use lib.Dec.{leb, ltb}
-use Rattle.recovery.specs.Lists.{All, nil, cons, filter}
+use Rattle.recovery.specs.Lists.{All, nil, cons}
 use Rattle.recovery.specs.Transaction.{Tx}
 use Rattle.recovery.specs.Restart.{insertDesc, sortDesc, above}
 use Rattle.recovery.proofs.Bool.{leb-yes, leb-no, is-leb, not-leb, ltb-yes, ltb-no, is-ltb, not-ltb}
-use Rattle.recovery.proofs.Lists.{all-map, filter-all, filter-none, filter-filter, filter-append}
+use Rattle.recovery.proofs.Lists.{all-map, filter-all, filter-none, filter-filter}
 use Rattle.recovery.proofs.Distinct.{Distinct, empty, more}
+use Rattle.recovery.proofs.Transactions.{isAbove}
 
 -- above
-
-abbrev isAbove : ℕ → Tx → Bool
-isAbove n t = ltb n (t .csn)
 
 pub above-high : (n : ℕ) {xs : List Tx} → All (λ c. n < c .csn) xs → above n xs ≡ xs
 above-high n h = filter-all (isAbove n) (all-map (λ c l. ltb-yes n (c .csn) l) h)

@@ -3,15 +3,27 @@ use mathlib.Core.Path.{_≡_, refl, sym, ap, _∙_, subst}
 use mathlib.Core.Logic.{_≢_}
 use mathlib.Core.Bool.{Bool, true, false, not, cond}
 use mathlib.Core.List.{List, [], _∷_, _++_}
-use mathlib.Core.Option.{Option, none, some}
+use mathlib.Core.Option.{none, some}
 use Prim.Native.Nat.{ℕ}
-use native.Mathlib.Omega.{arith}
-use lib.Dec.{eqb}
-use Rattle.recovery.specs.Lists.{All, nil, cons, filter}
+use lib.Dec.{eqb, ltb}
+use Rattle.recovery.specs.Lists.{All, nil, cons, has}
 use Rattle.recovery.specs.Transaction.{Tx, running, committing, lookup, edit, remove}
-use Rattle.recovery.proofs.Bool.{eqb-same, eqb-no, clash}
-use Rattle.recovery.proofs.Lists.{all-map, filter-in, filter-out, filter-append}
-use Rattle.recovery.proofs.Distinct.{Distinct, empty, more, distinct-parts}
+use Rattle.recovery.proofs.Bool.{some-none, eqb-yes, eqb-ne, eqb-same, eqb-no, clash}
+use Rattle.recovery.proofs.Lists.{all-filter, filter-in, filter-out, filter-append}
+use Rattle.recovery.proofs.Distinct.{Distinct, empty, more, distinct-others, distinct-parts}
+
+-- the tests by which transactions are picked out
+abbrev pub isRunning : Tx → Bool
+isRunning t = not (t .committing)
+
+abbrev pub isCommitting : Tx → Bool
+isCommitting t = t .committing
+
+abbrev pub isAbove : ℕ → Tx → Bool
+isAbove n t = ltb n (t .csn)
+
+abbrev pub isUnfinished : List ℕ → Tx → Bool
+isUnfinished f t = not (has (t .id) f)
 
 abbrev pub DistinctIds : List Tx → Type 0
 DistinctIds txs = Distinct (λ t. t .id) txs
@@ -21,23 +33,25 @@ pub record Found (i : ℕ) (r : Tx) (txs : List Tx) : Type 0 where
   pub before : List Tx
   pub after : List Tx
   pub whole : txs ≡ before ++ r ∷ after
+  pub named : r .id ≡ i
   pub edited : (f : Tx → Tx) → edit i f txs ≡ before ++ f r ∷ after
   pub removed : remove i txs ≡ before ++ after
 
 pub find : (i : ℕ) (r : Tx) (txs : List Tx) → lookup i txs ≡ some r → Found i r txs
-find i r [] h = absurd (let z : _≡_ {A = ℕ} 0 1 = cc in omega arith)
+find i r [] h = absurd (some-none h refl)
 find i r (t ∷ ts) h = go (eqb i (t .id)) refl h (λ k. find i r ts k)
   where
     go : (b : Bool) → eqb i (t .id) ≡ b → cond b (some t) (lookup i ts) ≡ some r → (lookup i ts ≡ some r → Found i r ts) → Found i r (t ∷ ts)
     go true e k f =
         let same : t ≡ r = cc in
-        record { before = []; after = ts; whole = ap (λ (u : Tx). u ∷ ts) same; edited = λ g. rw e (ap (λ (u : Tx). g u ∷ ts) same); removed = rw e }
+        record { before = []; after = ts; whole = ap (λ (u : Tx). u ∷ ts) same; named = ap (λ (u : Tx). u .id) (sym same) ∙ sym (eqb-yes i (t .id) e); edited = λ g. rw e (ap (λ (u : Tx). g u ∷ ts) same); removed = rw e }
     go false e k f =
         let c : Found i r ts = f k in
         record {
           before = t ∷ c .before;
           after = c .after;
           whole = ap (λ (l : List Tx). t ∷ l) (c .whole);
+          named = c .named;
           edited = λ g. rw e (ap (λ (l : List Tx). t ∷ l) (c .edited g));
           removed = rw e (ap (λ (l : List Tx). t ∷ l) (c .removed));
         }
@@ -45,6 +59,14 @@ find i r (t ∷ ts) h = go (eqb i (t .id)) refl h (λ k. find i r ts k)
 pub lookup-none : {i : ℕ} {txs : List Tx} → All (λ t. t .id ≢ i) txs → lookup i txs ≡ none
 lookup-none nil = refl
 lookup-none {i} (cons {x} h hs) = rw (eqb-no i (x .id) (λ e. h (sym e))) (lookup-none hs)
+
+pub lookup-misses : (i : ℕ) (txs : List Tx) → lookup i txs ≡ none → All (λ t. t .id ≢ i) txs
+lookup-misses i [] h = nil
+lookup-misses i (t ∷ ts) h = go (eqb i (t .id)) refl h (λ k. lookup-misses i ts k)
+  where
+    go : (b : Bool) → eqb i (t .id) ≡ b → cond b (some t) (lookup i ts) ≡ none → (lookup i ts ≡ none → All (λ u. u .id ≢ i) ts) → All (λ u. u .id ≢ i) (t ∷ ts)
+    go true e k f = absurd (some-none refl k)
+    go false e k f = cons (λ p. eqb-ne i (t .id) e (sym p)) (f k)
 
 -- with distinct ids each is found under its own
 pub lookup-own : {txs : List Tx} → DistinctIds txs → All (λ t. lookup (t .id) txs ≡ some t) txs
@@ -56,12 +78,6 @@ lookup-own (more {x} {xs} h d) = cons {x = x} (rw (eqb-same (x .id))) (past h (l
     past (cons {x = u} n ns) (cons k ks) = cons {x = u} (rw (eqb-no (u .id) (x .id) n) k) (past ns ks)
 
 -- running and committing
-
-abbrev isRunning : Tx → Bool
-isRunning t = not (t .committing)
-
-abbrev isCommitting : Tx → Bool
-isCommitting t = t .committing
 
 module _ (xs : List Tx) (r : Tx) (ys : List Tx) where
   pub running-in : r .committing ≡ false → running (xs ++ r ∷ ys) ≡ running xs ++ r ∷ running ys
@@ -85,3 +101,11 @@ committing-append xs ys = filter-append isCommitting xs ys
 -- no id is both
 pub running-committing : {txs : List Tx} → DistinctIds txs → All (λ t. All (λ c. c .id ≢ t .id) (committing txs)) (running txs)
 running-committing d = distinct-parts isRunning isCommitting (λ x p q. clash p (rw q)) d
+
+-- a listed running transaction, among the running ones
+module _ {txs : List Tx} (r : Tx) (run : r .committing ≡ false) (f : Found (r .id) r txs) where
+  pub found-running : running txs ≡ running (f .before) ++ r ∷ running (f .after)
+  found-running = ap running (f .whole) ∙ running-in (f .before) r (f .after) run
+
+  pub found-apart : DistinctIds txs → All (λ t. t .id ≢ r .id) (running (f .before) ++ running (f .after))
+  found-apart d = subst (λ (ts : List Tx). All (λ t. t .id ≢ r .id) ts) (running-append (f .before) (f .after)) (all-filter isRunning (distinct-others (f .before) r (f .after) (rw (f .whole) at d)))

@@ -7,7 +7,7 @@ use Rattle.recovery.specs.Group.{Group, committed, aborted, groupsSize}
 use Rattle.recovery.specs.Lists.{All}
 use Rattle.recovery.specs.Replay.{redoAll, layBytes}
 use Rattle.recovery.specs.Ledger.{Commit, Ledger}
-use Rattle.recovery.specs.Machine.{Setup, Disk, undoneBy, recovered}
+use Rattle.recovery.specs.Machine.{Opening, Disk, undoneBy, recovered}
 
 -- the commits of a log
 abbrev pub commits : List Group → List Commit
@@ -25,16 +25,16 @@ abbrev pub Numbered : ℕ → List Commit → Type 0
 Numbered n [] = Unit {0}
 Numbered n (c ∷ cs) = (c .csn ≡ suc n) × Numbered (suc n) cs
 
-pub record Claim (o : Setup) (d : Disk) (l : Ledger) : Type 0 where
-  -- one more restart leaves the starting memory with the writes of the durable ones laid over it
-  pub restores : recovered d ≡ layCommits (l .durable) (o .memory)
+pub record Claim (o : Opening) (d : Disk) (k : Ledger) : Type 0 where
+  -- one more restart leaves the opening memory with the writes of the durable ones laid over it
+  pub restores : recovered d ≡ layCommits (k .durable) (o .memory)
   -- the log, read from its first byte, has as its commits exactly the durable ones in order, with ids, numbers and writes
-  pub logged : commits (d .before ++ d .after) ≡ l .durable
-  -- the numbers being 1, 2, 3 and on, or what follows the starting one
-  pub numbered : Numbered (o .csn) (l .durable)
+  pub logged : commits (d .before ++ d .after) ≡ k .durable
+  -- the numbers being 1, 2, 3 and on, or what follows the opening one
+  pub numbered : Numbered (o .csn) (k .durable)
   -- the durable ones are the first so many assigned
-  pub first : (rest : List Commit) × (l .assigned ≡ l .durable ++ rest)
+  pub first : (rest : List Commit) × (k .assigned ≡ k .durable ++ rest)
   -- each settled one is among them
-  pub settled : All (λ c. List·Memᴰ c (l .durable)) (l .settled)
+  pub settled : All (λ c. List·Memᴰ c (k .durable)) (k .settled)
   -- the restart isn't refused: number 5 finds room for its abort records
   pub fits : groupsSize (d .before ++ d .after) + 4 * length (undoneBy d) ≤ o .capacity

@@ -1,9 +1,9 @@
 -- The abstract store: disk and live state without bytes, what each call does to them, and the calls as steps.
 use Prim.Native.Nat.{ℕ, suc, _+_, _≤_, _<_}
 use mathlib.Core.Path.{_≡_}
-use mathlib.Core.Bool.{Bool, true, false}
-use mathlib.Core.List.{List, [], _∷_, _++_}
-use mathlib.Core.Option.{Option, none, some}
+use mathlib.Core.Bool.{true, false}
+use mathlib.Core.List.{List, [], _∷_, _++_, map}
+use mathlib.Core.Option.{some}
 use lib.ListN.{length, take, drop, replicate, length-replicate}
 use Rattle.recovery.specs.Group.{Write, Group, committed, aborted, groupsSize, lastCsn, fitting}
 use Rattle.recovery.specs.Lists.{All}
@@ -12,9 +12,9 @@ use Rattle.recovery.specs.Replay.{undoAll, layBytes}
 use Rattle.recovery.specs.Restart.{groupId, undone, aborts, recover}
 use Rattle.recovery.specs.Ledger.{Event, unchanged, begun, wrote, precommitted, rolledBack, flushed, settled, restarted, cut, Ledger, noLedger, enter}
 
--- What a history starts from: the length of memory, the bytes that the log can take, and an image's memory and last commit
+-- What a history opens from: the length of memory, the bytes that the log can take, and an image's memory and last commit
 -- number, with no transaction.
-pub record Setup : Type 0 where
+pub record Opening : Type 0 where
   pub size : ℕ
   pub capacity : ℕ
   pub memory : List ℕ
@@ -22,7 +22,7 @@ pub record Setup : Type 0 where
   pub whole : length memory ≡ size
 
 -- a fresh disk: zeros, and commit numbers from 1 on
-abbrev pub fresh : ℕ → ℕ → Setup
+abbrev pub fresh : ℕ → ℕ → Opening
 fresh size capacity = record { size = size; capacity = capacity; memory = replicate size 0; csn = 0; whole = length-replicate size 0 }
 
 -- what recovery needs of a checkpoint image; csn: the last commit number on disk
@@ -54,8 +54,8 @@ abbrev pub diskOf : System → Disk
 diskOf (down d) = d
 diskOf (up d l) = d
 
-abbrev pub startDisk : Setup → Disk
-startDisk o = record { image = record { txs = []; memory = o .memory; csn = o .csn }; before = []; after = [] }
+abbrev pub openingDisk : Opening → Disk
+openingDisk o = record { image = record { txs = []; memory = o .memory; csn = o .csn }; before = []; after = [] }
 
 -- r is what the list has under its id
 abbrev pub Listed : Tx → List Tx → Type 0
@@ -94,7 +94,7 @@ inCommit n t = record { id = t .id; committing = true; csn = n; undo = t .undo; 
 
 abbrev pub afterPrecommit : Tx → Live → Live
 afterPrecommit r l =
-    let n : ℕ = suc (lastCsn (l .csn) (l .tail)) in
+    let n : ℕ = suc (lastAssigned l) in
     record { txs = edit (r .id) (inCommit n) (l .txs); memory = l .memory; tail = l .tail ++ (committed (r .id) n (r .redo) ∷ []); csn = l .csn; lastId = l .lastId }
 
 -- Abort of r: undoes newest first, appends the abort record, drops the transaction.
@@ -115,9 +115,12 @@ afterFlush k l = record { txs = l .txs; memory = l .memory; tail = drop k (l .ta
 abbrev pub afterSettle : Tx → Live → Live
 afterSettle r l = record { txs = remove (r .id) (l .txs); memory = l .memory; tail = l .tail; csn = l .csn; lastId = l .lastId }
 
--- Checkpoint: the image is the live state, and the whole log stands before it.
+-- Checkpoint: the image is the live state, without redo records, and the whole log stands before it.
+abbrev pub withoutRedo : Tx → Tx
+withoutRedo t = record { id = t .id; committing = t .committing; csn = t .csn; undo = t .undo; redo = [] }
+
 abbrev pub afterCheckpoint : Disk → Live → Disk
-afterCheckpoint d l = record { image = record { txs = l .txs; memory = l .memory; csn = l .csn }; before = d .before ++ d .after; after = [] }
+afterCheckpoint d l = record { image = record { txs = map withoutRedo (l .txs); memory = l .memory; csn = l .csn }; before = d .before ++ d .after; after = [] }
 
 -- Restart: what it undoes, the memory it leaves, and the live state, up to the last id.
 abbrev pub undoneBy : Disk → List Tx
@@ -130,14 +133,17 @@ abbrev pub afterRestart : Disk → ℕ → Live
 afterRestart d lastId = record { txs = []; memory = recovered d; tail = aborts (undoneBy d); csn = lastCsn (d .image .csn) (d .after); lastId = lastId }
 
 -- One call: the system before, what the ledger is told, the system after. A premise is what keeps the call from being refused, so
--- far as recovery depends on it.
-module _ (o : Setup) where
+-- far as recovery depends on it, with its number in document 01.
+module _ (o : Opening) where
   pub data Step : System → Event → System → Type 0 where
     -- a refused call, a read or its sister
     stays : (s : System) → Step s unchanged s
+    -- number 13
     begins : (d : Disk) (l : Live) → roomUsed d l + 8 ≤ o .capacity → Step (up d l) (begun (suc (l .lastId))) (up d (afterBegin l))
+    -- numbers 6, 7, 8, 9 and 13
     writes : (d : Disk) (l : Live) (r : Tx) (w : Write) → Listed r (l .txs) → r .committing ≡ false → w .addr + length (w .bytes) ≤ o .size
         → heldByOther (r .id) w (l .txs) ≡ false → roomUsed d l + (7 + length (w .bytes)) ≤ o .capacity → Step (up d l) (wrote (r .id) w) (up d (afterWrite r w l))
+    -- numbers 6 and 7
     precommits : (d : Disk) (l : Live) (r : Tx) → Listed r (l .txs) → r .committing ≡ false
         → Step (up d l) (precommitted (r .id) (suc (lastAssigned l))) (up d (afterPrecommit r l))
     rollsBack : (d : Disk) (l : Live) (r : Tx) → Listed r (l .txs) → r .committing ≡ false → Step (up d l) (rolledBack (r .id)) (up d (afterAbort r l))
@@ -146,6 +152,7 @@ module _ (o : Setup) where
         → Step (up d l) (flushed k allowed) (up (storing (take k (l .tail)) d) (afterFlush k l))
     flushIsCut : (d : Disk) (l : Live) (k allowed : ℕ) → allowed < groupsSize (take k (l .tail))
         → Step (up d l) (cut (flushed k allowed)) (down (storing (fitting allowed (take k (l .tail))) d))
+    -- numbers 6 and 14
     settles : (d : Disk) (l : Live) (r : Tx) → Listed r (l .txs) → r .committing ≡ true → r .csn ≤ l .csn → Step (up d l) (settled (r .id)) (up d (afterSettle r l))
     -- until its last store, the pointer byte, a checkpoint leaves the old image in use
     checkpoints : (d : Disk) (l : Live) → Step (up d l) unchanged (up (afterCheckpoint d l) l)
@@ -157,5 +164,5 @@ module _ (o : Setup) where
 
   -- any list of calls, with the ledger that is fed them
   pub data Run : System → Ledger → Type 0 where
-    opened : Run (down (startDisk o)) noLedger
-    next : {s t : System} {l : Ledger} {e : Event} → Run s l → Step s e t → Run t (enter e l)
+    opened : Run (down (openingDisk o)) noLedger
+    next : {s t : System} {k : Ledger} {e : Event} → Run s k → Step s e t → Run t (enter e k)
