@@ -32,40 +32,56 @@ same-length c = search needs
 
 returns : tie.Need-returns
 returns c =
-    let s = c .before .before .before .before .before .before .args .self in
-    let m = c .before .before .before .before .before .before .args .memory .now in
-    let t = c .before .before .before .before .before .before .args .tail .now in
-    let o = abort-refused s m t (c .before .before .before .before .before .before .args .id) (c .before .before .admit .result .number) (shared-stops s (length m) t (abortChecks s (c .before .before .before .before .before .before .args .id .0)) _ (c .before .before .admit .ensures) (c .if1 .taken)) (c .if1 .taken) in
+    let args = c .before .before .before .before .before .before .args in
+    let s = args .self in
+    let m = args .memory .now in
+    let t = args .tail .now in
+    let o = abort-refused s m t (args .id) (c .before .before .admit .result .number) (shared-stops s (length m) t (abortChecks s (args .id .0)) _ (c .before .before .admit .ensures) (c .if1 .taken)) (c .if1 .taken) in
     (ap (λ (x : Outcome Returned). x .result) (sym o), (ap (λ (x : Outcome Returned). x .memory) (sym o), ap (λ (x : Outcome Returned). x .tail) (sym o)))
 
-admission-of : (c : tie.Else1) → Admitted (c .before .before .before .before .before .before .args .self) (length (c .before .before .before .before .before .before .args .memory .now)) (c .before .before .before .before .before .before .args .tail .now) (c .before .before .admit .result)
-admission-of c = admitted (c .before .before .before .before .before .before .args .self) (length (c .before .before .before .before .before .before .args .memory .now)) (c .before .before .before .before .before .before .args .tail .now) (c .before .before .admit .result) (c .before .before .admit .ensures) (c .if1 .left)
+admission-of : (c : tie.Else1) → let args = c .before .before .before .before .before .before .args in
+    Admitted (args .self) (length (args .memory .now)) (args .tail .now) (c .before .before .admit .result)
+admission-of c =
+    let args = c .before .before .before .before .before .before .args in
+    admitted (args .self) (length (args .memory .now)) (args .tail .now) (c .before .before .admit .result) (c .before .before .admit .ensures) (c .if1 .left)
 
 choose-running-requires : tie.Need-choose-running-requires
-choose-running-requires c κs = admission-of (c) .fits .image
+choose-running-requires c κs = admission-of c .fits .image
 
 same-length-2 : tie.Need-same-length-2
 same-length-2 c = search needs
 
 -- the number is abort's own
-own : (c : tie.After-choose-running) → abortNumber (c .before .before .before .before .before .before .before .args .self) (c .before .before .before .before .before .before .before .args .memory .now) (c .before .before .before .before .before .before .before .args .tail .now) (c .before .before .before .before .before .before .before .args .id) ≡ c .choose-running .result .number
+own : (c : tie.After-choose-running) → let args = c .before .before .before .before .before .before .before .args in
+    abortNumber (args .self) (args .memory .now) (args .tail .now) (args .id) ≡ c .choose-running .result .number
 own c =
-    let s = c .before .before .before .before .before .before .before .args .self in
-    shared-passes s (length (c .before .before .before .before .before .before .before .args .memory .now)) (c .before .before .before .before .before .before .before .args .tail .now) (abortChecks s (c .before .before .before .before .before .before .before .args .id .0)) (admission-of (c .before) .passed) ∙ sym (ap (λ (y : Choice). y .number) (c .choose-running .ensures))
+    let args = c .before .before .before .before .before .before .before .args in
+    let s = args .self in
+    shared-passes s (length (args .memory .now)) (args .tail .now) (abortChecks s (args .id .0)) (admission-of (c .before) .passed) ∙ sym (ap (λ (y : Choice). y .number) (c .choose-running .ensures))
 
 returns-2 : tie.Need-returns-2
 returns-2 c =
-    let o = abort-refused (c .before .before .before .before .before .before .before .before .before .args .self) (c .before .before .before .before .before .before .before .before .before .args .memory .now) (c .before .before .before .before .before .before .before .before .before .args .tail .now) (c .before .before .before .before .before .before .before .before .before .args .id) (c .before .before .choose-running .result .number) (own (c .before .before)) (c .if2 .taken) in
+    let args = c .before .before .before .before .before .before .before .before .before .args in
+    let o = abort-refused (args .self) (args .memory .now) (args .tail .now) (args .id) (c .before .before .choose-running .result .number) (own (c .before .before)) (c .if2 .taken) in
     (ap (λ (x : Outcome Returned). x .result) (sym o), (ap (λ (x : Outcome Returned). x .memory) (sym o), ap (λ (x : Outcome Returned). x .tail) (sym o)))
 
-chosen : (c : tie.Else2) → c .before .before .choose-running .result .slot ≡ slotOf (c .before .before .before .before .before .before .before .before .before .args .self) (c .before .before .before .before .before .before .before .before .before .args .id .0)
-chosen c = ap (λ (y : Choice). y .slot) (choice-slot _ (abortChecks (c .before .before .before .before .before .before .before .before .before .args .self) (c .before .before .before .before .before .before .before .before .before .args .id .0)) _ (c .before .before .choose-running .ensures) (c .if2 .left))
+chosen : (c : tie.Else2) → let args = c .before .before .before .before .before .before .before .before .before .args in
+    c .before .before .choose-running .result .slot ≡ slotOf (args .self) (args .id .0)
+chosen c =
+    let args = c .before .before .before .before .before .before .before .before .before .args in
+    ap (λ (y : Choice). y .slot) (choice-slot _ (abortChecks (args .self) (args .id .0)) _ (c .before .before .choose-running .ensures) (c .if2 .left))
 
-going : (c : tie.Else2) → Running (c .before .before .before .before .before .before .before .before .before .args .self) (c .before .before .before .before .before .before .before .before .before .args .id .0)
-going c = running (c .before .before .before .before .before .before .before .before .before .args .self) (c .before .before .before .before .before .before .before .before .before .args .id .0) [] (sym (ap (λ (y : Choice). y .number) (c .before .before .choose-running .ensures)) ∙ c .if2 .left) .0
+going : (c : tie.Else2) → let args = c .before .before .before .before .before .before .before .before .before .args in
+    Running (args .self) (args .id .0)
+going c =
+    let args = c .before .before .before .before .before .before .before .before .before .args in
+    running (args .self) (args .id .0) [] (sym (ap (λ (y : Choice). y .number) (c .before .before .choose-running .ensures)) ∙ c .if2 .left) .0
 
-ready : (c : tie.Else2) → Usable (c .before .before .before .before .before .before .before .before .before .args .self) (c .before .before .before .before .before .before .before .before .before .args .tail .now) (c .before .before .choose-running .result .slot)
-ready c = subst (λ (k : ℕ). Usable (c .before .before .before .before .before .before .before .before .before .args .self) (c .before .before .before .before .before .before .before .before .before .args .tail .now) k) (sym (chosen c)) (usable (c .before .before .before .before .before .before .before .before .before .args .self) (c .before .before .before .before .before .before .before .before .before .args .tail .now) (c .before .before .before .before .before .before .before .before .before .args .id .0) (admission-of (c .before .before .before) .fits) (going c))
+ready : (c : tie.Else2) → let args = c .before .before .before .before .before .before .before .before .before .args in
+    Usable (args .self) (args .tail .now) (c .before .before .choose-running .result .slot)
+ready c =
+    let args = c .before .before .before .before .before .before .before .before .before .args in
+    subst (λ (k : ℕ). Usable (args .self) (args .tail .now) k) (sym (chosen c)) (usable (args .self) (args .tail .now) (args .id .0) (admission-of (c .before .before .before) .fits) (going c))
 
 abort-step-requires : tie.Need-abort-step-requires
 abort-step-requires c κs =
@@ -81,12 +97,13 @@ same-length-4 c = search needs
 
 returns-3 : tie.Need-returns-3
 returns-3 c =
-    let s = c .before .before .before .before .before .before .before .before .before .before .before .before .before .before .before .before .args .self in
-    let m = c .before .before .before .before .before .before .before .before .before .before .before .before .before .before .before .before .args .memory .now in
-    let t = c .before .before .before .before .before .before .before .before .before .before .before .before .before .before .before .before .args .tail .now in
+    let args = c .before .before .before .before .before .before .before .before .before .before .before .before .before .before .before .before .args in
+    let s = args .self in
+    let m = args .memory .now in
+    let t = args .tail .now in
     let k = chosen (c .before .before .before .before .before .before .before) in
     let x = admission-of (c .before .before .before .before .before .before .before .before .before .before) in
-    let o = abort-done s m t (c .before .before .before .before .before .before .before .before .before .before .before .before .before .before .before .before .args .id) (own (c .before .before .before .before .before .before .before .before .before) ∙ c .before .before .before .before .before .before .before .if2 .left) in (
+    let o = abort-done s m t (args .id) (own (c .before .before .before .before .before .before .before .before .before) ∙ c .before .before .before .before .before .before .before .if2 .left) in (
       ap (λ (u : State). record { answer = answer done; state = u }) (c .before .before .before .before .abort-step .ensures .0 ∙ ap (droppedState s) k) ∙ ap (λ (x : Outcome Returned). x .result) (sym o),
       (
         c .before .before .before .before .abort-step .ensures .1 .0 ∙ ap (λ (j : ℕ). undoAll layBytes (writesOf (txAt s j .undo)) m) k ∙ ap (λ (x : Outcome Returned). x .memory) (sym o),

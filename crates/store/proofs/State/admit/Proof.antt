@@ -19,31 +19,46 @@ use Rattle.store.proofs.State.admit.Statement.{statement}
 use Rattle.store.proofs.State.admit.Tie as tie
 
 returns : tie.Need-returns
-returns c = sym (admit-memory (c .before .before .args .self) (c .before .before .args .memory) (c .before .before .args .tail .now) (c .if1 .taken))
+returns c =
+    let args = c .before .before .args in
+    sym (admit-memory (args .self) (args .memory) (args .tail .now) (c .if1 .taken))
 
 returns-2 : tie.Need-returns-2
-returns-2 c = sym (admit-tail (c .before .before .before .args .self) (c .before .before .before .args .memory) (c .before .before .before .args .tail .now) (c .if2 .taken))
+returns-2 c =
+    let args = c .before .before .before .args in
+    sym (admit-tail (args .self) (args .memory) (args .tail .now) (c .if2 .taken))
 
 head-ok-requires : tie.Need-head-ok-requires
 head-ok-requires c κs = search needs
 
-refused-2 : (c : tie.Else2) → unfit (c .before .before .before .args .self) (c .before .before .before .args .tail .now) ≡ true → admission (c .before .before .before .args .self) (c .before .before .before .args .memory) (c .before .before .before .args .tail .now) ≡ refusedBy 2
-refused-2 c e = admit-unfit (c .before .before .before .args .self) (c .before .before .before .args .memory) (c .before .before .before .args .tail .now) (c .before .if1 .left) (c .if2 .left) e
+refused-2 : (c : tie.Else2) → let args = c .before .before .before .args in
+    unfit (args .self) (args .tail .now) ≡ true → admission (args .self) (args .memory) (args .tail .now) ≡ refusedBy 2
+refused-2 c e =
+    let args = c .before .before .before .args in
+    admit-unfit (args .self) (args .memory) (args .tail .now) (c .before .if1 .left) (c .if2 .left) e
 
 returns-3 : tie.Need-returns-3
-returns-3 c = sym (refused-2 (c .before .before) (unfit-head (c .before .before .before .before .before .args .self) (c .before .before .before .before .before .args .tail .now) (sym (c .before .head-ok .ensures) ∙ not-true _ (c .if3 .taken))))
+returns-3 c =
+    let args = c .before .before .before .before .before .args in
+    sym (refused-2 (c .before .before) (unfit-head (args .self) (args .tail .now) (sym (c .before .head-ok .ensures) ∙ not-true _ (c .if3 .taken))))
 
 measure-txs-requires : tie.Need-measure-txs-requires
-measure-txs-requires c κs = head-count (c .before .before .before .before .before .args .self) (c .before .before .before .before .before .args .tail .now) (sym (c .before .head-ok .ensures) ∙ not-false _ (c .if3 .left))
+measure-txs-requires c κs =
+    let args = c .before .before .before .before .before .args in
+    head-count (args .self) (args .tail .now) (sym (c .before .head-ok .ensures) ∙ not-false _ (c .if3 .left))
 
 returns-4 : tie.Need-returns-4
-returns-4 c = sym (refused-2 (c .before .before .before .before .before) (unfit-txs (c .before .before .before .before .before .before .before .before .args .self) (c .before .before .before .before .before .before .before .before .args .tail .now) (sym (txs-measured (c .before .before .before .before .before .before .before .before .args .self) _ (c .before .before .measure-txs .ensures)) ∙ not-true _ (c .if4 .taken))))
+returns-4 c =
+    let args = c .before .before .before .before .before .before .before .before .args in
+    sym (refused-2 (c .before .before .before .before .before) (unfit-txs (args .self) (args .tail .now) (sym (txs-measured (args .self) _ (c .before .before .measure-txs .ensures)) ∙ not-true _ (c .if4 .taken))))
 
 measure-tail-requires : tie.Need-measure-tail-requires
 measure-tail-requires c κs = search needs
 
 returns-5 : tie.Need-returns-5
-returns-5 c = sym (refused-2 (c .before .before .before .before .before .before .before .before) (unfit-tail (c .before .before .before .before .before .before .before .before .before .before .before .args .self) (c .before .before .before .before .before .before .before .before .before .before .before .args .tail .now) (sym (tail-measured _ _ _ _ (c .before .before .measure-tail .ensures)) ∙ not-true _ (c .if5 .taken))))
+returns-5 c =
+    let args = c .before .before .before .before .before .before .before .before .before .before .before .args in
+    sym (refused-2 (c .before .before .before .before .before .before .before .before) (unfit-tail (args .self) (args .tail .now) (sym (tail-measured _ _ _ _ (c .before .before .measure-tail .ensures)) ∙ not-true _ (c .if5 .taken))))
 
 cast-room : tie.Need-cast-room
 cast-room c = search needs
@@ -58,10 +73,12 @@ pub record Measures (s : State) (t : List ℕ) (a b : ℕ) : Type 0 where
   pub short : tailLength (s .ondisk .0) t ≤ length t
   pub few : sumOf roomOf (txsOf s) ≤ 5056
 
-measured : (c : tie.Else5) → Measures (c .before .before .before .before .before .before .before .before .before .before .before .args .self) (c .before .before .before .before .before .before .before .before .before .before .before .args .tail .now) (c .before .before .measure-tail .result .room) (c .before .before .before .before .before .measure-txs .result .room)
+measured : (c : tie.Else5) → let args = c .before .before .before .before .before .before .before .before .before .before .before .args in
+    Measures (args .self) (args .tail .now) (c .before .before .measure-tail .result .room) (c .before .before .before .before .before .measure-txs .result .room)
 measured c =
-    let s = c .before .before .before .before .before .before .before .before .before .before .before .args .self in
-    let t = c .before .before .before .before .before .before .before .before .before .before .before .args .tail .now in
+    let args = c .before .before .before .before .before .before .before .before .before .before .before .args in
+    let s = args .self in
+    let t = args .tail .now in
     let h = sym (c .before .before .before .before .before .before .before .head-ok .ensures) ∙ not-false _ (c .before .before .before .before .before .before .if3 .left) in
     let x = not-false _ (c .before .before .before .if4 .left) in
     let y = not-false _ (c .if5 .left) in
@@ -83,15 +100,18 @@ add-room-2 : tie.Need-add-room-2
 add-room-2 c = let m = measured (c .before .before .before) in omega (arith, m)
 
 returns-6 : tie.Need-returns-6
-returns-6 c = let m = measured (c .before .before .before .before) in sym (refused-2 (c .before .before .before .before .before .before .before .before .before .before .before .before) (unfit-room (c .before .before .before .before .before .before .before .before .before .before .before .before .before .before .before .args .self) (c .before .before .before .before .before .before .before .before .before .before .before .before .before .before .before .args .tail .now) (omega (arith, m, c .if6 .taken))))
+returns-6 c =
+    let args = c .before .before .before .before .before .before .before .before .before .before .before .before .before .before .before .args in
+    let m = measured (c .before .before .before .before) in sym (refused-2 (c .before .before .before .before .before .before .before .before .before .before .before .before) (unfit-room (args .self) (args .tail .now) (omega (arith, m, c .if6 .taken))))
 
 returns-7 : tie.Need-returns-7
 returns-7 c =
-    let s = c .before .before .before .before .before .before .before .before .before .before .before .before .before .before .before .args .self in
-    let t = c .before .before .before .before .before .before .before .before .before .before .before .before .before .before .before .args .tail .now in
+    let args = c .before .before .before .before .before .before .before .before .before .before .before .before .before .before .before .args in
+    let s = args .self in
+    let t = args .tail .now in
     let m = measured (c .before .before .before .before) in
     let u = unfit-none s t (m .heads) (m .txs) (m .log) (omega (arith, m .end, m .rooms, c .if6 .left)) in
-    ap₂ (λ (x y : ℕ). record { number = 0; end = x; room = y }) (m .end) (omega (arith, m .end, m .rooms)) ∙ sym (admit-fit s (c .before .before .before .before .before .before .before .before .before .before .before .before .before .before .before .args .memory) t (c .before .before .before .before .before .before .before .before .before .before .before .before .before .if1 .left) (c .before .before .before .before .before .before .before .before .before .before .before .before .if2 .left) u)
+    ap₂ (λ (x y : ℕ). record { number = 0; end = x; room = y }) (m .end) (omega (arith, m .end, m .rooms)) ∙ sym (admit-fit s (args .memory) t (c .before .before .before .before .before .before .before .before .before .before .before .before .before .if1 .left) (c .before .before .before .before .before .before .before .before .before .before .before .before .if2 .left) u)
 
 pub admit-spec : {M : Type 1} → statement M
 admit-spec =

@@ -26,29 +26,38 @@ admit-requires c κs = search needs
 
 returns : tie.Need-returns
 returns c =
-    let s = c .before .before .before .before .before .args .self in
-    let m = c .before .before .before .before .before .args .memory .now in
-    let t = c .before .before .before .before .before .args .tail .now in
+    let args = c .before .before .before .before .before .args in
+    let s = args .self in
+    let m = args .memory .now in
+    let t = args .tail .now in
     sym (begin-refused s m t (c .before .before .admit .result .number) (shared-stops s (length m) t (beginChecks (s .count) (s .lastid .0) (roomUsed s t)) _ (c .before .before .admit .ensures) (c .if1 .taken)) (c .if1 .taken))
 
-admission-of : (c : tie.Else1) → Admitted (c .before .before .before .before .before .args .self) (length (c .before .before .before .before .before .args .memory .now)) (c .before .before .before .before .before .args .tail .now) (c .before .before .admit .result)
-admission-of c = admitted (c .before .before .before .before .before .args .self) (length (c .before .before .before .before .before .args .memory .now)) (c .before .before .before .before .before .args .tail .now) (c .before .before .admit .result) (c .before .before .admit .ensures) (c .if1 .left)
+admission-of : (c : tie.Else1) → let args = c .before .before .before .before .before .args in
+    Admitted (args .self) (length (args .memory .now)) (args .tail .now) (c .before .before .admit .result)
+admission-of c =
+    let args = c .before .before .before .before .before .args in
+    admitted (args .self) (length (args .memory .now)) (args .tail .now) (c .before .before .admit .result) (c .before .before .admit .ensures) (c .if1 .left)
 
 begin-number-requires : tie.Need-begin-number-requires
-begin-number-requires c κs = let x = admission-of (c) in omega (arith, x .room, x .fits .room)
+begin-number-requires c κs = let x = admission-of c in omega (arith, x .room, x .fits .room)
 
 -- the number is begin's own
-own : (c : tie.After-begin-number) → beginNumber (c .before .before .before .before .before .before .args .self) (c .before .before .before .before .before .before .args .memory .now) (c .before .before .before .before .before .before .args .tail .now) ≡ c .begin-number .result
+own : (c : tie.After-begin-number) → let args = c .before .before .before .before .before .before .args in
+    beginNumber (args .self) (args .memory .now) (args .tail .now) ≡ c .begin-number .result
 own c =
-    let s = c .before .before .before .before .before .before .args .self in
+    let args = c .before .before .before .before .before .before .args in
+    let s = args .self in
     let x = admission-of (c .before) in
-    shared-passes s (length (c .before .before .before .before .before .before .args .memory .now)) (c .before .before .before .before .before .before .args .tail .now) (beginChecks (s .count) (s .lastid .0) (roomUsed s (c .before .before .before .before .before .before .args .tail .now))) (x .passed)
+    shared-passes s (length (args .memory .now)) (args .tail .now) (beginChecks (s .count) (s .lastid .0) (roomUsed s (args .tail .now))) (x .passed)
     ∙ sym (c .begin-number .ensures ∙ ap (λ (r : ℕ). firstNumber (beginChecks (s .count) (s .lastid .0) r)) (x .room))
 
 returns-2 : tie.Need-returns-2
-returns-2 c = sym (begin-refused (c .before .before .before .before .before .before .before .args .self) (c .before .before .before .before .before .before .before .args .memory .now) (c .before .before .before .before .before .before .before .args .tail .now) (c .before .begin-number .result) (own (c .before)) (c .if2 .taken))
+returns-2 c =
+    let args = c .before .before .before .before .before .before .before .args in
+    sym (begin-refused (args .self) (args .memory .now) (args .tail .now) (c .before .begin-number .result) (own (c .before)) (c .if2 .taken))
 
-free : (c : tie.Else2) → (c .before .before .before .before .before .before .before .args .self .count < 8) × (c .before .before .before .before .before .before .before .args .self .lastid .0 < 65535)
+free : (c : tie.Else2) → let args = c .before .before .before .before .before .before .before .args in
+    (args .self .count < 8) × (args .self .lastid .0 < 65535)
 free c =
     let s = c .before .before .before .before .before .before .before .args .self in
     let x = admission-of (c .before .before) in
@@ -64,8 +73,9 @@ begin-step-requires c κs = free (c)
 returns-3 : tie.Need-returns-3
 unfolding begunState
 returns-3 c =
+    let args = c .before .before .before .before .before .before .before .before .before .args in
     ap (λ (u : State). record { answer = answer done; id = u .lastid; state = u }) (c .before .begin-step .ensures)
-    ∙ sym (begin-done (c .before .before .before .before .before .before .before .before .before .args .self) (c .before .before .before .before .before .before .before .before .before .args .memory .now) (c .before .before .before .before .before .before .before .before .before .args .tail .now) (own (c .before .before .before) ∙ c .before .before .if2 .left))
+    ∙ sym (begin-done (args .self) (args .memory .now) (args .tail .now) (own (c .before .before .before) ∙ c .before .before .if2 .left))
 
 pub begin-spec : {M : Type 1} → statement M
 begin-spec =

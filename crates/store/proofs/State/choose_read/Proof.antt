@@ -17,7 +17,9 @@ choose-running-requires : tie.Need-choose-running-requires
 choose-running-requires c κs = search needs
 
 returns : tie.Need-returns
-returns c = choice-stops _ (abortChecks (c .before .before .before .args .self) (c .before .before .before .args .id .0)) (check8 (c .before .before .before .args .addr) (c .before .before .before .args .len) ∷ check9 (c .before .before .before .args .self) (c .before .before .before .args .id .0) (c .before .before .before .args .addr) (c .before .before .before .args .len) ∷ []) _ (omega arith, (omega arith, Prim.tt)) (c .before .before .choose-running .ensures) (c .if1 .taken)
+returns c =
+    let args = c .before .before .before .args in
+    choice-stops _ (abortChecks (args .self) (args .id .0)) (check8 (args .addr) (args .len) ∷ check9 (args .self) (args .id .0) (args .addr) (args .len) ∷ []) _ (omega arith, (omega arith, Prim.tt)) (c .before .before .choose-running .ensures) (c .if1 .taken)
 
 in-range-requires : tie.Need-in-range-requires
 in-range-requires c κs = search needs
@@ -27,15 +29,17 @@ refuse-requires c κs = search needs
 
 returns-2 : tie.Need-returns-2
 returns-2 c =
-    let s = c .before .before .before .before .before .before .args .self in
-    let id = c .before .before .before .before .before .before .args .id .0 in
-    let more = check9 s id (c .before .before .before .before .before .before .args .addr) (c .before .before .before .before .before .before .args .len) ∷ [] in
-    choice-refuses _ _ (abortChecks s id) (check8 (c .before .before .before .before .before .before .args .addr) (c .before .before .before .before .before .before .args .len) ∷ more) _ 8 (omega arith, (omega arith, Prim.tt)) (c .before .before .before .before .before .choose-running .ensures) (c .before .before .before .if1 .left)
-    (refused-8 (c .before .before .before .before .before .before .args .addr) (c .before .before .before .before .before .before .args .len) more (sym (c .before .before .in-range .ensures) ∙ not-true _ (c .before .if2 .taken))) (λ e. omega (arith, e)) (c .refuse .ensures)
+    let args = c .before .before .before .before .before .before .args in
+    let s = args .self in
+    let id = args .id .0 in
+    let more = check9 s id (args .addr) (args .len) ∷ [] in
+    choice-refuses _ _ (abortChecks s id) (check8 (args .addr) (args .len) ∷ more) _ 8 (omega arith, (omega arith, Prim.tt)) (c .before .before .before .before .before .choose-running .ensures) (c .before .before .before .if1 .left)
+    (refused-8 (args .addr) (args .len) more (sym (c .before .before .in-range .ensures) ∙ not-true _ (c .before .if2 .taken))) (λ e. omega (arith, e)) (c .refuse .ensures)
 
 held-requires : tie.Need-held-requires
 held-requires c κs =
-    let g = in-range (c .before .before .before .before .before .args .addr) (c .before .before .before .before .before .args .len) (sym (c .before .in-range .ensures) ∙ not-false _ (c .if2 .left)) in
+    let args = c .before .before .before .before .before .args in
+    let g = in-range (args .addr) (args .len) (sym (c .before .in-range .ensures) ∙ not-false _ (c .if2 .left)) in
     (c .before .before .before .before .before .pre, omega (arith, g .2), g .1)
 
 refuse-requires-2 : tie.Need-refuse-requires-2
@@ -43,21 +47,23 @@ refuse-requires-2 c κs = search needs
 
 returns-3 : tie.Need-returns-3
 returns-3 c =
-    let s = c .before .before .before .before .before .before .before .before .args .self in
-    let id = c .before .before .before .before .before .before .before .before .args .id .0 in
-    let more = check9 s id (c .before .before .before .before .before .before .before .before .args .addr) (c .before .before .before .before .before .before .before .before .args .len) ∷ [] in
-    let held : any (heldAgainst id (c .before .before .before .before .before .before .before .before .args .addr) (c .before .before .before .before .before .before .before .before .args .len)) (txsOf s) ≡ true = sym (c .before .before .held .ensures) ∙ c .before .if3 .taken in
-    choice-refuses _ _ (abortChecks s id) (check8 (c .before .before .before .before .before .before .before .before .args .addr) (c .before .before .before .before .before .before .before .before .args .len) ∷ more) _ 9 (omega arith, (omega arith, Prim.tt)) (c .before .before .before .before .before .before .before .choose-running .ensures) (c .before .before .before .before .before .if1 .left)
-    (passes-8 (c .before .before .before .before .before .before .before .before .args .addr) (c .before .before .before .before .before .before .before .before .args .len) more (sym (c .before .before .before .before .in-range .ensures) ∙ not-false _ (c .before .before .before .if2 .left)) ∙ rw held) (λ e. omega (arith, e)) (c .refuse2 .ensures)
+    let args = c .before .before .before .before .before .before .before .before .args in
+    let s = args .self in
+    let id = args .id .0 in
+    let more = check9 s id (args .addr) (args .len) ∷ [] in
+    let held : any (heldAgainst id (args .addr) (args .len)) (txsOf s) ≡ true = sym (c .before .before .held .ensures) ∙ c .before .if3 .taken in
+    choice-refuses _ _ (abortChecks s id) (check8 (args .addr) (args .len) ∷ more) _ 9 (omega arith, (omega arith, Prim.tt)) (c .before .before .before .before .before .before .before .choose-running .ensures) (c .before .before .before .before .before .if1 .left)
+    (passes-8 (args .addr) (args .len) more (sym (c .before .before .before .before .in-range .ensures) ∙ not-false _ (c .before .before .before .if2 .left)) ∙ rw held) (λ e. omega (arith, e)) (c .refuse2 .ensures)
 
 returns-4 : tie.Need-returns-4
 returns-4 c =
-    let s = c .before .before .before .before .before .before .before .args .self in
-    let id = c .before .before .before .before .before .before .before .args .id .0 in
-    let more = check9 s id (c .before .before .before .before .before .before .before .args .addr) (c .before .before .before .before .before .before .before .args .len) ∷ [] in
-    let held : any (heldAgainst id (c .before .before .before .before .before .before .before .args .addr) (c .before .before .before .before .before .before .before .args .len)) (txsOf s) ≡ false = sym (c .before .held .ensures) ∙ c .if3 .left in
-    choice-goes _ (abortChecks s id) (check8 (c .before .before .before .before .before .before .before .args .addr) (c .before .before .before .before .before .before .before .args .len) ∷ more) _ (omega arith, (omega arith, Prim.tt)) (c .before .before .before .before .before .before .choose-running .ensures) (c .before .before .before .before .if1 .left)
-    (passes-8 (c .before .before .before .before .before .before .before .args .addr) (c .before .before .before .before .before .before .before .args .len) more (sym (c .before .before .before .in-range .ensures) ∙ not-false _ (c .before .before .if2 .left)) ∙ rw held)
+    let args = c .before .before .before .before .before .before .before .args in
+    let s = args .self in
+    let id = args .id .0 in
+    let more = check9 s id (args .addr) (args .len) ∷ [] in
+    let held : any (heldAgainst id (args .addr) (args .len)) (txsOf s) ≡ false = sym (c .before .held .ensures) ∙ c .if3 .left in
+    choice-goes _ (abortChecks s id) (check8 (args .addr) (args .len) ∷ more) _ (omega arith, (omega arith, Prim.tt)) (c .before .before .before .before .before .before .choose-running .ensures) (c .before .before .before .before .if1 .left)
+    (passes-8 (args .addr) (args .len) more (sym (c .before .before .before .in-range .ensures) ∙ not-false _ (c .before .before .if2 .left)) ∙ rw held)
 
 pub choose-read-spec : {M : Type 1} → statement M
 choose-read-spec =

@@ -21,23 +21,29 @@ refuse-requires c κs = search needs
 
 returns : tie.Need-returns
 returns c =
-    let s = c .before .before .before .args .t1 in
-    let id = c .before .before .before .args .id .0 in
+    let args = c .before .before .before .args in
+    let s = args .t1 in
+    let id = args .id .0 in
     c .refuse .ensures ∙ sym (choice-some (abortChecks s id) (slotOf s id) 6 (refused-6 s id (c .before .before .find .result) (c .before .before .find .ensures) (check7 s id ∷ []) (c .before .if1 .taken)) (λ e. omega (arith, e)))
 
 mul-if2 : tie.Need-mul-if2
-mul-if2 c = let h = image-count (c .before .before .args .t1) (c .before .before .pre) in let l = in-list (c .before .before .args .t1) (c .before .before .args .id .0) (c .before .find .result) (c .before .find .ensures) (c .if1 .left) in omega arith
+mul-if2 c =
+    let args = c .before .before .args in
+    let h = image-count (args .t1) (c .before .before .pre) in let l = in-list (args .t1) (args .id .0) (c .before .find .result) (c .before .find .ensures) (c .if1 .left) in omega arith
 
 element-copy-out-if2 : tie.Need-element-copy-out-if2
-element-copy-out-if2 c = let h = image-count (c .before .before .args .t1) (c .before .before .pre) in let l = in-list (c .before .before .args .t1) (c .before .before .args .id .0) (c .before .find .result) (c .before .find .ensures) (c .if1 .left) in omega arith
+element-copy-out-if2 c =
+    let args = c .before .before .args in
+    let h = image-count (args .t1) (c .before .before .pre) in let l = in-list (args .t1) (args .id .0) (c .before .find .result) (c .before .find .ensures) (c .if1 .left) in omega arith
 
 refuse-requires-2 : tie.Need-refuse-requires-2
 refuse-requires-2 c κs = search needs
 
 returns-2 : tie.Need-returns-2
 returns-2 c =
-    let s = c .before .before .before .before .args .t1 in
-    let id = c .before .before .before .before .args .id .0 in
+    let args = c .before .before .before .before .args in
+    let s = args .t1 in
+    let id = args .id .0 in
     c .refuse2 .ensures
     ∙ sym
     (choice-some (abortChecks s id) (slotOf s id) 7
@@ -46,8 +52,9 @@ returns-2 c =
 
 returns-3 : tie.Need-returns-3
 returns-3 c =
-    let s = c .before .before .before .args .t1 in
-    let id = c .before .before .before .args .id .0 in
+    let args = c .before .before .before .args in
+    let s = args .t1 in
+    let id = args .id .0 in
     ap (λ (k : ℕ). record { number = 0; slot = k }) (c .before .before .find .ensures)
     ∙ sym
     (choice-none (abortChecks s id) (slotOf s id)

@@ -43,10 +43,11 @@ loop-again c = (omega arith, c .before .before .before .loop .inv .1 ∙ slot-mi
 
 returns-2 : tie.Need-returns-2 Inv-loop μ-loop
 returns-2 c =
-    let s = c .before .before .args .t1 in
+    let args = c .before .before .args in
+    let s = args .t1 in
     let i = c .before .loop .i in
     let e : s .count ≡ i = omega (arith, c .loop-test .left, c .before .loop .inv .0) in
-    e ∙ sym (c .before .loop .inv .1 ∙ ap (slotIn (c .before .before .args .id .0) i) (up-done (txAt s) (s .count) i (c .loop-test .left)))
+    e ∙ sym (c .before .loop .inv .1 ∙ ap (slotIn (args .id .0) i) (up-done (txAt s) (s .count) i (c .loop-test .left)))
 
 pub find-spec : {M : Type 1} → statement M
 find-spec =

@@ -33,7 +33,9 @@ element-copy-out-t : tie.Need-element-copy-out-t Inv-loop μ-loop
 element-copy-out-t c = let h = image-count (c .before .before .args .t1) (c .before .before .pre .0) in omega arith
 
 holds-against-requires : tie.Need-holds-against-requires Inv-loop μ-loop
-holds-against-requires c κs = (counted (txAt (c .before .before .before .args .t1) (c .before .before .loop .i) .undo) (undo-at (c .before .before .before .args .t1) (c .before .before .before .pre .0) (c .before .before .loop .i) (c .before .loop-test .taken)), c .before .before .before .pre .1, c .before .before .before .pre .2)
+holds-against-requires c κs =
+    let args = c .before .before .before .args in
+    (counted (txAt (args .t1) (c .before .before .loop .i) .undo) (undo-at (args .t1) (c .before .before .before .pre .0) (c .before .before .loop .i) (c .before .loop-test .taken)), c .before .before .before .pre .1, c .before .before .before .pre .2)
 
 returns : tie.Need-returns Inv-loop μ-loop
 returns c = sym (c .before .before .before .before .loop .inv .1 ∙ any-hit (txAt (c .before .before .before .before .before .args .t1)) _ _ (c .before .before .before .loop-test .taken) (heldAgainst _ _ _) (sym (c .before .holds-against .ensures) ∙ c .if1 .taken))
@@ -49,8 +51,9 @@ loop-again c = (omega arith, c .before .before .before .before .loop .inv .1 ∙
 
 returns-2 : tie.Need-returns-2 Inv-loop μ-loop
 returns-2 c =
-    let s = c .before .before .args .t1 in
-    sym (c .before .loop .inv .1 ∙ ap (any (heldAgainst (c .before .before .args .id .0) (c .before .before .args .addr) (c .before .before .args .len))) (up-done (txAt s) (s .count) (c .before .loop .i) (c .loop-test .left)))
+    let args = c .before .before .args in
+    let s = args .t1 in
+    sym (c .before .loop .inv .1 ∙ ap (any (heldAgainst (args .id .0) (args .addr) (args .len))) (up-done (txAt s) (s .count) (c .before .loop .i) (c .loop-test .left)))
 
 pub held-spec : {M : Type 1} → statement M
 held-spec =

@@ -58,8 +58,11 @@ returns c =
     (c .before .before .before .before .loop .inv .2 ∙ every-bad (outlineAt s) _ _ (c .before .before .before .loop-test .taken) (outlineOk (s .lastid .0) (s .assigned .0)) (sym (c .before .image-ok .ensures) ∙ not-true _ (c .if1 .taken))))
 
 -- in a turn: what the rules that were tested say of the transaction at hand
-undo : (c : tie.After-t Inv-loop μ-loop) → outlineOk (c .before .before .before .before .before .before .args .t1 .lastid .0) (c .before .before .before .before .before .before .args .t1 .assigned .0) (outlineAt (c .before .before .before .before .before .before .args .t1) (c .before .before .loop .i)) ≡ true → recordsOk (rangesOf (txAt (c .before .before .before .before .before .before .args .t1) (c .before .before .loop .i) .undo)) ≡ true
-undo c e = let t = txAt (c .before .before .before .before .before .before .args .t1) (c .before .before .loop .i) in and-right (headOk (c .before .before .before .before .before .before .args .t1 .lastid .0) (c .before .before .before .before .before .before .args .t1 .assigned .0) (t .id .0) (t .status) (t .csn .0)) _ e
+undo : (c : tie.After-t Inv-loop μ-loop) → let args = c .before .before .before .before .before .before .args in
+    outlineOk (args .t1 .lastid .0) (args .t1 .assigned .0) (outlineAt (args .t1) (c .before .before .loop .i)) ≡ true → recordsOk (rangesOf (txAt (args .t1) (c .before .before .loop .i) .undo)) ≡ true
+undo c e =
+    let args = c .before .before .before .before .before .before .args in
+    let t = txAt (args .t1) (c .before .before .loop .i) in and-right (headOk (args .t1 .lastid .0) (args .t1 .assigned .0) (t .id .0) (t .status) (t .csn .0)) _ e
 
 redo-ok-requires : tie.Need-redo-ok-requires Inv-loop μ-loop
 redo-ok-requires c κs = counted (txAt (c .before .before .before .before .before .before .before .before .args .t1) (c .before .before .before .before .loop .i) .undo) (undo (c .before .before) (sym (c .before .image-ok .ensures) ∙ not-false _ (c .if1 .left)))

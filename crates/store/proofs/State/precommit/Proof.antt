@@ -36,50 +36,67 @@ same-length c = search needs
 
 returns : tie.Need-returns
 returns c =
-    let s = c .before .before .before .before .before .before .args .self in
-    let m = c .before .before .before .before .before .before .args .memory .now in
-    let t = c .before .before .before .before .before .before .args .tail .now in
-    let o = precommit-refused s m t (c .before .before .before .before .before .before .args .id) (c .before .before .admit .result .number) (shared-stops s (length m) t (precommitChecks s (c .before .before .before .before .before .before .args .id .0)) _ (c .before .before .admit .ensures) (c .if1 .taken)) (c .if1 .taken) in
+    let args = c .before .before .before .before .before .before .args in
+    let s = args .self in
+    let m = args .memory .now in
+    let t = args .tail .now in
+    let o = precommit-refused s m t (args .id) (c .before .before .admit .result .number) (shared-stops s (length m) t (precommitChecks s (args .id .0)) _ (c .before .before .admit .ensures) (c .if1 .taken)) (c .if1 .taken) in
     (ap (λ (x : Outcome Precommitted). x .result) (sym o), ap (λ (x : Outcome Precommitted). x .tail) (sym o))
 
-admission-of : (c : tie.Else1) → Admitted (c .before .before .before .before .before .before .args .self) (length (c .before .before .before .before .before .before .args .memory .now)) (c .before .before .before .before .before .before .args .tail .now) (c .before .before .admit .result)
-admission-of c = admitted (c .before .before .before .before .before .before .args .self) (length (c .before .before .before .before .before .before .args .memory .now)) (c .before .before .before .before .before .before .args .tail .now) (c .before .before .admit .result) (c .before .before .admit .ensures) (c .if1 .left)
+admission-of : (c : tie.Else1) → let args = c .before .before .before .before .before .before .args in
+    Admitted (args .self) (length (args .memory .now)) (args .tail .now) (c .before .before .admit .result)
+admission-of c =
+    let args = c .before .before .before .before .before .before .args in
+    admitted (args .self) (length (args .memory .now)) (args .tail .now) (c .before .before .admit .result) (c .before .before .admit .ensures) (c .if1 .left)
 
 choose-precommit-requires : tie.Need-choose-precommit-requires
-choose-precommit-requires c κs = admission-of (c) .fits .image
+choose-precommit-requires c κs = admission-of c .fits .image
 
 same-length-2 : tie.Need-same-length-2
 same-length-2 c = search needs
 
 -- the number is precommit's own
-own : (c : tie.After-choose-precommit) → precommitNumber (c .before .before .before .before .before .before .before .args .self) (c .before .before .before .before .before .before .before .args .memory .now) (c .before .before .before .before .before .before .before .args .tail .now) (c .before .before .before .before .before .before .before .args .id) ≡ c .choose-precommit .result .number
+own : (c : tie.After-choose-precommit) → let args = c .before .before .before .before .before .before .before .args in
+    precommitNumber (args .self) (args .memory .now) (args .tail .now) (args .id) ≡ c .choose-precommit .result .number
 own c =
-    let s = c .before .before .before .before .before .before .before .args .self in
-    shared-passes s (length (c .before .before .before .before .before .before .before .args .memory .now)) (c .before .before .before .before .before .before .before .args .tail .now) (precommitChecks s (c .before .before .before .before .before .before .before .args .id .0)) (admission-of (c .before) .passed) ∙ sym (ap (λ (y : Choice). y .number) (c .choose-precommit .ensures))
+    let args = c .before .before .before .before .before .before .before .args in
+    let s = args .self in
+    shared-passes s (length (args .memory .now)) (args .tail .now) (precommitChecks s (args .id .0)) (admission-of (c .before) .passed) ∙ sym (ap (λ (y : Choice). y .number) (c .choose-precommit .ensures))
 
 returns-2 : tie.Need-returns-2
 returns-2 c =
-    let o = precommit-refused (c .before .before .before .before .before .before .before .before .before .args .self) (c .before .before .before .before .before .before .before .before .before .args .memory .now) (c .before .before .before .before .before .before .before .before .before .args .tail .now) (c .before .before .before .before .before .before .before .before .before .args .id) (c .before .before .choose-precommit .result .number) (own (c .before .before)) (c .if2 .taken) in
+    let args = c .before .before .before .before .before .before .before .before .before .args in
+    let o = precommit-refused (args .self) (args .memory .now) (args .tail .now) (args .id) (c .before .before .choose-precommit .result .number) (own (c .before .before)) (c .if2 .taken) in
     (ap (λ (x : Outcome Precommitted). x .result) (sym o), ap (λ (x : Outcome Precommitted). x .tail) (sym o))
 
-chosen : (c : tie.Else2) → c .before .before .choose-precommit .result .slot ≡ slotOf (c .before .before .before .before .before .before .before .before .before .args .self) (c .before .before .before .before .before .before .before .before .before .args .id .0)
-chosen c = ap (λ (y : Choice). y .slot) (choice-slot _ (precommitChecks (c .before .before .before .before .before .before .before .before .before .args .self) (c .before .before .before .before .before .before .before .before .before .args .id .0)) _ (c .before .before .choose-precommit .ensures) (c .if2 .left))
+chosen : (c : tie.Else2) → let args = c .before .before .before .before .before .before .before .before .before .args in
+    c .before .before .choose-precommit .result .slot ≡ slotOf (args .self) (args .id .0)
+chosen c =
+    let args = c .before .before .before .before .before .before .before .before .before .args in
+    ap (λ (y : Choice). y .slot) (choice-slot _ (precommitChecks (args .self) (args .id .0)) _ (c .before .before .choose-precommit .ensures) (c .if2 .left))
 
-passing : (c : tie.Else2) → Running (c .before .before .before .before .before .before .before .before .before .args .self) (c .before .before .before .before .before .before .before .before .before .args .id .0) × (firstNumber (check 12 (eqb (c .before .before .before .before .before .before .before .before .before .args .self .assigned .0) 4294967295) ∷ []) ≡ 0)
+passing : (c : tie.Else2) → let args = c .before .before .before .before .before .before .before .before .before .args in
+    Running (args .self) (args .id .0) × (firstNumber (check 12 (eqb (args .self .assigned .0) 4294967295) ∷ []) ≡ 0)
 passing c =
-    running (c .before .before .before .before .before .before .before .before .before .args .self) (c .before .before .before .before .before .before .before .before .before .args .id .0) (check 12 (eqb (c .before .before .before .before .before .before .before .before .before .args .self .assigned .0) 4294967295) ∷ []) (sym (ap (λ (y : Choice). y .number) (c .before .before .choose-precommit .ensures)) ∙ c .if2 .left)
+    let args = c .before .before .before .before .before .before .before .before .before .args in
+    running (args .self) (args .id .0) (check 12 (eqb (args .self .assigned .0) 4294967295) ∷ []) (sym (ap (λ (y : Choice). y .number) (c .before .before .choose-precommit .ensures)) ∙ c .if2 .left)
 
-going : (c : tie.Else2) → Running (c .before .before .before .before .before .before .before .before .before .args .self) (c .before .before .before .before .before .before .before .before .before .args .id .0)
+going : (c : tie.Else2) → let args = c .before .before .before .before .before .before .before .before .before .args in
+    Running (args .self) (args .id .0)
 going c = passing c .0
 
 unspent : (c : tie.Else2) → c .before .before .before .before .before .before .before .before .before .args .self .assigned .0 < 4294967295
 unspent c =
-    let w : Fits w32 (c .before .before .before .before .before .before .before .before .before .args .self .assigned .0) = search needs in
-    let p = passed 12 (eqb (c .before .before .before .before .before .before .before .before .before .args .self .assigned .0) 4294967295) [] (omega arith) (passing c .1) in
-    omega (arith, w, eqb-false (c .before .before .before .before .before .before .before .before .before .args .self .assigned .0) 4294967295 (p .0))
+    let args = c .before .before .before .before .before .before .before .before .before .args in
+    let w : Fits w32 (args .self .assigned .0) = search needs in
+    let p = passed 12 (eqb (args .self .assigned .0) 4294967295) [] (omega arith) (passing c .1) in
+    omega (arith, w, eqb-false (args .self .assigned .0) 4294967295 (p .0))
 
-ready : (c : tie.Else2) → Usable (c .before .before .before .before .before .before .before .before .before .args .self) (c .before .before .before .before .before .before .before .before .before .args .tail .now) (c .before .before .choose-precommit .result .slot)
-ready c = subst (λ (k : ℕ). Usable (c .before .before .before .before .before .before .before .before .before .args .self) (c .before .before .before .before .before .before .before .before .before .args .tail .now) k) (sym (chosen c)) (usable (c .before .before .before .before .before .before .before .before .before .args .self) (c .before .before .before .before .before .before .before .before .before .args .tail .now) (c .before .before .before .before .before .before .before .before .before .args .id .0) (admission-of (c .before .before .before) .fits) (going c))
+ready : (c : tie.Else2) → let args = c .before .before .before .before .before .before .before .before .before .args in
+    Usable (args .self) (args .tail .now) (c .before .before .choose-precommit .result .slot)
+ready c =
+    let args = c .before .before .before .before .before .before .before .before .before .args in
+    subst (λ (k : ℕ). Usable (args .self) (args .tail .now) k) (sym (chosen c)) (usable (args .self) (args .tail .now) (args .id .0) (admission-of (c .before .before .before) .fits) (going c))
 
 precommit-step-requires : tie.Need-precommit-step-requires
 precommit-step-requires c κs =
@@ -93,17 +110,18 @@ same-length-3 c = search needs
 returns-3 : tie.Need-returns-3
 unfolding precommittedState
 returns-3 c =
-    let s = c .before .before .before .before .before .before .before .before .before .before .before .before .before .before .args .self in
-    let m = c .before .before .before .before .before .before .before .before .before .before .before .before .before .before .args .memory .now in
-    let t = c .before .before .before .before .before .before .before .before .before .before .before .before .before .before .args .tail .now in
+    let args = c .before .before .before .before .before .before .before .before .before .before .before .before .before .before .args in
+    let s = args .self in
+    let m = args .memory .now in
+    let t = args .tail .now in
     let k = chosen (c .before .before .before .before .before) in
     let x = admission-of (c .before .before .before .before .before .before .before .before) in
     let csn = s .assigned .0 + 1 in
-    let o = precommit-done s m t (c .before .before .before .before .before .before .before .before .before .before .before .before .before .before .args .id) (own (c .before .before .before .before .before .before .before) ∙ c .before .before .before .before .before .if2 .left) in
+    let o = precommit-done s m t (args .id) (own (c .before .before .before .before .before .before .before) ∙ c .before .before .before .before .before .if2 .left) in
     let e : encodeGroup (committed (txAt s (c .before .before .before .before .before .before .before .choose-precommit .result .slot) .id .0) csn (writesOf (txAt s (c .before .before .before .before .before .before .before .choose-precommit .result .slot) .redo)))
-    ≡ encodeGroup (committed (c .before .before .before .before .before .before .before .before .before .before .before .before .before .before .args .id .0) csn (writesOf (txOf s (c .before .before .before .before .before .before .before .before .before .before .before .before .before .before .args .id .0) .redo))) =
+    ≡ encodeGroup (committed (args .id .0) csn (writesOf (txOf s (args .id .0) .redo))) =
     ap (λ (j : ℕ). encodeGroup (committed (txAt s j .id .0) csn (writesOf (txAt s j .redo)))) k
-    ∙ ap (λ (i : ℕ). encodeGroup (committed i csn (writesOf (txOf s (c .before .before .before .before .before .before .before .before .before .before .before .before .before .before .args .id .0) .redo)))) (going (c .before .before .before .before .before) .named) in (
+    ∙ ap (λ (i : ℕ). encodeGroup (committed i csn (writesOf (txOf s (args .id .0) .redo)))) (going (c .before .before .before .before .before) .named) in (
       ap (λ (u : State). record { answer = answer done; csn = u .assigned; state = u }) (c .before .before .before .precommit-step .ensures .0 ∙ ap (precommittedState s) k)
           ∙ ap (λ (x : Outcome Precommitted). x .result) (sym o),
       c .before .before .before .precommit-step .ensures .1 ∙ ap₂ (λ (i : ℕ) (bs : List ℕ). sets t i bs) (x .end) e ∙ ap (λ (x : Outcome Precommitted). x .tail) (sym o),

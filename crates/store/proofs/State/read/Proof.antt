@@ -27,16 +27,20 @@ part-result-end c = search needs
 
 returns : tie.Need-returns
 returns c =
-    let s = c .before .before .before .before .before .before .args .self in
-    let m = c .before .before .before .before .before .before .args .memory .now in
-    let t = c .before .before .before .before .before .before .args .tail .now in
-    sym (read-refused s m t (c .before .before .before .before .before .before .args .id) (c .before .before .before .before .before .before .args .addr) (c .before .before .before .before .before .before .args .len) (c .before .before .before .admit .result .number) (shared-stops s (length m) t (readChecks s (c .before .before .before .before .before .before .args .id .0) (c .before .before .before .before .before .before .args .addr) (c .before .before .before .before .before .before .args .len)) _ (c .before .before .before .admit .ensures) (c .before .if1 .taken)) (c .before .if1 .taken))
+    let args = c .before .before .before .before .before .before .args in
+    let s = args .self in
+    let m = args .memory .now in
+    let t = args .tail .now in
+    sym (read-refused s m t (args .id) (args .addr) (args .len) (c .before .before .before .admit .result .number) (shared-stops s (length m) t (readChecks s (args .id .0) (args .addr) (args .len)) _ (c .before .before .before .admit .ensures) (c .before .if1 .taken)) (c .before .if1 .taken))
 
-admission-of : (c : tie.Else1) → Admitted (c .before .before .before .before .before .args .self) (length (c .before .before .before .before .before .args .memory .now)) (c .before .before .before .before .before .args .tail .now) (c .before .before .admit .result)
-admission-of c = admitted (c .before .before .before .before .before .args .self) (length (c .before .before .before .before .before .args .memory .now)) (c .before .before .before .before .before .args .tail .now) (c .before .before .admit .result) (c .before .before .admit .ensures) (c .if1 .left)
+admission-of : (c : tie.Else1) → let args = c .before .before .before .before .before .args in
+    Admitted (args .self) (length (args .memory .now)) (args .tail .now) (c .before .before .admit .result)
+admission-of c =
+    let args = c .before .before .before .before .before .args in
+    admitted (args .self) (length (args .memory .now)) (args .tail .now) (c .before .before .admit .result) (c .before .before .admit .ensures) (c .if1 .left)
 
 choose-read-requires : tie.Need-choose-read-requires
-choose-read-requires c κs = admission-of (c) .fits .image
+choose-read-requires c κs = admission-of c .fits .image
 
 sub-result-2 : tie.Need-sub-result-2
 sub-result-2 c = search needs
@@ -48,23 +52,29 @@ part-result-end-2 : tie.Need-part-result-end-2
 part-result-end-2 c = search needs
 
 -- the number is read's own
-own : (c : tie.After-choose-read) → readNumber (c .before .before .before .before .before .before .args .self) (c .before .before .before .before .before .before .args .memory .now) (c .before .before .before .before .before .before .args .tail .now) (c .before .before .before .before .before .before .args .id) (c .before .before .before .before .before .before .args .addr) (c .before .before .before .before .before .before .args .len) ≡ c .choose-read .result .number
+own : (c : tie.After-choose-read) → let args = c .before .before .before .before .before .before .args in
+    readNumber (args .self) (args .memory .now) (args .tail .now) (args .id) (args .addr) (args .len) ≡ c .choose-read .result .number
 own c =
-    let s = c .before .before .before .before .before .before .args .self in
+    let args = c .before .before .before .before .before .before .args in
+    let s = args .self in
     let x = admission-of (c .before) in
-    shared-passes s (length (c .before .before .before .before .before .before .args .memory .now)) (c .before .before .before .before .before .before .args .tail .now) (readChecks s (c .before .before .before .before .before .before .args .id .0) (c .before .before .before .before .before .before .args .addr) (c .before .before .before .before .before .before .args .len)) (x .passed) ∙ sym (ap (λ (y : Choice). y .number) (c .choose-read .ensures))
+    shared-passes s (length (args .memory .now)) (args .tail .now) (readChecks s (args .id .0) (args .addr) (args .len)) (x .passed) ∙ sym (ap (λ (y : Choice). y .number) (c .choose-read .ensures))
 
 returns-2 : tie.Need-returns-2
-returns-2 c = sym (read-refused (c .before .before .before .before .before .before .before .before .before .args .self) (c .before .before .before .before .before .before .before .before .before .args .memory .now) (c .before .before .before .before .before .before .before .before .before .args .tail .now) (c .before .before .before .before .before .before .before .before .before .args .id) (c .before .before .before .before .before .before .before .before .before .args .addr) (c .before .before .before .before .before .before .before .before .before .args .len) (c .before .before .before .choose-read .result .number) (own (c .before .before .before)) (c .before .if2 .taken))
+returns-2 c =
+    let args = c .before .before .before .before .before .before .before .before .before .args in
+    sym (read-refused (args .self) (args .memory .now) (args .tail .now) (args .id) (args .addr) (args .len) (c .before .before .before .choose-read .result .number) (own (c .before .before .before)) (c .before .if2 .taken))
 
 -- the range lies within memory
-ranged : (c : tie.Else2) → c .before .before .before .before .before .before .before .before .args .addr + c .before .before .before .before .before .before .before .before .args .len ≤ 4096
+ranged : (c : tie.Else2) → let args = c .before .before .before .before .before .before .before .before .args in
+    args .addr + args .len ≤ 4096
 ranged c =
-    let s = c .before .before .before .before .before .before .before .before .args .self in
-    let id = c .before .before .before .before .before .before .before .before .args .id .0 in
+    let args = c .before .before .before .before .before .before .before .before .args in
+    let s = args .self in
+    let id = args .id .0 in
     let z = sym (ap (λ (y : Choice). y .number) (c .before .before .choose-read .ensures)) ∙ c .if2 .left in
-    let last = check9 s id (c .before .before .before .before .before .before .before .before .args .addr) (c .before .before .before .before .before .before .before .before .args .len) ∷ [] in
-    ranged-by-8 (c .before .before .before .before .before .before .before .before .args .addr) (c .before .before .before .before .before .before .before .before .args .len) last (running s id (check8 (c .before .before .before .before .before .before .before .before .args .addr) (c .before .before .before .before .before .before .before .before .args .len) ∷ last) z .1) .2
+    let last = check9 s id (args .addr) (args .len) ∷ [] in
+    ranged-by-8 (args .addr) (args .len) last (running s id (check8 (args .addr) (args .len) ∷ last) z .1) .2
 
 add-result : tie.Need-add-result
 add-result c = let h = ranged (c) in omega (arith, h)
@@ -80,11 +90,12 @@ part-result-end-3 c = let h = ranged (c) in let x = admission-of (c .before .bef
 
 returns-3 : tie.Need-returns-3
 returns-3 c =
-    let a = c .before .before .before .before .before .before .before .before .before .args .addr in
-    let n = c .before .before .before .before .before .before .before .before .before .args .len in
-    let m = c .before .before .before .before .before .before .before .before .before .args .memory .now in
+    let args = c .before .before .before .before .before .before .before .before .before .args in
+    let a = args .addr in
+    let n = args .len in
+    let m = args .memory .now in
     let e : a + n - a ≡ n = omega arith in
-    ap (λ (k : ℕ). take k (drop a m)) e ∙ sym (read-done (c .before .before .before .before .before .before .before .before .before .args .self) m (c .before .before .before .before .before .before .before .before .before .args .tail .now) (c .before .before .before .before .before .before .before .before .before .args .id) a n (own (c .before .before .before) ∙ c .before .if2 .left))
+    ap (λ (k : ℕ). take k (drop a m)) e ∙ sym (read-done (args .self) m (args .tail .now) (args .id) a n (own (c .before .before .before) ∙ c .before .if2 .left))
 
 pub read-spec : {M : Type 1} → statement M
 read-spec =

@@ -24,42 +24,55 @@ admit-requires c κs = search needs
 
 returns : tie.Need-returns
 returns c =
-    let s = c .before .before .before .before .before .args .self in
-    let m = c .before .before .before .before .before .args .memory .now in
-    let t = c .before .before .before .before .before .args .tail .now in
-    sym (settle-refused s m t (c .before .before .before .before .before .args .id) (c .before .before .admit .result .number) (shared-stops s (length m) t (settleChecks s (c .before .before .before .before .before .args .id .0)) _ (c .before .before .admit .ensures) (c .if1 .taken)) (c .if1 .taken))
+    let args = c .before .before .before .before .before .args in
+    let s = args .self in
+    let m = args .memory .now in
+    let t = args .tail .now in
+    sym (settle-refused s m t (args .id) (c .before .before .admit .result .number) (shared-stops s (length m) t (settleChecks s (args .id .0)) _ (c .before .before .admit .ensures) (c .if1 .taken)) (c .if1 .taken))
 
-admission-of : (c : tie.Else1) → Admitted (c .before .before .before .before .before .args .self) (length (c .before .before .before .before .before .args .memory .now)) (c .before .before .before .before .before .args .tail .now) (c .before .before .admit .result)
-admission-of c = admitted (c .before .before .before .before .before .args .self) (length (c .before .before .before .before .before .args .memory .now)) (c .before .before .before .before .before .args .tail .now) (c .before .before .admit .result) (c .before .before .admit .ensures) (c .if1 .left)
+admission-of : (c : tie.Else1) → let args = c .before .before .before .before .before .args in
+    Admitted (args .self) (length (args .memory .now)) (args .tail .now) (c .before .before .admit .result)
+admission-of c =
+    let args = c .before .before .before .before .before .args in
+    admitted (args .self) (length (args .memory .now)) (args .tail .now) (c .before .before .admit .result) (c .before .before .admit .ensures) (c .if1 .left)
 
 choose-settle-requires : tie.Need-choose-settle-requires
-choose-settle-requires c κs = admission-of (c) .fits .image
+choose-settle-requires c κs = admission-of c .fits .image
 
 -- the number is settle's own
-own : (c : tie.After-choose-settle) → settleNumber (c .before .before .before .before .before .before .args .self) (c .before .before .before .before .before .before .args .memory .now) (c .before .before .before .before .before .before .args .tail .now) (c .before .before .before .before .before .before .args .id) ≡ c .choose-settle .result .number
+own : (c : tie.After-choose-settle) → let args = c .before .before .before .before .before .before .args in
+    settleNumber (args .self) (args .memory .now) (args .tail .now) (args .id) ≡ c .choose-settle .result .number
 own c =
-    let s = c .before .before .before .before .before .before .args .self in
-    shared-passes s (length (c .before .before .before .before .before .before .args .memory .now)) (c .before .before .before .before .before .before .args .tail .now) (settleChecks s (c .before .before .before .before .before .before .args .id .0)) (admission-of (c .before) .passed) ∙ sym (ap (λ (y : Choice). y .number) (c .choose-settle .ensures))
+    let args = c .before .before .before .before .before .before .args in
+    let s = args .self in
+    shared-passes s (length (args .memory .now)) (args .tail .now) (settleChecks s (args .id .0)) (admission-of (c .before) .passed) ∙ sym (ap (λ (y : Choice). y .number) (c .choose-settle .ensures))
 
 returns-2 : tie.Need-returns-2
-returns-2 c = sym (settle-refused (c .before .before .before .before .before .before .before .before .args .self) (c .before .before .before .before .before .before .before .before .args .memory .now) (c .before .before .before .before .before .before .before .before .args .tail .now) (c .before .before .before .before .before .before .before .before .args .id) (c .before .before .choose-settle .result .number) (own (c .before .before)) (c .if2 .taken))
+returns-2 c =
+    let args = c .before .before .before .before .before .before .before .before .args in
+    sym (settle-refused (args .self) (args .memory .now) (args .tail .now) (args .id) (c .before .before .choose-settle .result .number) (own (c .before .before)) (c .if2 .taken))
 
-chosen : (c : tie.Else2) → c .before .before .choose-settle .result .slot ≡ slotOf (c .before .before .before .before .before .before .before .before .args .self) (c .before .before .before .before .before .before .before .before .args .id .0)
-chosen c = ap (λ (y : Choice). y .slot) (choice-slot _ (settleChecks (c .before .before .before .before .before .before .before .before .args .self) (c .before .before .before .before .before .before .before .before .args .id .0)) _ (c .before .before .choose-settle .ensures) (c .if2 .left))
+chosen : (c : tie.Else2) → let args = c .before .before .before .before .before .before .before .before .args in
+    c .before .before .choose-settle .result .slot ≡ slotOf (args .self) (args .id .0)
+chosen c =
+    let args = c .before .before .before .before .before .before .before .before .args in
+    ap (λ (y : Choice). y .slot) (choice-slot _ (settleChecks (args .self) (args .id .0)) _ (c .before .before .choose-settle .ensures) (c .if2 .left))
 
 drop-step-requires : tie.Need-drop-step-requires
 drop-step-requires c κs =
-    let s = c .before .before .before .before .before .before .before .before .args .self in
-    let id = c .before .before .before .before .before .before .before .before .args .id .0 in
+    let args = c .before .before .before .before .before .before .before .before .args in
+    let s = args .self in
+    let id = args .id .0 in
     let z = sym (ap (λ (y : Choice). y .number) (c .before .before .choose-settle .ensures)) ∙ c .if2 .left in
     let last = check 14 (eqb (txOf s id .status) 1 || ltb (s .ondisk .0) (txOf s id .csn .0)) ∷ [] in
     (omega (arith, chosen (c), listed-slot s id last z .0), image-count s (admission-of (c .before .before .before) .fits .image))
 
 returns-3 : tie.Need-returns-3
 returns-3 c =
-    let s = c .before .before .before .before .before .before .before .before .before .args .self in
+    let args = c .before .before .before .before .before .before .before .before .before .args in
+    let s = args .self in
     ap (λ (u : State). record { answer = answer done; state = u }) (c .drop-step .ensures ∙ ap (droppedState s) (chosen (c .before)))
-    ∙ sym (settle-done s (c .before .before .before .before .before .before .before .before .before .args .memory .now) (c .before .before .before .before .before .before .before .before .before .args .tail .now) (c .before .before .before .before .before .before .before .before .before .args .id) (own (c .before .before .before) ∙ c .before .if2 .left))
+    ∙ sym (settle-done s (args .memory .now) (args .tail .now) (args .id) (own (c .before .before .before) ∙ c .before .if2 .left))
 
 pub settle-spec : {M : Type 1} → statement M
 settle-spec =

@@ -50,12 +50,13 @@ same-length c = search needs
 returns : tie.Need-returns
 unfolding writtenState
 returns c =
-    let s = c .before .before .before .before .before .before .before .before .before .before .args .t1 in
-    let a = c .before .before .before .before .before .before .before .before .before .before .args .addr in
-    let bs = c .before .before .before .before .before .before .before .before .before .before .args .bytes .now in
+    let args = c .before .before .before .before .before .before .before .before .before .before .args in
+    let s = args .t1 in
+    let a = args .addr in
+    let bs = args .bytes .now in
     let e : a + length bs - a ≡ length bs = omega arith in (
-      ap (λ (u : Tx). withSlots s (set (s .txs) (c .before .before .before .before .before .before .before .before .before .before .args .slot) u))
-          (c .before .before .before .before .write .ensures ∙ ap (λ (k : ℕ). written (txAt s (c .before .before .before .before .before .before .before .before .before .before .args .slot)) a (take k (drop a (c .before .before .before .before .before .before .before .before .before .before .args .memory .now))) bs) e),
+      ap (λ (u : Tx). withSlots s (set (s .txs) (args .slot) u))
+          (c .before .before .before .before .write .ensures ∙ ap (λ (k : ℕ). written (txAt s (args .slot)) a (take k (drop a (args .memory .now))) bs) e),
       c .before .before .copy .ensures,
     )
 

@@ -48,7 +48,9 @@ loop-again : tie.Need-loop-again Inv-loop μ-loop
 loop-again c = (omega arith, c .before .before .before .before .before .loop .inv .1 ∙ any-miss (keyAt (c .before .before .before .before .before .before .args .t1)) _ _ (c .before .before .before .before .loop-test .taken) (alike _ _) (sym (c .before .alike .ensures) ∙ c .if1 .left))
 
 returns-2 : tie.Need-returns-2 Inv-loop μ-loop
-returns-2 c = sym (c .before .loop .inv .1 ∙ ap (any (alike (c .before .before .args .id .0) (c .before .before .args .csn .0))) (up-done (keyAt (c .before .before .args .t1)) (c .before .before .args .n) (c .before .loop .j) (c .loop-test .left)))
+returns-2 c =
+    let args = c .before .before .args in
+    sym (c .before .loop .inv .1 ∙ ap (any (alike (args .id .0) (args .csn .0))) (up-done (keyAt (args .t1)) (args .n) (c .before .loop .j) (c .loop-test .left)))
 
 pub alike-from-spec : {M : Type 1} → statement M
 alike-from-spec =

@@ -20,14 +20,19 @@ returns : tie.Need-returns
 returns c = sym (other-csn _ _ _ (λ e. c .if1 .taken (ap (λ (l : LogEnd). l .csn .0) (c .before .before .before .read-log .ensures) ∙ e)))
 
 -- where the groups end
-ended : (c : tie.After-read-log) → c .read-log .result .end ≡ tailLength (c .before .before .args .ondisk .0) (c .before .before .args .tail .now)
+ended : (c : tie.After-read-log) → let args = c .before .before .args in
+    c .read-log .result .end ≡ tailLength (args .ondisk .0) (args .tail .now)
 ended c = ap (λ (l : LogEnd). l .end) (c .read-log .ensures) ∙ omega arith
 
 sub-all-zero : tie.Need-sub-all-zero
-sub-all-zero c = omega (arith, ended (c .before .before .before), log-within (c .before .before .before .before .before .args .ondisk .0) (c .before .before .before .before .before .args .tail .now))
+sub-all-zero c =
+    let args = c .before .before .before .before .before .args in
+    omega (arith, ended (c .before .before .before), log-within (args .ondisk .0) (args .tail .now))
 
 part-all-zero-start : tie.Need-part-all-zero-start
-part-all-zero-start c = omega (arith, ended (c .before .before .before), log-within (c .before .before .before .before .before .args .ondisk .0) (c .before .before .before .before .before .args .tail .now))
+part-all-zero-start c =
+    let args = c .before .before .before .before .before .args in
+    omega (arith, ended (c .before .before .before), log-within (args .ondisk .0) (args .tail .now))
 
 part-all-zero-end : tie.Need-part-all-zero-end
 part-all-zero-end c = search needs
@@ -36,19 +41,24 @@ all-zero-requires : tie.Need-all-zero-requires
 all-zero-requires c κs = search needs
 
 -- what follows them
-rest : (c : tie.After-all-zero) → c .all-zero .result ≡ allZero (drop (tailLength (c .before .before .before .before .before .before .before .args .ondisk .0) (c .before .before .before .before .before .before .before .args .tail .now)) (c .before .before .before .before .before .before .before .args .tail .now))
+rest : (c : tie.After-all-zero) → let args = c .before .before .before .before .before .before .before .args in
+    c .all-zero .result ≡ allZero (drop (tailLength (args .ondisk .0) (args .tail .now)) (args .tail .now))
 rest c =
+    let args = c .before .before .before .before .before .before .before .args in
     c .all-zero .ensures
-    ∙ ap allZero (from (c .before .before .before .before .before .before .before .args .tail .now) (c .before .before .before .before .before .read-log .result .end))
-    ∙ ap (λ (k : ℕ). allZero (drop k (c .before .before .before .before .before .before .before .args .tail .now))) (ended (c .before .before .before .before .before))
+    ∙ ap allZero (from (args .tail .now) (c .before .before .before .before .before .read-log .result .end))
+    ∙ ap (λ (k : ℕ). allZero (drop k (args .tail .now))) (ended (c .before .before .before .before .before))
 
 returns-2 : tie.Need-returns-2
-returns-2 c = sym (other-rest (c .before .before .before .before .before .before .before .before .args .ondisk .0) (c .before .before .before .before .before .before .before .before .args .assigned .0) (c .before .before .before .before .before .before .before .before .args .tail .now) (sym (rest (c .before)) ∙ not-true _ (c .if2 .taken)))
+returns-2 c =
+    let args = c .before .before .before .before .before .before .before .before .args in
+    sym (other-rest (args .ondisk .0) (args .assigned .0) (args .tail .now) (sym (rest (c .before)) ∙ not-true _ (c .if2 .taken)))
 
 returns-3 : tie.Need-returns-3
 returns-3 c =
+    let args = c .before .before .before .before .before .before .before .before .args in
     ap (λ (n : ℕ). record { ok = true; room = n }) (ended (c .before .before .before .before .before .before))
-    ∙ sym (tail-right (c .before .before .before .before .before .before .before .before .args .ondisk .0) (c .before .before .before .before .before .before .before .before .args .assigned .0) (c .before .before .before .before .before .before .before .before .args .tail .now) (sym (ap (λ (l : LogEnd). l .csn .0) (c .before .before .before .before .before .before .read-log .ensures)) ∙ c .before .before .before .if1 .left) (sym (rest (c .before)) ∙ not-false _ (c .if2 .left)))
+    ∙ sym (tail-right (args .ondisk .0) (args .assigned .0) (args .tail .now) (sym (ap (λ (l : LogEnd). l .csn .0) (c .before .before .before .before .before .before .read-log .ensures)) ∙ c .before .before .before .if1 .left) (sym (rest (c .before)) ∙ not-false _ (c .if2 .left)))
 
 pub measure-tail-spec : {M : Type 1} → statement M
 measure-tail-spec =

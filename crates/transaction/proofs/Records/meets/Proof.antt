@@ -70,7 +70,8 @@ loop-less : tie.Need-loop-less Inv-loop μ-loop
 loop-less c = search needs
 
 missed : (c : tie.Joined1 Inv-loop μ-loop)
-    → meets (c .before .before .before .before .before .args .addr) (c .before .before .before .before .before .args .len) (rangeAt (c .before .before .before .before .before .args .t1) (c .before .before .before .before .loop .i)) ≡ false
+    → let args = c .before .before .before .before .before .args in
+    meets (args .addr) (args .len) (rangeAt (args .t1) (c .before .before .before .before .loop .i)) ≡ false
 missed c =
     ⊎-elim (λ w. rw (lt-ltb _ _ (w .0 .taken), le-ltb _ _ (w .1 .left))) (λ w. rw (le-ltb _ _ (w .left))) (c .if1 .came)
 

@@ -49,8 +49,9 @@ element-copy-out-if2-2 c = search needs
 
 returns-2 : tie.Need-returns-2 Inv-loop μ-loop
 returns-2 c =
-    let r = c .before .before .before .before .before .before .args .t1 in
-    let q = c .before .before .before .before .before .before .args .t2 in
+    let args = c .before .before .before .before .before .before .args in
+    let r = args .t1 in
+    let q = args .t2 in
     sym (c .before .before .before .before .loop .inv .1 ∙ same-bad r q _ _ (c .before .before .before .loop-test .taken) (rw (ne-eqb _ _ (c .if2 .taken))))
 
 element-copy-out-if3 : tie.Need-element-copy-out-if3 Inv-loop μ-loop
@@ -61,8 +62,9 @@ element-copy-out-if3-2 c = search needs
 
 returns-3 : tie.Need-returns-3 Inv-loop μ-loop
 returns-3 c =
-    let r = c .before .before .before .before .before .before .before .before .before .args .t1 in
-    let q = c .before .before .before .before .before .before .before .before .before .args .t2 in
+    let args = c .before .before .before .before .before .before .before .before .before .args in
+    let r = args .t1 in
+    let q = args .t2 in
     sym
     (c .before .before .before .before .before .before .before .loop .inv .1
     ∙ same-bad r q _ _ (c .before .before .before .before .before .before .loop-test .taken) (rw (eq-eqb _ _ (c .before .before .before .if2 .left), ne-eqb _ _ (c .if3 .taken))))
@@ -75,8 +77,9 @@ loop-less c = search needs
 
 loop-again : tie.Need-loop-again Inv-loop μ-loop
 loop-again c =
-    let r = c .before .before .before .before .before .before .before .before .before .args .t1 in
-    let q = c .before .before .before .before .before .before .before .before .before .args .t2 in (
+    let args = c .before .before .before .before .before .before .before .before .before .args in
+    let r = args .t1 in
+    let q = args .t2 in (
       omega arith,
       c .before .before .before .before .before .before .before .loop .inv .1
           ∙ same-good r q _ _ (c .before .before .before .before .before .before .loop-test .taken) (rw (eq-eqb _ _ (c .before .before .before .if2 .left), eq-eqb _ _ (c .if3 .left))),
@@ -84,8 +87,9 @@ loop-again c =
 
 returns-4 : tie.Need-returns-4 Inv-loop μ-loop
 returns-4 c =
-    let r = c .before .before .before .args .t1 in
-    let q = c .before .before .before .args .t2 in
+    let args = c .before .before .before .args in
+    let r = args .t1 in
+    let q = args .t2 in
     let h = c .loop-test .left in
     sym (c .before .loop .inv .1 ∙ ap₂ (λ (x y : List Range). sameRanges x y) (up-done (rangeAt r) (r .count) (c .before .loop .i) h) (up-done (rangeAt q) (r .count) (c .before .loop .i) h))
 

@@ -11,8 +11,9 @@ head-ok-requires c κs = search needs
 
 returns : tie.Need-returns
 returns c =
-    let t = c .before .before .args .self in
-    let e : headOk (c .before .before .args .last .0) (c .before .before .args .assigned .0) (t .id .0) (t .status) (t .csn .0) ≡ false = sym (c .before .head-ok .ensures) ∙ not-true _ (c .if1 .taken) in
+    let args = c .before .before .args in
+    let t = args .self in
+    let e : headOk (args .last .0) (args .assigned .0) (t .id .0) (t .status) (t .csn .0) ≡ false = sym (c .before .head-ok .ensures) ∙ not-true _ (c .if1 .taken) in
     rw e
 
 ok-requires : tie.Need-ok-requires
@@ -20,8 +21,9 @@ ok-requires c κs = search needs
 
 returns-2 : tie.Need-returns-2
 returns-2 c =
-    let t = c .before .before .before .before .args .self in
-    let e : headOk (c .before .before .before .before .args .last .0) (c .before .before .before .before .args .assigned .0) (t .id .0) (t .status) (t .csn .0) ≡ true = sym (c .before .before .before .head-ok .ensures) ∙ not-false _ (c .before .before .if1 .left) in
+    let args = c .before .before .before .before .args in
+    let t = args .self in
+    let e : headOk (args .last .0) (args .assigned .0) (t .id .0) (t .status) (t .csn .0) ≡ true = sym (c .before .before .before .head-ok .ensures) ∙ not-false _ (c .before .before .if1 .left) in
     rw e (c .ok .ensures)
 
 pub image-ok-spec : {M : Type 1} → statement M
