@@ -1,4 +1,4 @@
--- Checkpoint: its stores as the code makes them, its cases, and that the state's image keeps the image rules.
+-- Checkpoint: the image rules, its stores as the code makes them, what they leave on the disk, and its cases.
 use Prim.Native.Nat.{ℕ, suc, _+_, _≤_, _<_, min}
 use native.Mathlib.Omega.{arith}
 use mathlib.Core.Bool.{Bool, true, false, cond, not, _&&_}
@@ -23,7 +23,7 @@ use Rattle.store.specs.State.{unrecovered, outlinesOf}
 use Rattle.store.specs.Answer.{done, cut, refused}
 use Rattle.store.specs.Rules.{distinct, keepsImageRules}
 use Rattle.store.specs.Stored.{stored, zeroed}
-use Rattle.store.specs.Checkpoint.{imageOf, slotStores, intoA, imageStores, checkpointStores, checkpointPlan, checkpointOf}
+use Rattle.store.specs.Checkpoint.{imageOf, slotStores, intoA, slotAt, slotName, imageStores, checkpointStores, checkpointPlan, checkpointOf}
 use Rattle.store.proofs.Storing.{diskNumber, disk-admitted, disk-passes, stored-refused, stored-cut, stored-done}
 
 -- ---- the image rules are the same of a state and of its image
@@ -79,33 +79,12 @@ module _ (pointer : ℕ) (bytes : List ℕ) where
   pub into-b : (pointer ≡ 0 → ⊥) → (pointer ≡ 2 → ⊥) → slotStores 8654 2 bytes ≡ imageStores pointer bytes
   into-b h e = rw (ne-eqb pointer 0 h, ne-eqb pointer 2 e)
 
-pub length-image-stores : (pointer : ℕ) (bytes : List ℕ) → length (imageStores pointer bytes) ≡ length bytes + 1
-length-image-stores pointer bytes = go (intoA pointer)
-  where
-    go : (b : Bool) → length (cond b (slotStores 1 1 bytes) (slotStores 8654 2 bytes)) ≡ length bytes + 1
-    go true = length-slot 1 1 bytes
-    go false = length-slot 8654 2 bytes
-
 -- "only its used bytes", and the pointer byte
 pub checkpoint-length : (s : State) (d m : List ℕ) → length m ≡ 4096 → length (checkpointStores s d m) ≡ imageSize (imageOf s) + 1
 checkpoint-length s d m l =
-    length-image-stores (getD d 0 0) (encodeImage (imageOf s) m) ∙ ap (λ (n : ℕ). n + 1) (length-content (contentOf (imageOf s)) m l)
+    length-slot (slotAt (getD d 0 0)) (slotName (getD d 0 0)) (encodeImage (imageOf s) m) ∙ ap (λ (n : ℕ). n + 1) (length-content (contentOf (imageOf s)) m l)
 
 -- ---- what stands on the disk after n stores
-
--- the slot that a checkpoint goes into, and its name
-abbrev pub slotAt : ℕ → ℕ
-slotAt pointer = cond (intoA pointer) 1 8654
-
-abbrev pub slotName : ℕ → ℕ
-slotName pointer = cond (intoA pointer) 1 2
-
-named-stores : (pointer : ℕ) (bytes : List ℕ) → imageStores pointer bytes ≡ slotStores (slotAt pointer) (slotName pointer) bytes
-named-stores pointer bytes = go (intoA pointer)
-  where
-    go : (b : Bool) → cond b (slotStores 1 1 bytes) (slotStores 8654 2 bytes) ≡ slotStores (cond b 1 8654) (cond b 1 2) bytes
-    go true = refl
-    go false = refl
 
 module _ (s : State) (d m : List ℕ) (n : ℕ) (l : length m ≡ 4096) where
   abbrev bytes : List ℕ
@@ -117,8 +96,7 @@ module _ (s : State) (d m : List ℕ) (n : ℕ) (l : length m ≡ 4096) where
       let p = getD d 0 0 in
       let c = length-copies (slotAt p) bytes in
       let k = length-content (contentOf (imageOf s)) m l in
-      ap (λ (ss : List Store). apply (take n ss) d) (named-stores p bytes)
-      ∙ ap (λ (ss : List Store). apply ss d) (take-append-le n (copies (slotAt p) bytes) (store 0 (slotName p) ∷ []) (omega (arith, c, k, h)))
+      ap (λ (ss : List Store). apply ss d) (take-append-le n (copies (slotAt p) bytes) (store 0 (slotName p) ∷ []) (omega (arith, c, k, h)))
       ∙ copies-cut n (slotAt p) bytes d
 
   -- done: the whole image, and the pointer byte names it
@@ -127,8 +105,7 @@ module _ (s : State) (d m : List ℕ) (n : ℕ) (l : length m ≡ 4096) where
       let p = getD d 0 0 in
       let c = length-copies (slotAt p) bytes in
       let k = length-content (contentOf (imageOf s)) m l in
-      ap (λ (ss : List Store). apply (take n ss) d) (named-stores p bytes)
-      ∙ ap (λ (ss : List Store). apply ss d) (take-all n (slotStores (slotAt p) (slotName p) bytes) (omega (arith, length-slot (slotAt p) (slotName p) bytes, k, h)))
+      ap (λ (ss : List Store). apply ss d) (take-all n (slotStores (slotAt p) (slotName p) bytes) (omega (arith, length-slot (slotAt p) (slotName p) bytes, k, h)))
       ∙ apply-append (copies (slotAt p) bytes) (store 0 (slotName p) ∷ []) d
       ∙ ap (λ (x : List ℕ). set x 0 (slotName p))
       (ap (λ (ss : List Store). apply ss d) (sym (take-all n (copies (slotAt p) bytes) (omega (arith, c, k, h))))
@@ -255,7 +232,7 @@ module _ (s : State) (d m t : List ℕ) (allowed : ℕ) where
 
       needed : length (checkpointStores s d m) ≡ n + 1
       needed =
-          length-image-stores (getD d 0 0) (encodeImage (imageOf s) m)
+          length-slot (slotAt (getD d 0 0)) (slotName (getD d 0 0)) (encodeImage (imageOf s) m)
           ∙ ap (λ (k : ℕ). k + 1) (ap length (sym (e .bytes)) ∙ e .counted)
 
       on-disk : y ≡ apply (take allowed (checkpointStores s d m)) d

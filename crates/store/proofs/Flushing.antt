@@ -1,4 +1,5 @@
--- Flush: its cases as the code comes to them, the bytes that it stores, and that the state and tail it leaves pass number 2.
+-- Flush: its cases as the code comes to them, the bytes that it stores and what they leave in the log, and that the state and tail which it
+-- leaves pass number 2.
 use Prim.Native.Nat.{ℕ, zero, suc, _+_, _-_, _≤_, _<_, min}
 use native.Mathlib.Omega.{arith}
 use mathlib.Core.Bool.{Bool, true, _&&_}
