@@ -1,14 +1,14 @@
--- Checkpoint: its stores as the code makes them, its cases, and that the state's image keeps the image rules.
-use Prim.Native.Nat.{ℕ, _+_, _≤_, _<_, min}
+-- Checkpoint: the image rules, its stores as the code makes them, what they leave on the disk, and its cases.
+use Prim.Native.Nat.{ℕ, suc, _+_, _≤_, _<_, min}
 use native.Mathlib.Omega.{arith}
 use mathlib.Core.Bool.{Bool, true, false, cond}
-use mathlib.Core.List.{List, [], _∷_, _++_}
+use mathlib.Core.List.{List, [], _∷_, _++_, append-assoc}
 use mathlib.Core.Path.{_≡_, refl, sym, ap, ap₂, _∙_}
-use lib.ListN.{length, take, getD, set, length-append}
-use lib.Seq.{sets, take-all, take-append-le}
+use lib.ListN.{length, take, drop, getD, set, length-append, length-take}
+use lib.Seq.{sets, sets-eq, length-sets, take-all, take-append-le, take-set-le, drop-set-lt, drop-at, length-take-le, getD-take, getD-set-same}
 use borrow.Author.Tests.{eq-eqb, ne-eqb}
 use Rattle.log.specs.Stores.{Store, store, apply, copies}
-use Rattle.log.proofs.StoreLaws.{length-apply, length-copies}
+use Rattle.log.proofs.StoreLaws.{length-apply, length-copies, copies-cut}
 use Rattle.image.specs.declared.Image.{Image}
 use Rattle.image.specs.Rules.{keepsRules}
 use Rattle.image.specs.Content.{contentOf}
@@ -20,7 +20,7 @@ use Rattle.store.specs.State.{unrecovered}
 use Rattle.store.specs.Answer.{done, cut, refused}
 use Rattle.store.specs.Rules.{keepsImageRules}
 use Rattle.store.specs.Stored.{stored, zeroed}
-use Rattle.store.specs.Checkpoint.{imageOf, slotStores, intoA, imageStores, checkpointStores, checkpointPlan, checkpointOf}
+use Rattle.store.specs.Checkpoint.{imageOf, slotStores, intoA, slotAt, slotName, imageStores, checkpointStores, checkpointPlan, checkpointOf}
 use Rattle.store.proofs.Storing.{diskNumber, disk-admitted, disk-passes, stored-refused, stored-cut, stored-done}
 
 -- ---- the image rules are the same of a state and of its image
@@ -72,17 +72,117 @@ module _ (pointer : ℕ) (bytes : List ℕ) where
   pub into-b : (pointer ≡ 0 → ⊥) → (pointer ≡ 2 → ⊥) → slotStores 8654 2 bytes ≡ imageStores pointer bytes
   into-b h e = rw (ne-eqb pointer 0 h, ne-eqb pointer 2 e)
 
-pub length-image-stores : (pointer : ℕ) (bytes : List ℕ) → length (imageStores pointer bytes) ≡ length bytes + 1
-length-image-stores pointer bytes = go (intoA pointer)
-  where
-    go : (b : Bool) → length (cond b (slotStores 1 1 bytes) (slotStores 8654 2 bytes)) ≡ length bytes + 1
-    go true = length-slot 1 1 bytes
-    go false = length-slot 8654 2 bytes
-
 -- "only its used bytes", and the pointer byte
 pub checkpoint-length : (s : State) (d m : List ℕ) → length m ≡ 4096 → length (checkpointStores s d m) ≡ imageSize (imageOf s) + 1
 checkpoint-length s d m l =
-    length-image-stores (getD d 0 0) (encodeImage (imageOf s) m) ∙ ap (λ (n : ℕ). n + 1) (length-content (contentOf (imageOf s)) m l)
+    length-slot (slotAt (getD d 0 0)) (slotName (getD d 0 0)) (encodeImage (imageOf s) m) ∙ ap (λ (n : ℕ). n + 1) (length-content (contentOf (imageOf s)) m l)
+
+-- ---- what stands on the disk after n stores
+
+module _ (s : State) (d m : List ℕ) (n : ℕ) (l : length m ≡ 4096) where
+  abbrev bytes : List ℕ
+  bytes = encodeImage (imageOf s) m
+
+  -- cut: the pointer byte is old, and of the slot that it doesn't name the first n bytes are new
+  pub checkpoint-part : n ≤ imageSize (imageOf s) → apply (take n (checkpointStores s d m)) d ≡ sets d (slotAt (getD d 0 0)) (take n bytes)
+  checkpoint-part h =
+      let p = getD d 0 0 in
+      let c = length-copies (slotAt p) bytes in
+      let k = length-content (contentOf (imageOf s)) m l in
+      ap (λ (ss : List Store). apply ss d) (take-append-le n (copies (slotAt p) bytes) (store 0 (slotName p) ∷ []) (omega (arith, c, k, h)))
+      ∙ copies-cut n (slotAt p) bytes d
+
+  -- done: the whole image, and the pointer byte names it
+  pub checkpoint-whole : imageSize (imageOf s) < n → apply (take n (checkpointStores s d m)) d ≡ set (sets d (slotAt (getD d 0 0)) bytes) 0 (slotName (getD d 0 0))
+  checkpoint-whole h =
+      let p = getD d 0 0 in
+      let c = length-copies (slotAt p) bytes in
+      let k = length-content (contentOf (imageOf s)) m l in
+      ap (λ (ss : List Store). apply ss d) (take-all n (slotStores (slotAt p) (slotName p) bytes) (omega (arith, length-slot (slotAt p) (slotName p) bytes, k, h)))
+      ∙ apply-append (copies (slotAt p) bytes) (store 0 (slotName p) ∷ []) d
+      ∙ ap (λ (x : List ℕ). set x 0 (slotName p))
+      (ap (λ (ss : List Store). apply ss d) (sym (take-all n (copies (slotAt p) bytes) (omega (arith, c, k, h))))
+      ∙ copies-cut n (slotAt p) bytes d
+      ∙ ap (sets d (slotAt p)) (take-all n bytes (omega (arith, k, h))))
+
+-- what stands before and behind a run of stores stays
+pub sets-before : (vs d : List ℕ) (a j : ℕ) → j ≤ a → take j (sets d a vs) ≡ take j d
+sets-before [] d a j h = refl
+sets-before (v ∷ vs) d a j h = sets-before vs (set d a v) (suc a) j (omega arith) ∙ take-set-le j d a v h
+
+pub sets-behind : (vs d : List ℕ) (a j : ℕ) → a + length vs ≤ j → drop j (sets d a vs) ≡ drop j d
+sets-behind [] d a j h = refl
+sets-behind (v ∷ vs) d a j h = sets-behind vs (set d a v) (suc a) j (omega arith) ∙ drop-set-lt j d a v (omega arith)
+
+module _ (s : State) (d m t : List ℕ) (n : ℕ) (z : diskNumber s d m t ≡ 0) where
+  abbrev left : List ℕ
+  left = apply (take n (checkpointStores s d m)) d
+
+  abbrev image : List ℕ
+  image = encodeImage (imageOf s) m
+
+  abbrev slot : ℕ
+  slot = slotAt (getD d 0 0)
+
+  slot-range : (1 ≤ slot) × (slot ≤ 8654)
+  slot-range = go (intoA (getD d 0 0))
+    where
+      go : (b : Bool) → (1 ≤ cond b 1 8654) × (cond b 1 8654 ≤ 8654)
+      go true = (omega arith, omega arith)
+      go false = (omega arith, omega arith)
+
+  image-length : length image ≤ 8653
+  image-length =
+      let a = disk-admitted s d m t z in
+      omega (arith, length-content (contentOf (imageOf s)) m (a .memory), image-small (imageOf s) (sym (image-keeps s) ∙ a .fits .image))
+
+  -- the log, the pointer byte and the image that it names are not touched before the pointer byte is
+  module _ (h : n ≤ imageSize (imageOf s)) where
+    part-size : length (take n image) ≤ 8653
+    part-size = omega (arith, length-take n image, image-length)
+
+    part-left : left ≡ sets d slot (take n image)
+    part-left = checkpoint-part s d m n (disk-admitted s d m t z .memory) h
+
+    pub kept-pointer : getD left 0 0 ≡ getD d 0 0
+    kept-pointer =
+        let e : take 1 left ≡ take 1 d = ap (take 1) part-left ∙ sets-before (take n image) d slot 1 (slot-range .0) in
+        sym (getD-take 1 left 0 0 (omega arith)) ∙ ap (λ (x : List ℕ). getD x 0 0) e ∙ getD-take 1 d 0 0 (omega arith)
+
+    pub kept-log : drop 17307 left ≡ drop 17307 d
+    kept-log = ap (drop 17307) part-left ∙ sets-behind (take n image) d slot 17307 (omega (arith, part-size, slot-range .1))
+
+    -- A, and the pointer byte, which names it
+    pub kept-a : getD d 0 0 ≡ 1 → take 8654 left ≡ take 8654 d
+    kept-a e = ap (take 8654) part-left ∙ sets-before (take n image) d slot 8654 (omega (arith, ap slotAt e))
+
+    -- B, and the log behind it
+    pub kept-b : getD d 0 0 ≡ 2 → drop 8654 left ≡ drop 8654 d
+    kept-b e = ap (drop 8654) part-left ∙ sets-behind (take n image) d slot 8654 (omega (arith, part-size, ap slotAt e))
+
+  -- then the pointer byte names the slot that holds the image, and the log is the same
+  module _ (h : imageSize (imageOf s) < n) where
+    whole-left : left ≡ set (sets d slot image) 0 (slotName (getD d 0 0))
+    whole-left = checkpoint-whole s d m n (disk-admitted s d m t z .memory) h
+
+    pub new-pointer : getD left 0 0 ≡ slotName (getD d 0 0)
+    new-pointer =
+        ap (λ (x : List ℕ). getD x 0 0) whole-left
+        ∙ getD-set-same (sets d slot image) 0 (slotName (getD d 0 0)) 0 (omega (arith, length-sets d slot image, disk-admitted s d m t z .disk))
+
+    pub new-image : drop slot left ≡ image ++ drop (slot + length image) d
+    new-image =
+        let l = disk-admitted s d m t z .disk in
+        ap (drop slot) whole-left
+        ∙ drop-set-lt slot (sets d slot image) 0 (slotName (getD d 0 0)) (omega (arith, slot-range .0))
+        ∙ ap (drop slot) (sets-eq image d slot (omega (arith, slot-range .1, image-length, l)) ∙ append-assoc (take slot d) image (drop (slot + length image) d))
+        ∙ drop-at (take slot d) (image ++ drop (slot + length image) d) slot (length-take-le slot d (omega (arith, slot-range .1, l)))
+
+    pub new-log : drop 17307 left ≡ drop 17307 d
+    new-log =
+        ap (drop 17307) whole-left
+        ∙ drop-set-lt 17307 (sets d slot image) 0 (slotName (getD d 0 0)) (omega arith)
+        ∙ sets-behind image d slot 17307 (omega (arith, slot-range .1, image-length))
 
 -- ---- the cases, as the code comes to them
 
@@ -125,7 +225,7 @@ module _ (s : State) (d m t : List ℕ) (allowed : ℕ) where
 
       needed : length (checkpointStores s d m) ≡ n + 1
       needed =
-          length-image-stores (getD d 0 0) (encodeImage (imageOf s) m)
+          length-slot (slotAt (getD d 0 0)) (slotName (getD d 0 0)) (encodeImage (imageOf s) m)
           ∙ ap (λ (k : ℕ). k + 1) (ap length (sym (e .bytes)) ∙ e .counted)
 
       on-disk : y ≡ apply (take allowed (checkpointStores s d m)) d

@@ -1,14 +1,15 @@
--- Flush: its cases as the code comes to them, the bytes that it stores, and that the state and tail it leaves pass number 2.
+-- Flush: its cases as the code comes to them, the bytes that it stores and what they leave in the log, and that the state and tail which it
+-- leaves pass number 2.
 use Prim.Native.Nat.{ℕ, zero, suc, _+_, _-_, _≤_, _<_, min}
 use native.Mathlib.Omega.{arith}
 use mathlib.Core.Bool.{Bool, true, _&&_}
 use mathlib.Core.List.{List, [], _∷_, _++_, append-assoc}
 use mathlib.Core.Path.{_≡_, refl, sym, ap, ap₂, _∙_}
-use lib.ListN.{length, take, drop, replicate, take-append-drop}
-use lib.Seq.{length-take-le, take-length, take-at, drop-drop, drop-append-le}
+use lib.ListN.{length, take, drop, replicate, length-take, take-append-drop}
+use lib.Seq.{sets, sets-eq, length-take-le, take-length, take-at, drop-at, drop-drop, drop-append-le}
 use lib.Dec.{leb, eqb}
 use borrow.Author.Tests.{eq-eqb, eqb-true, le-leb}
-use Rattle.recovery.specs.Group.{Group, committed, aborted, groupSize, groupsSize, csnAfter, lastCsn}
+use Rattle.recovery.specs.Group.{Group, committed, aborted, groupSize, groupsSize, csnAfter, lastCsn, fitting}
 use Rattle.recovery.proofs.Groups.{groupsSize-append, lastCsn-append, fitting-all}
 use Rattle.log.specs.declared.Csn.{Csn}
 use Rattle.log.specs.declared.scan.LogEnd.{LogEnd}
@@ -18,8 +19,8 @@ use Rattle.log.specs.Stores.{Store, apply, copies, shifted}
 use Rattle.log.proofs.LogLaws.{log-inv, log-within}
 use Rattle.log.proofs.RoundTrip.{length-log}
 use Rattle.log.proofs.Soundness.{Bytes, log-sound, log-formed}
-use Rattle.log.proofs.StoreLaws.{length-apply, length-copies, length-shifted}
-use Rattle.log.proofs.Torn.{log-torn}
+use Rattle.log.proofs.StoreLaws.{length-apply, length-copies, copies-cut, length-shifted}
+use Rattle.log.proofs.Torn.{log-torn, log-cut}
 use Rattle.transaction.proofs.Lists.{and-left, and-right}
 use Rattle.store.specs.declared.State.{State}
 use Rattle.store.specs.State.{unrecovered, outlinesOf}
@@ -141,6 +142,35 @@ flush-bytes s t k b =
 
 pub flush-stores : (s : State) (t : List ℕ) (k : ℕ) → Bytes t → flushStores s t k ≡ copies (17307 + s .logend) (encodeLog (firstGroups s t k))
 flush-stores s t k b = ap (copies (17307 + s .logend)) (flush-bytes s t k b)
+
+-- ---- what stands in the log after n stores
+
+formed-first : (k prev : ℕ) (gs : List Group) → wellFormedLog prev gs ≡ true → wellFormedLog prev (take k gs) ≡ true
+formed-first zero prev gs h = refl
+formed-first (suc k) prev [] h = refl
+formed-first (suc k) prev (g ∷ gs) h =
+    rw (and-left (wellFormedGroup prev g) (wellFormedLog (csnAfter prev g) gs) h)
+    (formed-first k (csnAfter prev g) gs (and-right (wellFormedGroup prev g) (wellFormedLog (csnAfter prev g) gs) h))
+
+drop-zeros : (n r : ℕ) → _≡_ {A = List ℕ} (drop n (replicate r 0)) (replicate (r - n) 0)
+drop-zeros zero r = let e : r ≡ r - 0 = omega arith in ap (λ (j : ℕ). replicate j 0) e
+drop-zeros (suc n) zero = let e : 0 ≡ 0 - suc n = omega arith in ap (λ (j : ℕ). replicate j 0) e
+drop-zeros (suc n) (suc r) = let e : r - n ≡ suc r - suc n = omega arith in drop-zeros n r ∙ ap (λ (j : ℕ). replicate j 0) e
+
+-- where zeros stood from the log's end on, the groups are read that were stored whole, and no other
+pub flush-log : (s : State) (d t : List ℕ) (k n r : ℕ) → Bytes t → 17307 + s .logend + firstSize s t k ≤ length d → drop (17307 + s .logend) d ≡ replicate r 0
+    → readLog (s .ondisk .0) (drop (17307 + s .logend) (apply (take n (flushStores s t k)) d)) ≡ fitting n (firstGroups s t k)
+flush-log s d t k n r b h z =
+    let a = 17307 + s .logend in
+    let gs = firstGroups s t k in
+    let bs = take n (encodeLog gs) in
+    let l : length bs ≤ firstSize s t k = omega (arith, length-take n (encodeLog gs), length-log gs) in
+    let e : apply (take n (flushStores s t k)) d ≡ sets d a bs = ap (λ (ss : List Store). apply (take n ss) d) (flush-stores s t k b) ∙ copies-cut n a (encodeLog gs) d in
+    let f : sets d a bs ≡ take a d ++ (bs ++ drop (a + length bs) d) = sets-eq bs d a (omega arith) ∙ append-assoc (take a d) bs (drop (a + length bs) d) in
+    let g : drop (a + length bs) d ≡ replicate (r - length bs) 0 = sym (drop-drop (length bs) a d) ∙ ap (drop (length bs)) z ∙ drop-zeros (length bs) r in
+    ap (readLog (s .ondisk .0))
+    (ap (drop a) (e ∙ f) ∙ drop-at (take a d) (bs ++ drop (a + length bs) d) a (length-take-le a d (omega arith)) ∙ ap (λ (x : List ℕ). bs ++ x) g)
+    ∙ log-cut (s .ondisk .0) gs n (r - length bs) (formed-first k (s .ondisk .0) (readLog (s .ondisk .0) t) (log-formed (s .ondisk .0) (readLog (s .ondisk .0) t) t refl))
 
 -- ---- what is left in the tail
 

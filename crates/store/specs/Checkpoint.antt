@@ -23,8 +23,14 @@ slotStores at name bytes = copies at bytes ++ (store 0 name ∷ [])
 abbrev pub intoA : ℕ → Bool
 intoA pointer = eqb pointer 0 || eqb pointer 2
 
+abbrev pub slotAt : ℕ → ℕ
+slotAt pointer = cond (intoA pointer) 1 8654
+
+abbrev pub slotName : ℕ → ℕ
+slotName pointer = cond (intoA pointer) 1 2
+
 abbrev pub imageStores : ℕ → List ℕ → List Store
-imageStores pointer bytes = cond (intoA pointer) (slotStores 1 1 bytes) (slotStores 8654 2 bytes)
+imageStores pointer bytes = slotStores (slotAt pointer) (slotName pointer) bytes
 
 -- "only its used bytes": those of the encoding
 abbrev pub checkpointStores : State → List ℕ → List ℕ → List Store
