@@ -3,17 +3,17 @@ use Prim.Native.Nat.{ℕ, _+_, _-_, _≤_}
 use native.Mathlib.Omega.{arith}
 use mathlib.Core.Bool.{Bool, true, false, cond}
 use mathlib.Core.List.{List}
-use mathlib.Core.Path.{_≡_, refl, sym, ap, ap₂, _∙_}
-use lib.ListN.{length, take, drop, replicate, length-take, length-drop}
+use mathlib.Core.Path.{_≡_, sym, ap, _∙_}
+use lib.ListN.{length, take, drop, replicate, length-drop}
 use lib.Seq.{sets, take-take, drop-drop, length-take-le}
 use lib.Dec.{eqb}
-use borrow.Author.Tests.{eq-eqb, ne-eqb}
+use borrow.Author.Tests.{ne-eqb}
 use Rattle.log.proofs.RoundTrip.{drop-take}
 use Rattle.log.proofs.StoreLaws.{sets-all}
 use Rattle.image.specs.Reading.{memoryOf}
 use Rattle.image.specs.Calls.{emptyImage, decodeOf}
 use Rattle.disk.specs.Layout.{slotOf, imagePart}
-use Rattle.disk.specs.Examine.{Loaded, loadOf}
+use Rattle.disk.specs.Examine.{loadOf}
 
 pub slot-within : (pointer : ℕ) → slotOf pointer ≤ 8654
 slot-within pointer = go (eqb pointer 1)

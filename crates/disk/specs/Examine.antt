@@ -1,6 +1,6 @@
 -- Restart's steps 1 to 5, as a function of the disk alone, with numbers 3, 4 and 5.
 use Prim.Native.Nat.{ℕ, _+_, _*_}
-use mathlib.Core.Bool.{Bool, true, false, cond}
+use mathlib.Core.Bool.{true, cond}
 use mathlib.Core.List.{List}
 use lib.ListN.{replicate}
 use lib.Dec.{eqb, ltb}
@@ -8,7 +8,6 @@ use Rattle.image.specs.declared.Image.{Image}
 use Rattle.image.specs.declared.read.Decoded.{Decoded}
 use Rattle.image.specs.Reading.{memoryOf}
 use Rattle.image.specs.Calls.{emptyImage, decodeOf}
-use Rattle.restart.specs.declared.Recovered.{Recovered}
 use Rattle.restart.specs.Restart.{Outcome, restartOf}
 use Rattle.disk.specs.declared.examine.Examined.{Examined}
 use Rattle.disk.specs.Layout.{pointerOf, imagePart, logFrom}

@@ -1,4 +1,4 @@
-use Prim.Native.Nat.{ℕ, _+_, _*_, _-_, _≤_}
+use Prim.Native.Nat.{ℕ, _+_, _-_, _≤_}
 use borrow.Author.Needs.{needs}
 use native.Mathlib.Omega.{arith}
 use mathlib.Core.Bool.{true}
@@ -10,8 +10,7 @@ use Rattle.image.specs.declared.Image.{Image}
 use Rattle.image.specs.Rules.{keepsRules}
 use Rattle.restart.specs.declared.Recovered.{Recovered}
 use Rattle.restart.specs.Restart.{Outcome, restartOf}
-use Rattle.disk.specs.declared.examine.Examined.{Examined}
-use Rattle.disk.specs.Examine.{Meaning, stepsOf, meant, examineOf}
+use Rattle.disk.specs.Examine.{Meaning, stepsOf}
 use Rattle.disk.proofs.Examining.{keeps, keeps-end, steps-are, end-within, undone-within, means-3, means-4, means-5, means}
 use Rattle.disk.proofs.examine.examine.Statement.{statement}
 use Rattle.disk.proofs.examine.examine.Tie as tie
