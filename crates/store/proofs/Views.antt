@@ -3,7 +3,7 @@ use Prim.Native.Nat.{ℕ, zero, suc, _+_, _-_, _≤_, _<_}
 use native.Mathlib.Nat.{zero-add}
 use native.Mathlib.Numerals.{add-one}
 use native.Mathlib.Omega.{arith}
-use mathlib.Core.Bool.{true, false, not, _&&_, _||_}
+use mathlib.Core.Bool.{Bool, true, false, cond, not, _&&_, _||_}
 use mathlib.Core.List.{List, [], _∷_, _++_}
 use mathlib.Core.Option.{some}
 use mathlib.Core.Path.{_≡_, refl, sym, ap, ap₂, _∙_}
@@ -38,7 +38,7 @@ use Rattle.store.specs.State.{txAt, slotOf}
 use Rattle.store.specs.Rules.{tailLength, allZero, roomUsed, unfit}
 use Rattle.store.specs.Numbers.{Check, check, firstNumber, txOf, sharedChecks, beginChecks, writeChecks, precommitChecks, abortChecks, settleChecks, check8, check9, check10}
 use Rattle.store.specs.Steps.{begunState, writtenState, precommittedState, droppedState}
-use Rattle.store.specs.Calls.{Outcome, beginNumber, beginOf, writeNumber, writeOf, appended, precommitNumber, precommitOf, abortNumber, abortOf, settleNumber, settleOf}
+use Rattle.store.specs.Calls.{Outcome, beginNumber, beginOf, writeNumber, writeOf, doneReturn, refusedReturn, readNumber, readAnswerOf, appended, precommitNumber, precommitOf, abortNumber, abortOf, settleNumber, settleOf}
 use Rattle.store.specs.View.{viewAt, live}
 use Rattle.store.proofs.Slots.{slot}
 use Rattle.store.proofs.Checks.{passed}
@@ -235,6 +235,15 @@ module _ (s : State) (m t : List ℕ) (z : SizedState s) where
         ∙ ap (with-txs s (sets m a bs) t)
         (edited (viewAt s) (viewAt (writtenState s j m a bs)) (id .0) j g (s .count) 0 (first s (id .0) (r .listed)) d (omega (arith, r .listed))
         ∙ ap (λ (i : ℕ). edit i g (upFrom (viewAt s) (s .count) 0)) (sym (r .named)))
+
+    -- Read's sister gives the state back as it was, refused or not: a read leaves no hold behind.
+    pub read-same : (a n : ℕ) → readAnswerOf s m t id a n .state ≡ s
+    unfolding readAnswerOf
+    read-same a n = go (eqb (readNumber s m t id a n) 0)
+      where
+        go : (b : Bool) → cond b (doneReturn s) (refusedReturn (readNumber s m t id a n) s) .state ≡ s
+        go true = refl
+        go false = refl
 
     -- Precommit turns the redo list into the group at the tail's end, and marks the transaction committing.
     pub precommit-live : precommitNumber s m t id ≡ 0

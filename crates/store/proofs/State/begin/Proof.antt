@@ -68,7 +68,7 @@ free c =
     (omega (arith, image-count s (x .fits .image), eqb-false (s .count) 8 (p .0)), omega (arith, w, eqb-false (s .lastid .0) 65535 (q .0)))
 
 begin-step-requires : tie.Need-begin-step-requires
-begin-step-requires c κs = free (c)
+begin-step-requires c κs = free c
 
 returns-3 : tie.Need-returns-3
 unfolding begunState

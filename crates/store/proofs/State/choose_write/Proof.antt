@@ -51,10 +51,10 @@ short c =
     ranged-by-8 (args .addr) (args .len) more (running s id (check8 (args .addr) (args .len) ∷ more) z .1) .1
 
 mul-if2 : tie.Need-mul-if2
-mul-if2 c = let h = slotted (c) in let k = image-count (c .before .before .before .args .t1) (c .before .before .before .pre .0) in omega arith
+mul-if2 c = let h = slotted c in let k = image-count (c .before .before .before .args .t1) (c .before .before .before .pre .0) in omega arith
 
 element-copy-out-if2 : tie.Need-element-copy-out-if2
-element-copy-out-if2 c = let h = slotted (c) in let k = image-count (c .before .before .before .args .t1) (c .before .before .before .pre .0) in omega arith
+element-copy-out-if2 c = let h = slotted c in let k = image-count (c .before .before .before .args .t1) (c .before .before .before .pre .0) in omega arith
 
 refuse-requires : tie.Need-refuse-requires
 refuse-requires c κs = search needs
