@@ -14,7 +14,8 @@ use Rattle.log.specs.Log.{encodeLog}
 use Rattle.image.specs.declared.Image.{Image}
 use Rattle.image.specs.Rules.{keepsRules}
 use Rattle.image.specs.Reading.{memoryOf}
-use Rattle.image.specs.Calls.{emptyImage, decodeOf}
+use Rattle.image.specs.Pack.{emptyImage}
+use Rattle.image.specs.Decode.{decodeOf}
 use Rattle.restart.specs.Slots.{txsOf}
 use Rattle.restart.specs.Forward.{groupsOf, forwardOf}
 use Rattle.restart.specs.Undo.{undoneOf}

@@ -14,7 +14,8 @@ use Rattle.image.specs.declared.read.Decoded.{Decoded}
 use Rattle.image.specs.Rules.{keepsRules, outlinesOk}
 use Rattle.image.specs.Slots.{outlined}
 use Rattle.image.specs.Reading.{memoryOf}
-use Rattle.image.specs.Calls.{emptyImage, decodeOf}
+use Rattle.image.specs.Pack.{emptyImage}
+use Rattle.image.specs.Decode.{decodeOf}
 use Rattle.image.proofs.Soundness.{decode-keeps}
 use Rattle.restart.specs.Restart.{Outcome, restartOf}
 use Rattle.restart.proofs.Rules.{image-few}

@@ -11,7 +11,8 @@ use borrow.Author.Tests.{ne-eqb}
 use Rattle.log.proofs.RoundTrip.{drop-take}
 use Rattle.log.proofs.StoreLaws.{sets-all}
 use Rattle.image.specs.Reading.{memoryOf}
-use Rattle.image.specs.Calls.{emptyImage, decodeOf}
+use Rattle.image.specs.Pack.{emptyImage}
+use Rattle.image.specs.Decode.{decodeOf}
 use Rattle.disk.specs.Layout.{slotOf, imagePart}
 use Rattle.disk.specs.Examine.{loadOf}
 

@@ -45,7 +45,7 @@ aborts-pass csn ts n tail e r =
 
 module _ (disk : List ℕ) (a : Accepted disk) where
   abbrev undoneIn : List Tx
-  undoneIn = undoneBy (imageIn disk) (a .rules) (logIn disk) (memoryIn disk)
+  undoneIn = undoneBy (imageIn disk) (logIn disk)
 
   steps-tail : examineOf disk .tail ≡ restartOf (imageIn disk) (logIn disk) (memoryIn disk) (replicate 16384 0) .tail
   unfolding stepsOf

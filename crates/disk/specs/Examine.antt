@@ -7,7 +7,8 @@ use lib.Dec.{eqb, ltb}
 use Rattle.image.specs.declared.Image.{Image}
 use Rattle.image.specs.declared.read.Decoded.{Decoded}
 use Rattle.image.specs.Reading.{memoryOf}
-use Rattle.image.specs.Calls.{emptyImage, decodeOf}
+use Rattle.image.specs.Pack.{emptyImage}
+use Rattle.image.specs.Decode.{decodeOf}
 use Rattle.restart.specs.Restart.{Outcome, restartOf}
 use Rattle.disk.specs.declared.examine.Examined.{Examined}
 use Rattle.disk.specs.Layout.{pointerOf, imagePart, logFrom}

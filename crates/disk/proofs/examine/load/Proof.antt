@@ -5,7 +5,7 @@ use mathlib.Core.Bool.{true}
 use mathlib.Core.Path.{_≡_, sym, ap, ap₂, subst, _∙_}
 use lib.ListN.{take, drop, replicate}
 use Rattle.image.specs.declared.Image.{Image}
-use Rattle.image.specs.Calls.{decodeOf}
+use Rattle.image.specs.Decode.{decodeOf}
 use Rattle.image.specs.Reading.{memoryOf}
 use Rattle.disk.specs.Layout.{slotOf}
 use Rattle.disk.specs.Examine.{Loaded}
