@@ -3,7 +3,7 @@ use Prim.Native.Nat.{ℕ, _+_, _*_, _-_, _≤_, _<_}
 use native.Mathlib.Omega.{arith}
 use mathlib.Core.Bool.{Bool, true, false, cond, _&&_}
 use mathlib.Core.List.{List}
-use mathlib.Core.Path.{_≡_, refl, sym, ap₂, _∙_, subst}
+use mathlib.Core.Path.{_≡_, refl, sym, ap, ap₂, _∙_, subst}
 use lib.ListN.{length, take, drop, replicate, length-drop}
 use lib.Dec.{eqb, leb, ltb}
 use borrow.Author.Tests.{lt-ltb, le-ltb, leb-true, ltb-false}
@@ -20,6 +20,7 @@ use Rattle.image.proofs.Soundness.{decode-keeps}
 use Rattle.restart.specs.Restart.{Outcome, restartOf}
 use Rattle.restart.proofs.Rules.{image-few}
 use Rattle.restart.proofs.Recovery.{end-is, count-is, undone-few}
+use Rattle.disk.specs.declared.examine.Examined.{Examined}
 use Rattle.disk.specs.Layout.{pointerOf, imagePart, logFrom}
 use Rattle.disk.specs.Examine.{Loaded, loadOf, Meaning, refusedBy, stepsOf, meant, fitting, ofLoaded, examineOf}
 
@@ -66,6 +67,11 @@ module _ (i : Image) (ok : keepsRules i ≡ true) (m disk : List ℕ) (l : lengt
   undone-within = let log = logFrom (i .logend) disk in omega (arith, count-is i ok log m (replicate 16384 0), undone-few i log, image-few i ok)
 
 -- ---- the meaning
+
+-- what was answered and left is what a meaning has, if it is what an equal one has
+pub told : {x y : Meaning} {r : Examined} {m t : List ℕ} → x ≡ y → r ≡ y .result → m ≡ y .memory → t ≡ y .tail
+    → (r ≡ x .result) × ((m ≡ x .memory) × (t ≡ x .tail))
+told e p q s = (p ∙ sym (ap (λ (z : Meaning). z .result) e), (q ∙ sym (ap (λ (z : Meaning). z .memory) e), s ∙ sym (ap (λ (z : Meaning). z .tail) e)))
 
 pub means-3 : (disk : List ℕ) → 2 < pointerOf disk → examineOf disk ≡ refusedBy 3
 unfolding examineOf

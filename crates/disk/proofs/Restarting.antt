@@ -11,6 +11,7 @@ use Rattle.log.specs.Stores.{apply, clears}
 use Rattle.log.proofs.Basics.{clash, from}
 use Rattle.log.proofs.StoreLaws.{length-clears}
 use Rattle.store.specs.Answer.{done, answer}
+use Rattle.disk.specs.declared.call.Restarted.{Restarted}
 use Rattle.disk.specs.Layout.{whole}
 use Rattle.disk.specs.Examine.{Meaning, examineOf}
 use Rattle.disk.specs.Restart.{Outcome, clearing, refusedRestart, cutRestart, doneRestart, clearedRestart, refusedWith, ofMeaning, restartOf}
@@ -29,6 +30,14 @@ log-count end d l =
     let p : length (take (length d - 17307) (drop 17307 d)) ≡ length d - 17307 = ap length (from d 17307) ∙ length-drop 17307 d in
     let z : length (take (length d - 17307) (drop 17307 d)) - end ≡ 16384 - end = omega arith in
     length-clears end (length (take (length d - 17307) (drop 17307 d)) - end) ∙ z ∙ sym (length-clears (17307 + end) (16384 - end))
+
+-- what was answered and left is what an outcome has, if it is what an equal one has
+pub told : {x y : Outcome} {r : Restarted} {d m t : List ℕ} → x ≡ y → r ≡ y .result → d ≡ y .disk → m ≡ y .memory → t ≡ y .tail
+    → (r ≡ x .result) × ((d ≡ x .disk) × ((m ≡ x .memory) × (t ≡ x .tail)))
+told e p q s u = (
+  p ∙ sym (ap (λ (o : Outcome). o .result) e),
+  (q ∙ sym (ap (λ (o : Outcome). o .disk) e), (s ∙ sym (ap (λ (o : Outcome). o .memory) e), u ∙ sym (ap (λ (o : Outcome). o .tail) e))),
+)
 
 pub restart-1 : (disk memory tail : List ℕ) (allowed : ℕ) → whole disk memory tail ≡ false → restartOf disk memory tail allowed ≡ refusedWith 1 disk memory tail
 unfolding restartOf

@@ -1,17 +1,19 @@
 use Prim.Native.Nat.{ℕ, _+_, _-_, _≤_, min}
 use borrow.Author.Needs.{needs}
 use native.Mathlib.Omega.{arith}
-use mathlib.Core.Path.{_≡_, sym, ap, ap₂, _∙_}
+use mathlib.Core.Path.{_≡_, refl, sym, ap, ap₂, _∙_}
 use lib.ListN.{length, take, replicate}
+use borrow.Rule.Slice.PartMut.{putMid}
 use borrow.Author.Tests.{eq-eqb, ne-eqb}
 use Rattle.log.specs.Stores.{apply}
 use Rattle.log.proofs.StoreLaws.{length-clears}
 use Rattle.store.specs.declared.State.{State}
 use Rattle.store.specs.declared.Answer.the-variants.{Done, Cut}
 use Rattle.disk.specs.declared.examine.Examined.{Examined}
-use Rattle.disk.specs.Restart.{Outcome, recoveredState, refusedRestart, clearing}
+use Rattle.disk.specs.Examine.{examineOf}
+use Rattle.disk.specs.Restart.{recoveredState, refusedRestart, clearing}
 use Rattle.disk.proofs.Examining.{roomy}
-use Rattle.disk.proofs.Restarting.{log-cleared, log-count, restart-1, restart-refused, restart-cut, restart-done}
+use Rattle.disk.proofs.Restarting.{log-cleared, log-count, told, restart-1, restart-refused, restart-cut, restart-done}
 use Rattle.disk.proofs.call.restart.Statement.{statement}
 use Rattle.disk.proofs.call.restart.Tie as tie
 
@@ -22,7 +24,7 @@ returns : tie.Need-returns
 returns c =
     let a = c .before .before .before .before .before .args in
     let e = restart-1 (a .disk .now) (a .memory .now) (a .tail .now) (a .allowed) (rw (ne-eqb (length (a .disk .now)) 33691 (c .before .if1 .taken))) in
-    (c .refused .ensures ∙ sym (ap (λ (o : Outcome). o .result) e), (sym (ap (λ (o : Outcome). o .disk) e), (sym (ap (λ (o : Outcome). o .memory) e), sym (ap (λ (o : Outcome). o .tail) e))))
+    told e (c .refused .ensures) refl refl refl
 
 refused-requires-2 : tie.Need-refused-requires-2
 refused-requires-2 c κs = search needs
@@ -32,7 +34,7 @@ returns-2 c =
     let a = c .before .before .before .before .before .before .args in
     let e = restart-1 (a .disk .now) (a .memory .now) (a .tail .now) (a .allowed)
     (rw (eq-eqb (length (a .disk .now)) 33691 (c .before .before .if1 .left), ne-eqb (length (a .memory .now)) 4096 (c .before .if2 .taken))) in
-    (c .refused2 .ensures ∙ sym (ap (λ (o : Outcome). o .result) e), (sym (ap (λ (o : Outcome). o .disk) e), (sym (ap (λ (o : Outcome). o .memory) e), sym (ap (λ (o : Outcome). o .tail) e))))
+    told e (c .refused2 .ensures) refl refl refl
 
 refused-requires-3 : tie.Need-refused-requires-3
 refused-requires-3 c κs = search needs
@@ -42,7 +44,7 @@ returns-3 c =
     let a = c .before .before .before .before .before .before .before .args in
     let e = restart-1 (a .disk .now) (a .memory .now) (a .tail .now) (a .allowed)
     (rw (eq-eqb (length (a .disk .now)) 33691 (c .before .before .before .if1 .left), eq-eqb (length (a .memory .now)) 4096 (c .before .before .if2 .left), ne-eqb (length (a .tail .now)) 16384 (c .before .if3 .taken))) in
-    (c .refused3 .ensures ∙ sym (ap (λ (o : Outcome). o .result) e), (sym (ap (λ (o : Outcome). o .disk) e), (sym (ap (λ (o : Outcome). o .memory) e), sym (ap (λ (o : Outcome). o .tail) e))))
+    told e (c .refused3 .ensures) refl refl refl
 
 examine-requires : tie.Need-examine-requires
 examine-requires c κs = search needs
@@ -64,10 +66,12 @@ returns-4 c =
     let a = c .before .before .before .before .before .before .before .before .before .before .before .before .before .before .before .before .before .args in
     let x = c .before .before .before .before .before .before .before .examine in
     let n = ap (λ (r : Examined). r .number) (x .ensures .0) in
-    let e = restart-refused (a .disk .now) (a .memory .now) (a .tail .now) (a .allowed) (c .before .before .before .before .before .before .before .before .before .before .before .before .before .if1 .left) (c .before .before .before .before .before .before .before .before .before .before .before .before .if2 .left) (c .before .before .before .before .before .before .before .before .before .before .before .if3 .left) (λ z. c .before .if4 .taken (n ∙ z)) in (
-      c .refused4 .ensures ∙ (ap refusedRestart n ∙ sym (ap (λ (o : Outcome). o .result) e)),
-      (sym (ap (λ (o : Outcome). o .disk) e), (x .ensures .1 .0 ∙ sym (ap (λ (o : Outcome). o .memory) e), x .ensures .1 .1 ∙ sym (ap (λ (o : Outcome). o .tail) e))),
-    )
+    told
+    (restart-refused (a .disk .now) (a .memory .now) (a .tail .now) (a .allowed) (c .before .before .before .before .before .before .before .before .before .before .before .before .before .if1 .left) (c .before .before .before .before .before .before .before .before .before .before .before .before .if2 .left) (c .before .before .before .before .before .before .before .before .before .before .before .if3 .left) (λ z. c .before .if4 .taken (n ∙ z)))
+    (c .refused4 .ensures ∙ ap refusedRestart n)
+    refl
+    (x .ensures .1 .0)
+    (x .ensures .1 .1)
 
 sub-clear-down : tie.Need-sub-clear-down
 sub-clear-down c = search needs
@@ -88,6 +92,14 @@ within c = omega (arith, roomy (c .before .before .before .before .before .befor
 -- the stores made
 made : (c : tie.After-clear-down) → c .clear-down .result ≡ min (c .before .before .before .before .before .before .before .before .before .before .before .before .before .before .before .before .before .before .args .allowed) (length (clearing (c .before .before .before .before .before .before .before .before .examine .result .end)))
 made c = c .clear-down .ensures .0 ∙ ap (λ (n : ℕ). min (c .before .before .before .before .before .before .before .before .before .before .before .before .before .before .before .before .before .before .args .allowed) n) (log-count (c .before .before .before .before .before .before .before .before .examine .result .end) (c .before .before .before .before .before .before .before .before .before .before .before .before .before .before .before .before .before .before .args .disk .now) (c .before .before .before .before .before .before .before .before .before .before .before .before .before .before .if1 .left))
+
+-- what they leave on the disk
+emptied : (c : tie.After-clear-down) → putMid 17307 (length (c .before .before .before .before .before .before .before .before .before .before .before .before .before .before .before .before .before .before .args .disk .now) - 17307) (c .before .before .before .before .before .before .before .before .before .before .before .before .before .before .before .before .before .before .args .disk .now) (c .clear-down .last .0)
+    ≡ apply (take (c .before .before .before .before .before .before .before .before .before .before .before .before .before .before .before .before .before .before .args .allowed) (clearing (examineOf (c .before .before .before .before .before .before .before .before .before .before .before .before .before .before .before .before .before .before .args .disk .now) .result .end))) (c .before .before .before .before .before .before .before .before .before .before .before .before .before .before .before .before .before .before .args .disk .now)
+emptied c =
+    let a = c .before .before .before .before .before .before .before .before .before .before .before .before .before .before .before .before .before .before .args in
+    log-cleared (a .allowed) (c .before .before .before .before .before .before .before .before .examine .result .end) (a .disk .now) (c .clear-down .last .0) (c .before .before .before .before .before .before .before .before .before .before .before .before .before .before .if1 .left) (c .clear-down .ensures .1)
+    ∙ ap (λ (k : ℕ). apply (take (a .allowed) (clearing k)) (a .disk .now)) (ap (λ (r : Examined). r .end) (c .before .before .before .before .before .before .before .before .examine .ensures .0))
 
 sub-if5 : tie.Need-sub-if5
 sub-if5 c = within (c .before .before .before .before .before .before .before .before .before .before)
@@ -114,23 +126,17 @@ returns-5 : tie.Need-returns-5
 returns-5 c =
     let a = c .before .before .before .before .before .before .before .before .before .before .before .before .before .before .before .before .before .before .before .before .before .before .before .before .before .before .before .before .before .before .args in
     let x = c .before .before .before .before .before .before .before .before .before .before .before .before .before .before .before .before .before .before .before .before .examine in
-    let end = x .result .end in
+    let l = length-clears (17307 + x .result .end) (16384 - x .result .end) in
     let f = ap (λ (r : Examined). r .end) (x .ensures .0) in
-    let l = length-clears (17307 + end) (16384 - end) in
     let n : c .before .before .before .before .before .before .before .before .before .before .before .before .clear-down .result ≡ a .allowed = omega (arith, made (c .before .before .before .before .before .before .before .before .before .before .before .before), c .before .before .before .before .before .before .before .before .before .if5 .taken) in
-    let e = restart-cut (a .disk .now) (a .memory .now) (a .tail .now) (a .allowed) (c .before .before .before .before .before .before .before .before .before .before .before .before .before .before .before .before .before .before .before .before .before .before .before .before .before .before .if1 .left) (c .before .before .before .before .before .before .before .before .before .before .before .before .before .before .before .before .before .before .before .before .before .before .before .before .before .if2 .left) (c .before .before .before .before .before .before .before .before .before .before .before .before .before .before .before .before .before .before .before .before .before .before .before .before .if3 .left)
+    told
+    (restart-cut (a .disk .now) (a .memory .now) (a .tail .now) (a .allowed) (c .before .before .before .before .before .before .before .before .before .before .before .before .before .before .before .before .before .before .before .before .before .before .before .before .before .before .if1 .left) (c .before .before .before .before .before .before .before .before .before .before .before .before .before .before .before .before .before .before .before .before .before .before .before .before .before .if2 .left) (c .before .before .before .before .before .before .before .before .before .before .before .before .before .before .before .before .before .before .before .before .before .before .before .before .if3 .left)
     (sym (ap (λ (r : Examined). r .number) (x .ensures .0)) ∙ c .before .before .before .before .before .before .before .before .before .before .before .before .before .before .if4 .left)
-    (omega (arith, made (c .before .before .before .before .before .before .before .before .before .before .before .before), c .before .before .before .before .before .before .before .before .before .if5 .taken)) in (
-      ap₂ (λ (k : ℕ) (s : State). record { answer = Cut; undone = 0; stores = k; state = s }) n (c .unrecovered .ensures) ∙ sym (ap (λ (o : Outcome). o .result) e),
-      (
-        log-cleared (a .allowed) end (a .disk .now) (c .before .before .before .before .before .before .before .before .before .before .before .before .clear-down .last .0) (c .before .before .before .before .before .before .before .before .before .before .before .before .before .before .before .before .before .before .before .before .before .before .before .before .before .before .if1 .left) (c .before .before .before .before .before .before .before .before .before .before .before .before .clear-down .ensures .1)
-            ∙ (ap (λ (k : ℕ). apply (take (a .allowed) (clearing k)) (a .disk .now)) f ∙ sym (ap (λ (o : Outcome). o .disk) e)),
-        (
-          c .before .before .before .before .before .before .before .fill-zero .ensures ∙ (ap (λ (k : ℕ). replicate k 0) (x .kept .1 .0 ∙ c .before .before .before .before .before .before .before .before .before .before .before .before .before .before .before .before .before .before .before .before .before .before .before .before .before .if2 .left) ∙ sym (ap (λ (o : Outcome). o .memory) e)),
-          c .before .before .before .fill-zero2 .ensures ∙ (ap (λ (k : ℕ). replicate k 0) (x .kept .1 .1 .0 ∙ c .before .before .before .before .before .before .before .before .before .before .before .before .before .before .before .before .before .before .before .before .before .before .before .before .if3 .left) ∙ sym (ap (λ (o : Outcome). o .tail) e)),
-        ),
-      ),
-    )
+    (omega (arith, c .before .before .before .before .before .before .before .before .before .if5 .taken)))
+    (ap₂ (λ (k : ℕ) (s : State). record { answer = Cut; undone = 0; stores = k; state = s }) n (c .unrecovered .ensures))
+    (emptied (c .before .before .before .before .before .before .before .before .before .before .before .before))
+    (c .before .before .before .before .before .before .before .fill-zero .ensures ∙ ap (λ (k : ℕ). replicate k 0) (x .kept .1 .0 ∙ c .before .before .before .before .before .before .before .before .before .before .before .before .before .before .before .before .before .before .before .before .before .before .before .before .before .if2 .left))
+    (c .before .before .before .fill-zero2 .ensures ∙ ap (λ (k : ℕ). replicate k 0) (x .kept .1 .1 .0 ∙ c .before .before .before .before .before .before .before .before .before .before .before .before .before .before .before .before .before .before .before .before .before .before .before .before .if3 .left))
 
 cast-recovered : tie.Need-cast-recovered
 cast-recovered c = omega (arith, within (c .before .before .before .before .before .before .before .before .before .before .before .before .before))
@@ -151,21 +157,17 @@ returns-6 : tie.Need-returns-6
 returns-6 c =
     let a = c .before .before .before .before .before .before .before .before .before .before .before .before .before .before .before .before .before .before .before .before .before .before .before .before .args in
     let x = c .before .before .before .before .before .before .before .before .before .before .before .before .before .before .examine in
-    let end = x .result .end in
+    let l = length-clears (17307 + x .result .end) (16384 - x .result .end) in
     let f = ap (λ (r : Examined). r .end) (x .ensures .0) in
-    let l = length-clears (17307 + end) (16384 - end) in
-    let e = restart-done (a .disk .now) (a .memory .now) (a .tail .now) (a .allowed) (c .before .before .before .before .before .before .before .before .before .before .before .before .before .before .before .before .before .before .before .before .if1 .left) (c .before .before .before .before .before .before .before .before .before .before .before .before .before .before .before .before .before .before .before .if2 .left) (c .before .before .before .before .before .before .before .before .before .before .before .before .before .before .before .before .before .before .if3 .left)
+    told
+    (restart-done (a .disk .now) (a .memory .now) (a .tail .now) (a .allowed) (c .before .before .before .before .before .before .before .before .before .before .before .before .before .before .before .before .before .before .before .before .if1 .left) (c .before .before .before .before .before .before .before .before .before .before .before .before .before .before .before .before .before .before .before .if2 .left) (c .before .before .before .before .before .before .before .before .before .before .before .before .before .before .before .before .before .before .if3 .left)
     (sym (ap (λ (r : Examined). r .number) (x .ensures .0)) ∙ c .before .before .before .before .before .before .before .before .if4 .left)
-    (omega (arith, made (c .before .before .before .before .before .before), c .before .before .before .if5 .left)) in (
-      ap₂ (λ (k : ℕ) (s : State). record { answer = Done; undone = x .result .undone; stores = k; state = s }) (made (c .before .before .before .before .before .before)) (c .recovered .ensures)
-          ∙ (ap (λ (r : Examined). record { answer = Done; undone = r .undone; stores = min (a .allowed) (length (clearing (r .end))); state = recoveredState (r .end) (r .csn) (r .last) }) (x .ensures .0)
-          ∙ sym (ap (λ (o : Outcome). o .result) e)),
-      (
-        log-cleared (a .allowed) end (a .disk .now) (c .before .before .before .before .before .before .clear-down .last .0) (c .before .before .before .before .before .before .before .before .before .before .before .before .before .before .before .before .before .before .before .before .if1 .left) (c .before .before .before .before .before .before .clear-down .ensures .1)
-            ∙ (ap (λ (k : ℕ). apply (take (a .allowed) (clearing k)) (a .disk .now)) f ∙ sym (ap (λ (o : Outcome). o .disk) e)),
-        (x .ensures .1 .0 ∙ sym (ap (λ (o : Outcome). o .memory) e), x .ensures .1 .1 ∙ sym (ap (λ (o : Outcome). o .tail) e)),
-      ),
-    )
+    (omega (arith, made (c .before .before .before .before .before .before), c .before .before .before .if5 .left)))
+    (ap₂ (λ (k : ℕ) (s : State). record { answer = Done; undone = x .result .undone; stores = k; state = s }) (made (c .before .before .before .before .before .before)) (c .recovered .ensures)
+    ∙ ap (λ (r : Examined). record { answer = Done; undone = r .undone; stores = min (a .allowed) (length (clearing (r .end))); state = recoveredState (r .end) (r .csn) (r .last) }) (x .ensures .0))
+    (emptied (c .before .before .before .before .before .before))
+    (x .ensures .1 .0)
+    (x .ensures .1 .1)
 
 pub restart-spec : {M : Type 1} → statement M
 restart-spec =

@@ -10,8 +10,8 @@ use Rattle.image.specs.declared.Image.{Image}
 use Rattle.image.specs.Rules.{keepsRules}
 use Rattle.restart.specs.declared.Recovered.{Recovered}
 use Rattle.restart.specs.Restart.{Outcome, restartOf}
-use Rattle.disk.specs.Examine.{Meaning, stepsOf}
-use Rattle.disk.proofs.Examining.{keeps, keeps-end, steps-are, end-within, undone-within, means-3, means-4, means-5, means}
+use Rattle.disk.specs.Examine.{stepsOf}
+use Rattle.disk.proofs.Examining.{keeps, keeps-end, steps-are, end-within, undone-within, told, means-3, means-4, means-5, means}
 use Rattle.disk.proofs.examine.examine.Statement.{statement}
 use Rattle.disk.proofs.examine.examine.Tie as tie
 
@@ -31,7 +31,7 @@ returns : tie.Need-returns
 returns c =
     let r = c .before .before .before .before .refuse .ensures in
     let e = means-3 (c .before .before .before .before .before .before .before .before .before .before .before .before .args .disk .now) (c .before .before .before .before .before .before .before .if1 .taken) in
-    (r .0 ∙ sym (ap (λ (m : Meaning). m .result) e), (r .1 .0 ∙ sym (ap (λ (m : Meaning). m .memory) e), r .1 .1 ∙ sym (ap (λ (m : Meaning). m .tail) e)))
+    told e (r .0) (r .1 .0) (r .1 .1)
 
 load-requires : tie.Need-load-requires
 load-requires c κs = search needs
@@ -50,7 +50,7 @@ returns-2 c =
     let r = c .before .before .before .before .refuse2 .ensures in
     let l = c .before .before .before .before .before .before .before .before .before .before .before .load in
     let e = means-4 (c .before .before .before .before .before .before .before .before .before .before .before .before .before .before .before .before .before .before .args .disk .now) (c .before .before .before .before .before .before .before .before .before .before .before .before .before .if1 .left) (l .result) (l .last .1 .1 .0) (l .ensures .0) (l .ensures .1) (not-yes _ (c .before .before .before .before .before .before .before .if2 .taken)) in
-    (r .0 ∙ sym (ap (λ (m : Meaning). m .result) e), (r .1 .0 ∙ sym (ap (λ (m : Meaning). m .memory) e), r .1 .1 ∙ sym (ap (λ (m : Meaning). m .tail) e)))
+    told e (r .0) (r .1 .0) (r .1 .1)
 
 -- the image that was loaded
 kept : (c : tie.Else2) → keepsRules (c .before .before .before .before .load .result .image) ≡ true
@@ -101,6 +101,12 @@ steps c = steps-are (imageAt c) (diskAt c) (memoryAt c) _ (c .before .before .be
 found : (c : tie.After-recover) → c .recover .result ≡ stepsOf (imageAt c) (memoryAt c) (diskAt c) .answer
 found c = c .recover .ensures .0 ∙ ap (λ (o : Outcome). o .answer) (steps c)
 
+remembered : (c : tie.After-recover) → c .recover .last .1 .1 .0 ≡ stepsOf (imageAt c) (memoryAt c) (diskAt c) .memory
+remembered c = c .recover .ensures .1 .0 ∙ ap (λ (o : Outcome). o .memory) (steps c)
+
+appended : (c : tie.After-recover) → c .recover .last .1 .1 .1 .0 ≡ stepsOf (imageAt c) (memoryAt c) (diskAt c) .tail
+appended c = c .recover .ensures .1 .1 ∙ ap (λ (o : Outcome). o .tail) (steps c)
+
 ends : (c : tie.After-recover) → imageAt c .logend + c .recover .result .end ≤ 16384
 ends c = omega (arith, end-within (imageAt c) (kept (c .before .before .before .before .before .before .before .before .before .before)) (memoryAt c) (diskAt c) (c .before .before .before .before .before .before .before .before .before .before .before .before .before .before .before .before .before .before .before .before .before .pre .0), ap (λ (r : Recovered). r .end) (found c))
 
@@ -139,7 +145,7 @@ returns-3 c =
     let f = found (c .before .before .before .before .before .before .before .before .before .before .before .before .before .before) in
     let e = means-5 (c .before .before .before .before .before .before .before .before .before .before .before .before .before .before .before .before .before .before .before .before .before .before .before .before .before .before .before .before .before .before .before .before .before .before .before .args .disk .now) (c .before .before .before .before .before .before .before .before .before .before .before .before .before .before .before .before .before .before .before .before .before .before .before .before .before .before .before .before .before .before .if1 .left) (l .result) (l .last .1 .1 .0) (l .ensures .0) (l .ensures .1) (not-no _ (c .before .before .before .before .before .before .before .before .before .before .before .before .before .before .before .before .before .before .before .before .before .before .before .before .if2 .left))
     (omega (arith, c .before .before .before .before .before .before .before .if3 .taken, ap (λ (x : Recovered). x .end) f, ap (λ (x : Recovered). x .undone) f)) in
-    (r .0 ∙ sym (ap (λ (m : Meaning). m .result) e), (r .1 .0 ∙ sym (ap (λ (m : Meaning). m .memory) e), r .1 .1 ∙ sym (ap (λ (m : Meaning). m .tail) e)))
+    told e (r .0) (r .1 .0) (r .1 .1)
 
 same-length-7 : tie.Need-same-length-7
 same-length-7 c = memory-whole (c .before .before .before .before .before .before .before .before .before .before) ∙ sym (c .before .before .before .before .before .before .before .before .before .before .before .before .before .before .before .before .before .before .before .before .before .before .before .before .before .before .before .before .before .before .before .pre .1)
@@ -149,19 +155,14 @@ same-length-8 c = search needs
 
 returns-4 : tie.Need-returns-4
 returns-4 c =
-    let r = c .before .before .before .before .before .before .before .before .before .before .recover .ensures in
     let l = c .before .before .before .before .before .before .before .before .before .before .before .before .before .before .before .before .before .before .before .before .before .before .before .before .load in
     let f = found (c .before .before .before .before .before .before .before .before .before .before) in
-    let s = steps (c .before .before .before .before .before .before .before .before .before .before) in
     let e = means (c .before .before .before .before .before .before .before .before .before .before .before .before .before .before .before .before .before .before .before .before .before .before .before .before .before .before .before .before .before .before .before .args .disk .now) (c .before .before .before .before .before .before .before .before .before .before .before .before .before .before .before .before .before .before .before .before .before .before .before .before .before .before .if1 .left) (l .result) (l .last .1 .1 .0) (l .ensures .0) (l .ensures .1) (not-no _ (c .before .before .before .before .before .before .before .before .before .before .before .before .before .before .before .before .before .before .before .before .if2 .left))
-    (omega (arith, c .before .before .before .if3 .left, ap (λ (x : Recovered). x .end) f, ap (λ (x : Recovered). x .undone) f)) in (
-      ap (λ (x : Recovered). record { number = 0; end = l .result .image .logend + x .end; csn = x .csn; last = x .last; undone = x .undone; found = x .found }) f
-          ∙ sym (ap (λ (m : Meaning). m .result) e),
-      (
-        r .1 .0 ∙ (ap (λ (o : Outcome). o .memory) s ∙ sym (ap (λ (m : Meaning). m .memory) e)),
-        r .1 .1 ∙ (ap (λ (o : Outcome). o .tail) s ∙ sym (ap (λ (m : Meaning). m .tail) e)),
-      ),
-    )
+    (omega (arith, c .before .before .before .if3 .left, ap (λ (x : Recovered). x .end) f, ap (λ (x : Recovered). x .undone) f)) in
+    told e
+    (ap (λ (x : Recovered). record { number = 0; end = l .result .image .logend + x .end; csn = x .csn; last = x .last; undone = x .undone; found = x .found }) f)
+    (remembered (c .before .before .before .before .before .before .before .before .before .before))
+    (appended (c .before .before .before .before .before .before .before .before .before .before))
 
 pub examine-spec : {M : Type 1} → statement M
 examine-spec =
