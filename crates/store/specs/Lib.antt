@@ -1,4 +1,4 @@
--- The store in memory: the state, number 2, the refusals of each call in the list's order, and what each call leaves.
+-- The store: the state, number 2, the refusals of each call in the list's order, and what each call leaves in memory, tail and disk.
 pub mod State
 pub mod Answer
 pub mod Rules

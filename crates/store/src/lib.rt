@@ -1,4 +1,5 @@
-// The state between calls, and the calls that work in memory alone: begin, write, read and its sister, precommit, abort and settle.
+// The state between calls, and every call but restart: begin, write, read and its sister, precommit, abort and settle in memory alone, flush and
+// checkpoint with counted stores on the disk.
 pub mod admit;
 pub mod call;
 pub mod checkpoint;
