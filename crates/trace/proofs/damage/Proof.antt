@@ -1,0 +1,46 @@
+use borrow.Author.Needs.{needs}
+use native.Mathlib.Omega.{arith}
+use lib.ListN.{length-take}
+use Rattle.trace.proofs.damage.Statement.{statement}
+use Rattle.trace.proofs.damage.Tie as tie
+
+returns : tie.Need-returns
+returns c = search needs
+
+sub-room : tie.Need-sub-room
+sub-room c = search needs
+
+slice-aggregate-copy : tie.Need-slice-aggregate-copy
+slice-aggregate-copy c = simp length-take (omega arith)
+
+copy-requires : tie.Need-copy-requires
+copy-requires c κs = simp length-take (omega arith)
+
+same-length : tie.Need-same-length
+same-length c = search needs
+
+returns-2 : tie.Need-returns-2
+returns-2 c = search needs
+
+copy-requires-2 : tie.Need-copy-requires-2
+copy-requires-2 c κs = search needs
+
+same-length-2 : tie.Need-same-length-2
+same-length-2 c = search needs
+
+returns-3 : tie.Need-returns-3
+returns-3 c = search needs
+
+pub damage-spec : {M : Type 1} → statement M
+damage-spec =
+    tie.close
+    (tie.spec
+    returns
+    sub-room
+    slice-aggregate-copy
+    copy-requires
+    same-length
+    returns-2
+    copy-requires-2
+    same-length-2
+    returns-3)

@@ -1,0 +1,129 @@
+// The line that a call prints.
+use libc::STDOUT_FILENO;
+use store::Answer;
+use store::State;
+
+// read prints the length of its part in place of an answer; each other call prints its answer.
+pub struct Outcome {
+    pub part: bool,
+    pub length: usize,
+    pub answer: Answer,
+    pub value: usize,
+    pub stores: usize,
+    pub state: State,
+}
+
+impl Outcome {
+    pub(crate) fn stored(answer: Answer, value: usize, stores: usize, state: State) -> Self {
+        Outcome {
+            part: false,
+            length: 0,
+            answer: answer,
+            value: value,
+            stores: stores,
+            state: state,
+        }
+    }
+
+    pub(crate) fn read(part: &[u8], state: State) -> Self {
+        Outcome {
+            part: true,
+            length: part.len(),
+            answer: Answer::Done,
+            value: adler(part) as usize,
+            stores: 0,
+            state: state,
+        }
+    }
+}
+
+fn plus(sum: u32, x: u32) -> u32 {
+    (sum % 65521 + x % 65521) % 65521
+}
+
+fn byte(x: u8) -> u32 {
+    x as u32
+}
+
+// Adler-32 (RFC 1950).
+pub(crate) fn adler(s: &[u8]) -> u32 {
+    let mut a: u32 = 1;
+    let mut b: u32 = 0;
+    let mut i: usize = 0;
+    while i < s.len() {
+        a = plus(a, byte(s[i]));
+        b = plus(b, a);
+        i += 1;
+    }
+    (b % 65521) * 65536 + a % 65521
+}
+
+fn text(s: &[u8]) {
+    io::write_all(STDOUT_FILENO, s);
+}
+
+fn number(n: usize) {
+    io::print_decimal(STDOUT_FILENO, n as u64);
+}
+
+fn blank_number(n: usize) {
+    text(b" ");
+    number(n);
+}
+
+fn comma_number(n: usize) {
+    text(b",");
+    number(n);
+}
+
+pub(crate) fn print_unknown() {
+    text(b"unknown\n");
+}
+
+fn print_answer(answer: Answer) {
+    match answer {
+        Answer::Done => {
+            text(b" done");
+        }
+        Answer::Cut => {
+            text(b" cut");
+        }
+        Answer::Refused(n) => {
+            text(b" refused=");
+            number(n as usize);
+        }
+    }
+}
+
+// Recovered, log end, number on disk, number assigned, last id, transactions listed.
+fn print_state(s: State) {
+    if s.recovered {
+        text(b" 1");
+    } else {
+        text(b" 0");
+    }
+    comma_number(s.logend as usize);
+    comma_number(s.ondisk.0 as usize);
+    comma_number(s.assigned.0 as usize);
+    comma_number(s.lastid.0 as usize);
+    comma_number(s.count as usize);
+    text(b"\n");
+}
+
+pub(crate) fn print_line(call: u8, out: Outcome, disk: &[u8], memory: &[u8], tail: &[u8]) {
+    number(call as usize);
+    if out.part {
+        text(b" part=");
+        number(out.length);
+    } else {
+        let answer = out.answer;
+        print_answer(answer);
+    }
+    blank_number(out.value);
+    blank_number(out.stores);
+    blank_number(adler(disk) as usize);
+    blank_number(adler(memory) as usize);
+    blank_number(adler(tail) as usize);
+    let state = out.state;
+    print_state(state);
+}

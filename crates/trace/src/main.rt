@@ -1,0 +1,160 @@
+// trace: a stream of calls on standard input, 64 bytes each; after each call one line of what it answered and left (docs/TESTING.md).
+mod line;
+mod record;
+
+use crate::line::Outcome;
+use crate::line::print_line;
+use crate::line::print_unknown;
+use crate::record::Record;
+use crate::record::data_of;
+use crate::record::read_record;
+use disk::call::restart;
+use libc::STDIN_FILENO;
+use log::stores::copy;
+use store::Answer;
+use store::State;
+
+fn fill(b: &mut [u8], value: u8) {
+    let mut i: usize = 0;
+    while i < b.len() {
+        b[i] = value;
+        i += 1;
+    }
+}
+
+// The bytes of src that lie on the disk from an offset on.
+fn damage(disk: &mut [u8], at: usize, src: &[u8]) {
+    if disk.len() <= at {
+        return;
+    }
+    let room = disk.len() - at;
+    if room < src.len() {
+        copy(disk, at, &src[..room]);
+        return;
+    }
+    copy(disk, at, src);
+}
+
+// The calls that store on the disk, and what befalls it.
+fn disk_call(
+    r: Record,
+    data: &[u8],
+    s: State,
+    disk: &mut [u8],
+    memory: &mut [u8],
+    tail: &mut [u8],
+) -> Outcome {
+    if r.call == 7 {
+        let x = s.flush(disk, memory, tail, r.groups, r.allowed);
+        let answer = x.answer;
+        let state = x.state;
+        return Outcome::stored(answer, 0, x.stores, state);
+    }
+    if r.call == 9 {
+        let x = s.checkpoint(disk, memory, tail, r.allowed);
+        let answer = x.answer;
+        let state = x.state;
+        return Outcome::stored(answer, 0, x.stores, state);
+    }
+    if r.call == 10 {
+        let x = restart(disk, memory, tail, r.allowed);
+        let answer = x.answer;
+        let state = x.state;
+        return Outcome::stored(answer, x.undone, x.stores, state);
+    }
+    if r.call == 11 {
+        fill(memory, 165);
+        fill(tail, 165);
+        let none = State::unrecovered();
+        return Outcome::stored(Answer::Done, 0, 0, none);
+    }
+    damage(disk, r.addr, data);
+    Outcome::stored(Answer::Done, 0, 0, s)
+}
+
+// The calls that work in memory.
+fn memory_call(r: Record, data: &[u8], s: State, memory: &mut [u8], tail: &mut [u8]) -> Outcome {
+    let id = r.id;
+    if r.call == 1 {
+        let x = s.begin(&*memory, &*tail);
+        let answer = x.answer;
+        let state = x.state;
+        return Outcome::stored(answer, x.id.0 as usize, 0, state);
+    }
+    if r.call == 2 {
+        let x = s.write(memory, &*tail, id, r.addr, data);
+        let answer = x.answer;
+        let state = x.state;
+        return Outcome::stored(answer, 0, 0, state);
+    }
+    if r.call == 3 {
+        let part = s.read(&*memory, &*tail, id, r.addr, r.len);
+        return Outcome::read(part, s);
+    }
+    if r.call == 4 {
+        let x = s.read_answer(&*memory, &*tail, id, r.addr, r.len);
+        let answer = x.answer;
+        let state = x.state;
+        return Outcome::stored(answer, 0, 0, state);
+    }
+    if r.call == 5 {
+        let x = s.precommit(&*memory, tail, id);
+        let answer = x.answer;
+        let state = x.state;
+        return Outcome::stored(answer, x.csn.0 as usize, 0, state);
+    }
+    if r.call == 6 {
+        let x = s.abort(memory, tail, id);
+        let answer = x.answer;
+        let state = x.state;
+        return Outcome::stored(answer, 0, 0, state);
+    }
+    let x = s.settle(&*memory, &*tail, id);
+    let answer = x.answer;
+    let state = x.state;
+    Outcome::stored(answer, 0, 0, state)
+}
+
+// One record: the call, its line, and the state that it leaves.
+fn step(bytes: &[u8], s: State, disk: &mut [u8], memory: &mut [u8], tail: &mut [u8]) -> State {
+    let r = read_record(bytes);
+    let call = r.call;
+    if call < 1 {
+        print_unknown();
+        return s;
+    }
+    if 12 < call {
+        print_unknown();
+        return s;
+    }
+    let mut on_disk = call == 7;
+    if 8 < call {
+        on_disk = true;
+    }
+    if on_disk {
+        let out = disk_call(r, data_of(bytes), s, disk, memory, tail);
+        print_line(call, out, &*disk, &*memory, &*tail);
+        return out.state;
+    }
+    let out = memory_call(r, data_of(bytes), s, memory, tail);
+    print_line(call, out, &*disk, &*memory, &*tail);
+    out.state
+}
+
+fn main() {
+    let mut disk = [0u8; 33691];
+    let mut memory = [0u8; 4096];
+    let mut tail = [0u8; 16384];
+    let mut record = [0u8; 64];
+    let mut s = State::unrecovered();
+    // A proved loop ends: it counts down from a number that no stream uses up.
+    let mut turns = u64::MAX;
+    while 0 < turns {
+        turns = turns - 1;
+        let n = io::read_full(STDIN_FILENO, &mut record);
+        if n < 64 {
+            return;
+        }
+        s = step(&record, s, &mut disk, &mut memory, &mut tail);
+    }
+}

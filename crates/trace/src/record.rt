@@ -1,0 +1,55 @@
+// The 64 bytes of a record, numbers highest byte first.
+use log::TxId;
+use log::number::be16;
+use log::number::be32;
+ghost use mathlib.Core.Path.{_≡_};
+
+pub struct Record {
+    pub call: u8,
+    pub id: TxId,
+    pub addr: usize,
+    pub len: usize,
+    pub groups: usize,
+    pub allowed: usize,
+}
+
+// All zero, which is no call, where the bytes are not 64.
+pub(crate) fn read_record(b: &[u8]) -> Record {
+    if b.len() != 64 {
+        return Record {
+            call: 0,
+            id: TxId(0),
+            addr: 0,
+            len: 0,
+            groups: 0,
+            allowed: 0,
+        };
+    }
+    Record {
+        call: b[0],
+        id: TxId(be16(b, 2)),
+        addr: be32(b, 4) as usize,
+        len: be32(b, 8) as usize,
+        groups: be32(b, 12) as usize,
+        allowed: be32(b, 16) as usize,
+    }
+}
+
+// The data bytes; a count above 40 counts as 40.
+pub(crate) fn data_of(b: &[u8]) -> &[u8] {
+    if b.len() != 64 {
+        return &b[0..0];
+    }
+    let n = b[1];
+    if 40 < n {
+        return &b[24..64];
+    }
+    let end = 24 + wide(n);
+    &b[24..end]
+}
+
+fn wide(x: u8) -> usize
+    ensures { λ r. ⌜ r ≡ x ⌝ }
+{
+    x as usize
+}
