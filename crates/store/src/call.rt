@@ -25,7 +25,7 @@ pub struct Returned {
 }
 
 impl State {
-    pub fn begin(self, memory: &[u8], tail: &[u8]) -> Begun
+    pub fn begin(mut self, memory: &[u8], tail: &[u8]) -> Begun
         ensures { λ r. ⌜ r ≡ beginOf self (now (memory .entry)) (now (tail .entry)) ⌝ }
     {
         let admitted = self.admit(memory.len(), tail);
@@ -54,7 +54,7 @@ impl State {
     }
 
     pub fn write(
-        self,
+        mut self,
         memory: &mut [u8],
         tail: &[u8],
         id: TxId,
@@ -109,7 +109,7 @@ impl State {
 
     // Read's sister: the number that read refuses with.
     pub fn read_answer(
-        self,
+        mut self,
         memory: &[u8],
         tail: &[u8],
         id: TxId,
@@ -138,7 +138,7 @@ impl State {
         }
     }
 
-    pub fn precommit(self, memory: &[u8], tail: &mut [u8], id: TxId) -> Precommitted
+    pub fn precommit(mut self, memory: &[u8], tail: &mut [u8], id: TxId) -> Precommitted
         ensures { λ r. ⌜ r ≡ precommitOf self (now (memory .entry)) (now (tail .entry)) id .result ⌝ }
         ensures { λ _. ⌜ now (tail .exit) ≡ precommitOf self (now (memory .entry)) (now (tail .entry)) id .tail ⌝ }
     {
@@ -167,7 +167,7 @@ impl State {
         }
     }
 
-    pub fn abort(self, memory: &mut [u8], tail: &mut [u8], id: TxId) -> Returned
+    pub fn abort(mut self, memory: &mut [u8], tail: &mut [u8], id: TxId) -> Returned
         ensures { λ r. ⌜ r ≡ abortOf self (now (memory .entry)) (now (tail .entry)) id .result ⌝ }
         ensures { λ _. ⌜ now (memory .exit) ≡ abortOf self (now (memory .entry)) (now (tail .entry)) id .memory ⌝ }
         ensures { λ _. ⌜ now (tail .exit) ≡ abortOf self (now (memory .entry)) (now (tail .entry)) id .tail ⌝ }
@@ -193,7 +193,7 @@ impl State {
         }
     }
 
-    pub fn settle(self, memory: &[u8], tail: &[u8], id: TxId) -> Returned
+    pub fn settle(mut self, memory: &[u8], tail: &[u8], id: TxId) -> Returned
         ensures { λ r. ⌜ r ≡ settleOf self (now (memory .entry)) (now (tail .entry)) id ⌝ }
     {
         let admitted = self.admit(memory.len(), tail);

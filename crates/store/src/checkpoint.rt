@@ -62,7 +62,7 @@ impl State {
     }
 
     pub fn checkpoint(
-        self,
+        mut self,
         disk: &mut [u8],
         memory: &mut [u8],
         tail: &mut [u8],

@@ -23,7 +23,7 @@ impl State {
     }
 
     pub fn flush(
-        self,
+        mut self,
         disk: &mut [u8],
         memory: &mut [u8],
         tail: &mut [u8],
