@@ -13,7 +13,7 @@ ghost use Rattle.store.specs.Flush.{withLog, flushOf};
 
 impl State {
     // n bytes more in the log, and the last commit number on disk.
-    pub fn flush_step(mut self, n: usize, csn: Csn) -> Self
+    pub(crate) fn flush_step(mut self, n: usize, csn: Csn) -> Self
         requires { ⌜ self .logend + n ≤ 16384 ⌝ }
         ensures { λ r. ⌜ r ≡ withLog self (self .logend + n) csn ⌝ }
     {
