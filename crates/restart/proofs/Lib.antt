@@ -1,4 +1,4 @@
--- The laws of restart. Recovery: what `restartOf` leaves, in recovery's terms; Worked: cases M3 to M5. Under them: slots (SlotLaws), the image
+-- The laws of restart. Recovery: what `restartOf` leaves, in recovery's terms. Under them: slots (SlotLaws), the image
 -- rules (Rules), the pass over the log (RedoLaws, Steps, Passed), step 4 (Undos, Sort, Select), and the branches of the code (Cases).
 pub mod SlotLaws
 pub mod Rules
@@ -10,4 +10,3 @@ pub mod Undos
 pub mod Select
 pub mod Passed
 pub mod Recovery
-pub mod Worked

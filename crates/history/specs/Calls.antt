@@ -1,0 +1,112 @@
+-- Calls one after the other: "Each call gets the disk, memory, tail and state that the calls before it left or returned". A call's outcome is the
+-- definition that its contract cites.
+use Prim.Native.Nat.{ℕ}
+use mathlib.Core.List.{List, [], _∷_}
+use lib.ListN.{replicate}
+use Rattle.store.specs.declared.State.{State}
+use Rattle.store.specs.declared.Answer.{Answer}
+use Rattle.store.specs.declared.call.Begun.{Begun}
+use Rattle.store.specs.declared.call.Precommitted.{Precommitted}
+use Rattle.store.specs.declared.call.Returned.{Returned}
+use Rattle.store.specs.declared.stored.Stored.{Stored}
+use Rattle.store.specs.State.{unrecovered}
+use Rattle.store.specs.Calls.{Outcome, beginOf, writeOf, readOf, readAnswerOf, precommitOf, abortOf, settleOf}
+use Rattle.store.specs.Stored.{DiskOutcome}
+use Rattle.store.specs.Flush.{flushOf}
+use Rattle.store.specs.Checkpoint.{checkpointOf}
+use Rattle.disk.specs.Restart as restarts
+use Rattle.disk.specs.Restart.{restartOf}
+
+-- the nine calls and read's sister (`readAnswer`), with their arguments
+pub data Call : Type 0 where
+  begin : Call
+  write : (id addr : ℕ) (bytes : List ℕ) → Call
+  read : (id addr len : ℕ) → Call
+  readAnswer : (id addr len : ℕ) → Call
+  precommit : (id : ℕ) → Call
+  abort : (id : ℕ) → Call
+  flush : (groups allowed : ℕ) → Call
+  settle : (id : ℕ) → Call
+  checkpoint : (allowed : ℕ) → Call
+  restart : (allowed : ℕ) → Call
+
+-- what a call tells: its answer, a value (begin's id, precommit's commit number, restart's count of transactions undone, else 0) and the stores
+-- made; read hands back a part of memory
+pub data Reply : Type 0 where
+  told : (answer : Answer) (value stores : ℕ) → Reply
+  part : List ℕ → Reply
+
+-- what is lent to the calls, and the state between them
+pub record World : Type 0 where
+  pub disk : List ℕ
+  pub memory : List ℕ
+  pub tail : List ℕ
+  pub state : State
+
+-- "An all-zero disk is a fresh one", and no call was made yet
+abbrev pub fresh : World
+fresh = record { disk = replicate 33691 0; memory = replicate 4096 0; tail = replicate 16384 0; state = unrecovered }
+
+abbrev pub withState : State → World → World
+withState s w = record { disk = w .disk; memory = w .memory; tail = w .tail; state = s }
+
+pub record Stepped : Type 0 where
+  pub reply : Reply
+  pub world : World
+
+-- ---- of each kind of result: the reply, and the world that the call leaves
+
+abbrev pub begun : World → Begun → Stepped
+begun w r = record { reply = told (r .answer) (r .id .0) 0; world = withState (r .state) w }
+
+abbrev pub returned : World → Returned → Stepped
+returned w r = record { reply = told (r .answer) 0 0; world = withState (r .state) w }
+
+abbrev pub changed : World → Outcome Returned → Stepped
+changed w o = record { reply = told (o .result .answer) 0 0; world = record { disk = w .disk; memory = o .memory; tail = o .tail; state = o .result .state } }
+
+abbrev pub precommitted : World → Outcome Precommitted → Stepped
+precommitted w o =
+    record {
+      reply = told (o .result .answer) (o .result .csn .0) 0;
+      world = record { disk = w .disk; memory = o .memory; tail = o .tail; state = o .result .state };
+    }
+
+abbrev pub stored : DiskOutcome Stored → Stepped
+stored o =
+    record {
+      reply = told (o .result .answer) 0 (o .result .stores);
+      world = record { disk = o .disk; memory = o .memory; tail = o .tail; state = o .result .state };
+    }
+
+abbrev pub restarted : restarts.Outcome → Stepped
+restarted o =
+    record {
+      reply = told (o .result .answer) (o .result .undone) (o .result .stores);
+      world = record { disk = o .disk; memory = o .memory; tail = o .tail; state = o .result .state };
+    }
+
+-- one call
+unfoldable pub stepOf : Call → World → Stepped
+stepOf begin w = begun w (beginOf (w .state) (w .memory) (w .tail))
+stepOf (write id addr bytes) w = changed w (writeOf (w .state) (w .memory) (w .tail) (record { 0 = id }) addr bytes)
+stepOf (read id addr len) w = record { reply = part (readOf (w .state) (w .memory) (w .tail) (record { 0 = id }) addr len); world = w }
+stepOf (readAnswer id addr len) w = returned w (readAnswerOf (w .state) (w .memory) (w .tail) (record { 0 = id }) addr len)
+stepOf (precommit id) w = precommitted w (precommitOf (w .state) (w .memory) (w .tail) (record { 0 = id }))
+stepOf (abort id) w = changed w (abortOf (w .state) (w .memory) (w .tail) (record { 0 = id }))
+stepOf (flush groups allowed) w = stored (flushOf (w .state) (w .disk) (w .memory) (w .tail) groups allowed)
+stepOf (settle id) w = returned w (settleOf (w .state) (w .memory) (w .tail) (record { 0 = id }))
+stepOf (checkpoint allowed) w = stored (checkpointOf (w .state) (w .disk) (w .memory) (w .tail) allowed)
+stepOf (restart allowed) w = restarted (restartOf (w .disk) (w .memory) (w .tail) allowed)
+
+-- what a list of calls tells, and what it leaves
+pub record Ran : Type 0 where
+  pub replies : List Reply
+  pub world : World
+
+abbrev pub andRan : Reply → Ran → Ran
+andRan x r = record { replies = x ∷ r .replies; world = r .world }
+
+abbrev pub runOf : List Call → World → Ran
+runOf [] w = record { replies = []; world = w }
+runOf (c ∷ cs) w = andRan (stepOf c w .reply) (runOf cs (stepOf c w .world))

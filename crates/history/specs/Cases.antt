@@ -1,0 +1,166 @@
+-- Document 01, "Worked at the bench": M1 to M10 as one table over the definitions that the contracts cite. That each row holds is `worked`
+-- (proofs/Cases.antt), one proof over the table, by computation.
+use Prim.Native.Nat.{ℕ, zero, suc}
+use mathlib.Core.List.{List, [], _∷_, _++_, map}
+use mathlib.Core.Path.{_≡_}
+use lib.ListN.{getD, take, drop, replicate}
+use Rattle.store.specs.declared.Answer.the-variants.{Done, Cut, Refused}
+use Rattle.history.specs.Calls.{Call, begin, write, precommit, abort, flush, settle, checkpoint, restart, Reply, told, World, fresh, Ran, runOf}
+
+-- what is told, call by call, and what is looked at in the end
+pub record Shown : Type 0 where
+  pub replies : List Reply
+  pub seen : List ℕ
+
+-- the calls on a fresh disk, where to look, and what document 01 says
+pub record Row : Type 0 where
+  pub calls : List Call
+  pub look : World → List ℕ
+  pub expected : Shown
+
+-- ---- where to look
+
+abbrev pub nowhere : World → List ℕ
+nowhere w = []
+
+abbrev pub logFront : ℕ → World → List ℕ
+logFront n w = take n (drop 17307 (w .disk))
+
+abbrev pub logEnd : World → List ℕ
+logEnd w = w .state .logend ∷ []
+
+abbrev pub byteAt : ℕ → World → List ℕ
+byteAt a w = getD (w .memory) a 0 ∷ []
+
+-- the byte, and the abort records of those undone
+abbrev pub byteAndTail : ℕ → World → List ℕ
+byteAndTail a w = getD (w .memory) a 0 ∷ take 12 (w .tail)
+
+-- ---- calls and replies that recur
+
+-- the uncut restart of a fresh disk that each case but M2 opens with
+abbrev pub opened : Reply
+opened = told Done 0 16384
+
+abbrev pub done : Reply
+done = told Done 0 0
+
+abbrev pub refused : ℕ → Reply
+refused n = told (Refused n) 0 0
+
+-- n times: a transaction without writes, flushed and settled; the first has id and commit number i
+abbrev pub rounds : ℕ → ℕ → List Call
+rounds zero i = begin ∷ []
+rounds (suc n) i = begin ∷ precommit i ∷ flush 1 8 ∷ settle i ∷ rounds n (suc i)
+
+abbrev pub roundReplies : ℕ → ℕ → List Reply
+roundReplies zero i = refused 13 ∷ []
+roundReplies (suc n) i = told Done i 0 ∷ told Done i 0 ∷ told Done 0 8 ∷ done ∷ roundReplies n (suc i)
+
+abbrev pub m1 : ℕ → List Call
+m1 allowed = restart 16384 ∷ begin ∷ write 1 10 (0x41 ∷ 0x42 ∷ []) ∷ precommit 1 ∷ flush 1 allowed ∷ []
+
+abbrev pub m1Replies : List Reply
+m1Replies = opened ∷ told Done 1 0 ∷ done ∷ told Done 1 0 ∷ []
+
+abbrev pub rows : List Row
+rows =
+    -- M1: the log, 17 stores
+    record {
+      calls = m1 17;
+      look = logFront 18;
+      expected = record {
+        replies = m1Replies ++ (told Done 0 17 ∷ []);
+        seen =
+            0x01 ∷ 0x00 ∷ 0x01 ∷ 0x00 ∷ 0x0A ∷ 0x02 ∷ 0x41 ∷ 0x42 ∷ 0x01 ∷ 0x02 ∷ 0x00 ∷ 0x01 ∷ 0x00 ∷ 0x00 ∷ 0x00 ∷ 0x01 ∷ 0x02 ∷ 0 ∷ [];
+      };
+    }
+    -- M1: "With 16, restart finds end 0"
+    ∷ record {
+      calls = m1 16 ++ (restart 16384 ∷ []);
+      look = logEnd;
+      expected = record { replies = m1Replies ++ (told Cut 0 16 ∷ told Done 0 16384 ∷ []); seen = 0 ∷ [] };
+    }
+    -- M2: 16,384 stores are enough, 16,383 are not
+    ∷ record { calls = restart 16384 ∷ []; look = nowhere; expected = record { replies = opened ∷ []; seen = [] } }
+    ∷ record { calls = restart 16383 ∷ []; look = nowhere; expected = record { replies = told Cut 0 16383 ∷ []; seen = [] } }
+    -- M3: 7
+    ∷ record {
+      calls =
+          restart 16384 ∷ begin ∷ write 1 10 (5 ∷ []) ∷ checkpoint 4122 ∷ abort 1 ∷ begin ∷ write 2 10 (7 ∷ []) ∷ precommit 2 ∷ flush 2 20
+          ∷ restart 16364
+          ∷ [];
+      look = byteAt 10;
+      expected = record {
+        replies =
+            opened ∷ told Done 1 0 ∷ done ∷ told Done 0 4122 ∷ done ∷ told Done 2 0 ∷ done ∷ told Done 1 0 ∷ told Done 0 20 ∷ told Done 0 16364 ∷ [];
+        seen = 7 ∷ [];
+      };
+    }
+    -- M4: 0
+    ∷ record {
+      calls = restart 16384 ∷ begin ∷ write 1 10 (5 ∷ []) ∷ precommit 1 ∷ checkpoint 4122 ∷ restart 16384 ∷ [];
+      look = byteAndTail 10;
+      expected = record {
+        replies = opened ∷ told Done 1 0 ∷ done ∷ told Done 1 0 ∷ told Done 0 4122 ∷ told Done 1 16384 ∷ [];
+        seen = 0 ∷ 3 ∷ 0 ∷ 1 ∷ 3 ∷ replicate 8 0;
+      };
+    }
+    -- M5: 0, and not 5
+    ∷ record {
+      calls =
+          restart 16384 ∷ begin ∷ write 1 10 (5 ∷ []) ∷ precommit 1 ∷ begin ∷ write 2 10 (6 ∷ []) ∷ precommit 2 ∷ checkpoint 4134 ∷ restart 16384 ∷ [];
+      look = byteAndTail 10;
+      expected = record {
+        replies = opened ∷ told Done 1 0 ∷ done ∷ told Done 1 0 ∷ told Done 2 0 ∷ done ∷ told Done 2 0 ∷ told Done 0 4134 ∷ told Done 2 16384 ∷ [];
+        seen = 0 ∷ 3 ∷ 0 ∷ 2 ∷ 3 ∷ 3 ∷ 0 ∷ 1 ∷ 3 ∷ replicate 4 0;
+      };
+    }
+    -- M6: length 32 at 4,064 passes; at 4,065, number 8
+    ∷ record {
+      calls = restart 16384 ∷ begin ∷ write 1 4064 (replicate 32 9) ∷ write 1 4065 (replicate 32 9) ∷ [];
+      look = nowhere;
+      expected = record { replies = opened ∷ told Done 1 0 ∷ done ∷ refused 8 ∷ []; seen = [] };
+    }
+    -- M7: the eighth begin passes, the ninth is 11
+    ∷ record {
+      calls = restart 16384 ∷ replicate 9 begin;
+      look = nowhere;
+      expected = record { replies = opened ∷ map (λ i. told Done i 0) (1 ∷ 2 ∷ 3 ∷ 4 ∷ 5 ∷ 6 ∷ 7 ∷ 8 ∷ []) ++ (refused 11 ∷ []); seen = [] };
+    }
+    -- M7: the sixteenth write passes, the seventeenth is 10
+    ∷ record {
+      calls = restart 16384 ∷ begin ∷ replicate 17 (write 1 10 (5 ∷ []));
+      look = nowhere;
+      expected = record { replies = opened ∷ told Done 1 0 ∷ replicate 16 done ++ (refused 10 ∷ []); seen = [] };
+    }
+    -- M8: 2,048 transactions without writes fill the log; the next begin is 13
+    ∷ record {
+      calls = restart 16384 ∷ rounds 2048 1;
+      look = logEnd;
+      expected = record { replies = opened ∷ roundReplies 2048 1; seen = 16384 ∷ [] };
+    }
+    -- M9: of two groups one is flushed: settling the second is 14
+    ∷ record {
+      calls = restart 16384 ∷ begin ∷ precommit 1 ∷ begin ∷ precommit 2 ∷ flush 1 8 ∷ settle 2 ∷ settle 1 ∷ [];
+      look = nowhere;
+      expected = record {
+        replies = opened ∷ told Done 1 0 ∷ told Done 1 0 ∷ told Done 2 0 ∷ told Done 2 0 ∷ told Done 0 8 ∷ refused 14 ∷ done ∷ [];
+        seen = [];
+      };
+    }
+    -- M10: 4,110 stores
+    ∷ record { calls = restart 16384 ∷ checkpoint 5000 ∷ []; look = nowhere; expected = record { replies = opened ∷ told Done 0 4110 ∷ []; seen = [] } }
+    ∷ []
+
+-- ---- what the definitions show
+
+abbrev pub showing : (World → List ℕ) → Ran → Shown
+showing look x = record { replies = x .replies; seen = look (x .world) }
+
+abbrev pub shown : Row → Shown
+shown r = showing (r .look) (runOf (r .calls) fresh)
+
+-- each row shows what it should
+abbrev pub Worked : Type 0
+Worked = map shown rows ≡ map (λ r. r .expected) rows
