@@ -14,6 +14,7 @@ use Rattle.recovery.specs.Transaction.{Tx, running, committing}
 use Rattle.recovery.specs.Replay.{undoEach, layBytes}
 use Rattle.recovery.specs.Restart.{groupId, finished, unfinished, sortDesc, above, undoOrder, undone, aborts, recover}
 use Rattle.recovery.proofs.Lists.{all-map, all-filter, filter-append, filter-filter}
+use Rattle.recovery.proofs.Sorting.{sort-length, filter-sort}
 use Rattle.recovery.proofs.AbortLaw.{order-all}
 use Rattle.log.specs.Log.{readLog, encodeLog, wellFormedLog}
 use Rattle.log.proofs.Torn.{log-padded}
@@ -27,7 +28,6 @@ use Rattle.restart.specs.Undo.{isRunning, isLost, runningAt, lostAt, los
 use Rattle.restart.specs.Restart.{restartOf}
 use Rattle.restart.proofs.SlotLaws.{filter-up, all-up, txs-up}
 use Rattle.restart.proofs.Rules.{image-few, ruled}
-use Rattle.restart.proofs.Sort.{sort-length, filter-sort}
 use Rattle.restart.proofs.Undos.{aborts-length}
 use Rattle.restart.proofs.Passed.{highestId, ids-below, counted, firstCode, codes-from, unused-codes, Marks, Seen, seen}
 
