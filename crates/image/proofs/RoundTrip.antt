@@ -129,7 +129,7 @@ module _ (c : Content) (e : contentOk c ≡ true) where
 
   pub packed-whole : Whole (packed c)
   unfolding packed
-  packed-whole j h = packed-arrays (c .txs) (content-few c e) (content-each c e) j h .bytes
+  packed-whole j h = packed-arrays (c .txs) (content-few c e) (content-each c e) j h .space
 
 saved-transactions : (i : Image) → map transactionOf (savedIn (i .txs) (i .count)) ≡ map withoutRedo (transactionsIn i)
 saved-transactions i =
