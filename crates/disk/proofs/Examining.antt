@@ -1,24 +1,23 @@
 -- What a disk means, by cases.
 use Prim.Native.Nat.{ℕ, _+_, _*_, _-_, _≤_, _<_}
 use native.Mathlib.Omega.{arith}
-use mathlib.Core.Bool.{Bool, true, false, cond, _&&_}
+use mathlib.Core.Bool.{Bool, true, false, cond}
 use mathlib.Core.List.{List}
 use mathlib.Core.Path.{_≡_, refl, sym, ap, ap₂, _∙_, subst}
 use lib.ListN.{length, take, drop, replicate, length-drop}
-use lib.Dec.{eqb, leb, ltb}
-use borrow.Author.Tests.{lt-ltb, le-ltb, leb-true, ltb-false}
-use Rattle.log.proofs.Basics.{from, and-left}
+use lib.Dec.{eqb, ltb}
+use borrow.Author.Tests.{lt-ltb, le-ltb, ltb-false}
+use Rattle.log.proofs.Basics.{from}
 use Rattle.log.proofs.LogLaws.{log-within}
 use Rattle.image.specs.declared.Image.{Image}
 use Rattle.image.specs.declared.read.Decoded.{Decoded}
-use Rattle.image.specs.Rules.{keepsRules, outlinesOk}
-use Rattle.image.specs.Slots.{outlined}
+use Rattle.image.specs.Rules.{keepsRules}
 use Rattle.image.specs.Reading.{memoryOf}
 use Rattle.image.specs.Pack.{emptyImage}
 use Rattle.image.specs.Decode.{decodeOf}
+use Rattle.image.proofs.Rules.{image-logend, image-count}
 use Rattle.image.proofs.Soundness.{decode-keeps}
 use Rattle.restart.specs.Restart.{Outcome, restartOf}
-use Rattle.restart.proofs.Rules.{image-few}
 use Rattle.restart.proofs.Recovery.{end-is, count-is, undone-few}
 use Rattle.disk.specs.declared.examine.Examined.{Examined}
 use Rattle.disk.specs.Layout.{pointerOf, imagePart, logFrom}
@@ -39,13 +38,6 @@ loaded-keeps pointer disk = go (eqb pointer 0)
     go true e = refl
     go false e = decode-keeps (imagePart pointer disk) e
 
-pub keeps-end : (i : Image) → keepsRules i ≡ true → i .logend ≤ 16384
-keeps-end i e =
-    let a = leb (i .logend) 16384 in
-    let b = leb (i .ondisk .0) (i .assigned .0) in
-    let ts = outlined (i .txs) (i .count) in
-    leb-true (i .logend) 16384 (and-left a b (and-left (a && b) (leb (length ts) 8) (and-left (a && b && leb (length ts) 8) (outlinesOk (i .lastid .0) (i .assigned .0) ts) e)))
-
 -- ---- steps 2 to 5 of the part of the log that is lent
 
 pub steps-are : (i : Image) (disk m t : List ℕ) → t ≡ replicate 16384 0
@@ -60,11 +52,11 @@ module _ (i : Image) (ok : keepsRules i ≡ true) (m disk : List ℕ) (l : lengt
   end-within =
       let log = logFrom (i .logend) disk in
       let d = length-drop (17307 + i .logend) disk in
-      omega (arith, end-is i ok log m (replicate 16384 0), log-within (i .ondisk .0) _ log refl, keeps-end i ok)
+      omega (arith, end-is i ok log m (replicate 16384 0), log-within (i .ondisk .0) _ log refl, image-logend i ok)
 
   pub undone-within : stepsOf i m disk .answer .undone ≤ 16
   unfolding stepsOf
-  undone-within = let log = logFrom (i .logend) disk in omega (arith, count-is i ok log m (replicate 16384 0), undone-few i log, image-few i ok)
+  undone-within = let log = logFrom (i .logend) disk in omega (arith, count-is i ok log m (replicate 16384 0), undone-few i log, image-count i ok)
 
 -- ---- the meaning
 

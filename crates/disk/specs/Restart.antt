@@ -1,16 +1,17 @@
 -- Restart with so many stores allowed.
-use Prim.Native.Nat.{ℕ, _+_, _-_, min}
+use Prim.Native.Nat.{ℕ, _+_, _-_}
 use mathlib.Core.Bool.{true, cond}
 use mathlib.Core.List.{List}
-use lib.ListN.{length, take, replicate}
-use lib.Dec.{eqb, ltb}
+use lib.ListN.{replicate}
+use lib.Dec.{eqb}
 use Rattle.log.specs.declared.TxId.{TxId}
 use Rattle.log.specs.declared.Csn.{Csn}
-use Rattle.log.specs.Stores.{Store, apply, clears}
+use Rattle.log.specs.Stores.{Store, clears}
 use Rattle.transaction.specs.Flat.{emptyTx}
 use Rattle.store.specs.declared.State.{State}
 use Rattle.store.specs.State.{unrecovered}
-use Rattle.store.specs.Answer.{done, cut, refused, answer}
+use Rattle.store.specs.Answer.{Word, done, cut, refused, answer}
+use Rattle.store.specs.Stored.{DiskOutcome, Plan, carriedOut}
 use Rattle.disk.specs.declared.call.Restarted.{Restarted}
 use Rattle.disk.specs.Layout.{whole}
 use Rattle.disk.specs.Examine.{Meaning, examineOf}
@@ -23,52 +24,35 @@ recoveredState end csn last = record { recovered = true; logend = end; ondisk = 
 abbrev pub clearing : ℕ → List Store
 clearing end = clears (17307 + end) (16384 - end)
 
-pub record Outcome : Type 0 where
-  pub result : Restarted
-  pub disk : List ℕ
-  pub memory : List ℕ
-  pub tail : List ℕ
+-- the transactions undone are told by a restart that is done
+abbrev pub told : Word → ℕ → ℕ
+told done n = n
+told cut n = 0
+told (refused k) n = 0
 
-unfoldable pub refusedRestart : ℕ → Restarted
-refusedRestart n = record { answer = answer (refused n); undone = 0; stores = 0; state = unrecovered }
+abbrev pub restarted : ℕ → Word → ℕ → State → Restarted
+restarted undone w n s = record { answer = answer w; undone = told w undone; stores = n; state = s }
 
--- "They answer "cut" .. after just that many stores; memory and tail are then zero and the state is unrecovered."
-abbrev pub cutRestart : ℕ → Outcome → Outcome
-cutRestart n o =
+abbrev pub restartPlan : Meaning → Plan
+restartPlan m =
     record {
-      result = record { answer = answer cut; undone = 0; stores = n; state = unrecovered };
-      disk = o .disk;
-      memory = replicate 4096 0;
-      tail = replicate 16384 0;
-    }
-
--- with so many stores allowed, the first so many are made
-abbrev pub doneRestart : Meaning → List ℕ → ℕ → Outcome
-doneRestart m disk allowed =
-    record {
-      result =
-          record {
-            answer = answer done;
-            undone = m .result .undone;
-            stores = min allowed (length (clearing (m .result .end)));
-            state = recoveredState (m .result .end) (m .result .csn) (m .result .last);
-          };
-      disk = apply (take allowed (clearing (m .result .end))) disk;
+      stores = clearing (m .result .end);
+      state = recoveredState (m .result .end) (m .result .csn) (m .result .last);
       memory = m .memory;
       tail = m .tail;
     }
 
-abbrev pub clearedRestart : Meaning → List ℕ → ℕ → Outcome
-clearedRestart m disk allowed =
-    cond (ltb allowed (length (clearing (m .result .end)))) (cutRestart allowed (doneRestart m disk allowed)) (doneRestart m disk allowed)
+unfoldable pub refusedRestart : ℕ → Restarted
+refusedRestart n = restarted 0 (refused n) 0 unrecovered
 
-abbrev pub refusedWith : ℕ → List ℕ → List ℕ → List ℕ → Outcome
+abbrev pub refusedWith : ℕ → List ℕ → List ℕ → List ℕ → DiskOutcome Restarted
 refusedWith n disk memory tail = record { result = refusedRestart n; disk = disk; memory = memory; tail = tail }
 
-abbrev pub ofMeaning : Meaning → List ℕ → ℕ → Outcome
+abbrev pub ofMeaning : Meaning → List ℕ → ℕ → DiskOutcome Restarted
 ofMeaning m disk allowed =
-    cond (eqb (m .result .number) 0) (clearedRestart m disk allowed) (refusedWith (m .result .number) disk (m .memory) (m .tail))
+    cond (eqb (m .result .number) 0) (carriedOut (restarted (m .result .undone)) (restartPlan m) allowed disk)
+    (refusedWith (m .result .number) disk (m .memory) (m .tail))
 
 -- "1. All calls: a lent buffer hasn't its length."
-unfoldable pub restartOf : List ℕ → List ℕ → List ℕ → ℕ → Outcome
+unfoldable pub restartOf : List ℕ → List ℕ → List ℕ → ℕ → DiskOutcome Restarted
 restartOf disk memory tail allowed = cond (whole disk memory tail) (ofMeaning (examineOf disk) disk allowed) (refusedWith 1 disk memory tail)

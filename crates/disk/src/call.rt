@@ -3,9 +3,9 @@ use crate::examine::examine;
 use log::Csn;
 use log::TxId;
 use log::stores::clear_down;
-use log::stores::fill_zero;
 use store::Answer;
 use store::State;
+use store::stored::cut_off;
 use transaction::Tx;
 ghost use mathlib.Core.Path.{_≡_};
 ghost use Rattle.disk.specs.Restart.{recoveredState, refusedRestart, restartOf};
@@ -68,9 +68,8 @@ pub fn restart(disk: &mut [u8], memory: &mut [u8], tail: &mut [u8], allowed: usi
     let end = found.end;
     let made = clear_down(&mut disk[17307..], end, allowed);
     if made < 16384 - end {
-        fill_zero(memory);
-        fill_zero(tail);
-        let state = State::unrecovered();
+        let off = cut_off(memory, tail, made);
+        let state = off.state;
         return Restarted {
             answer: Answer::Cut,
             undone: 0,

@@ -12,13 +12,14 @@ use Rattle.transaction.specs.declared.Tx.{Tx}
 use Rattle.transaction.specs.Lists.{upFrom}
 use Rattle.transaction.specs.Flat.{emptyRecords, emptyTx, noTx}
 use Rattle.transaction.specs.View.{outline, outlineOf, viewOf}
+use Rattle.transaction.proofs.Pushed.{Sized}
 use Rattle.image.specs.Slots.{slotAt, listed, outlined}
 use Rattle.image.specs.Rules.{imageOk, keepsRules}
 use Rattle.image.specs.Content.{Saved, saved, Content, savedOf, savedIn, contentOf, outlineIn, contentOk, transactionOf}
 use Rattle.image.specs.Format.{undosIn}
 use Rattle.image.specs.Pack.{loaded, packedTx, packedTxs, packed}
 use Rattle.image.proofs.Lists.{up-map, up-front, map-self}
-use Rattle.image.proofs.Pushing.{Sized, UndosOk, packed-sized, packed-writes, packed-ranges}
+use Rattle.image.proofs.Pushing.{UndosOk, packed-sized, packed-writes, packed-ranges}
 
 -- ---- transactions
 

@@ -12,6 +12,7 @@ use Rattle.recovery.specs.Transaction.{Tx as Transaction}
 use Rattle.log.specs.Number.{be2, be4}
 use Rattle.log.specs.Record.{inRange}
 use Rattle.log.specs.Group.{andThen}
+use Rattle.log.proofs.RoundTrip.{joined2}
 use Rattle.transaction.specs.declared.Tx.{Tx}
 use Rattle.transaction.specs.Lists.{every}
 use Rattle.transaction.specs.View.{outline, viewOf}
@@ -28,15 +29,12 @@ use Rattle.image.specs.Reading.{undoHere, firstUndo, readUndos, savedIf,
 use Rattle.image.specs.Pack.{packed}
 use Rattle.image.specs.Decode.{decodeOf}
 use Rattle.image.proofs.Lists.{up-map}
-use Rattle.image.proofs.Rules.{rules-records}
+use Rattle.image.proofs.Rules.{undo-at}
 use Rattle.image.proofs.Pushing.{UndosOk, undos-few, undos-ranged, first-ranged, rest-ranged, ranges-of}
 use Rattle.image.proofs.Packing.{TxsOk, packed-transactions, packed-arrays, packed-content, packed-rules}
 use Rattle.image.proofs.Readings.{here-yes}
 use Rattle.image.proofs.TxReadings.{tx-undos, content-txs, decode-good}
 use Rattle.image.proofs.Sizes.{length-tx, length-content, content-few, content-each, image-small}
-
-joined2 : (n : ℕ) → n / 256 * 256 + n % 256 ≡ n
-joined2 n = omega arith
 
 joined4 : (n : ℕ) → (n / 65536 / 256 * 256 + n / 65536 % 256) * 65536 + (n % 65536 / 256 * 256 + n % 65536 % 256) ≡ n
 joined4 n = omega arith
@@ -129,7 +127,7 @@ module _ (c : Content) (e : contentOk c ≡ true) where
 
   pub packed-whole : Whole (packed c)
   unfolding packed
-  packed-whole j h = packed-arrays (c .txs) (content-few c e) (content-each c e) j h .bytes
+  packed-whole j h = packed-arrays (c .txs) (content-few c e) (content-each c e) j h .space
 
 saved-transactions : (i : Image) → map transactionOf (savedIn (i .txs) (i .count)) ≡ map withoutRedo (transactionsIn i)
 saved-transactions i =
@@ -159,7 +157,7 @@ module _ (i : Image) (w : Whole i) (e : keepsRules i ≡ true) where
       same : (j : ℕ) → j < i .count → outlineIn (savedAt (i .txs) j) ≡ outlineAt (i .txs) j
       same j h =
           let t = slotAt (i .txs) j in
-          let k = rules-records i e j h in
+          let k = undo-at i e j h in
           ap (outline (t .id .0) (t .status) (t .csn .0)) (ranges-of (t .undo) (w j h) (counted (t .undo) k) (λ n b. ranged (t .undo) k n b .1))
 
   module _ (m rest : List ℕ) (l : length m ≡ 4096) where

@@ -19,7 +19,7 @@ use Rattle.image.specs.Slots.{slotAt}
 use Rattle.image.specs.Rules.{keepsRules}
 use Rattle.image.specs.Content.{Saved, saved, Content, savedAt, rangeOf, outlineIn, contentOk}
 use Rattle.image.specs.Format.{encodeUndo, encodeUndos, encodeTx, encodeTxs, encodeContent, undosSize, txSize, txsSize, contentSize, imageSize}
-use Rattle.image.proofs.Rules.{rules-length, rules-each, rules-count, rules-records}
+use Rattle.image.proofs.Rules.{rules-length, rules-each, image-count, undo-at}
 use Rattle.image.proofs.Pushing.{undos-few, undos-ranged, first-ranged, rest-ranged}
 use Rattle.image.proofs.Packing.{TxsOk}
 
@@ -113,6 +113,6 @@ slots-small txs (suc k) i s =
 -- an image fits its slot on disk
 pub image-small : (i : Image) → keepsRules i ≡ true → imageSize i ≤ 8653
 image-small i e =
-    let n = rules-count i e in
-    let h = slots-small (i .txs) (i .count) 0 (λ j b. rules-records i e j (omega arith)) in
+    let n = image-count i e in
+    let h = slots-small (i .txs) (i .count) 0 (λ j b. undo-at i e j (omega arith)) in
     omega arith

@@ -3,14 +3,14 @@ use Prim.Native.Nat.{ℕ, _+_, _-_, _*_, _<_}
 use native.Mathlib.Omega.{arith}
 use native.Mathlib.Numerals.{towards-suc}
 use mathlib.Core.List.{List, _++_}
-use mathlib.Core.Path.{_≡_, sym, ap, ap₂, _∙_}
+use mathlib.Core.Path.{_≡_, refl, sym, ap, ap₂, _∙_}
 use lib.ListN.{length, getD, take, drop, set}
 use lib.Seq.{sets}
 use Rattle.recovery.specs.Group.{Write}
 use Rattle.log.specs.Number.{bytes2, bytes4}
-use Rattle.log.specs.Flat.{writeAt, writesFrom}
+use Rattle.log.specs.Flat.{writesFrom}
 use Rattle.log.proofs.StoreLaws.{sets-append}
-use Rattle.log.proofs.FlatLaws.{writes-step}
+use Rattle.log.proofs.FlatLaws.{turn-size, turn-stores}
 use Rattle.transaction.specs.declared.Tx.{Tx}
 use Rattle.transaction.specs.Lists.{upFrom}
 use Rattle.transaction.proofs.Lists.{up-turn}
@@ -56,28 +56,13 @@ image-stores b₀ b₁ b₂ b₃ c m l e₁ e₂ e₃ =
 
 module _ (addr len bytes : List ℕ) (n i : ℕ) (h : i < n)
     (p : length (take (i * 32 + getD len i 0 - i * 32) (drop (i * 32) bytes)) ≡ i * 32 + getD len i 0 - i * 32) where
-  lent : i * 32 + getD len i 0 - i * 32 ≡ getD len i 0
-  lent = omega arith
-
-  lent-length : length (take (getD len i 0) (drop (i * 32) bytes)) ≡ getD len i 0
-  lent-length = rw lent at p
-
   pub undo-size : undosSize (writesFrom addr len bytes (n - i) i) ≡ 3 + getD len i 0 + undosSize (writesFrom addr len bytes (n - (i + 1)) (i + 1))
-  undo-size =
-      ap undosSize (writes-step addr len bytes n i h)
-      ∙ ap (λ (k : ℕ). 3 + k + undosSize (writesFrom addr len bytes (n - (i + 1)) (i + 1))) lent-length
+  undo-size = turn-size addr len bytes n i h p 3 undosSize (λ u us. refl)
 
   pub undo-turn : (o : ℕ) (b c : List ℕ)
       → c ≡ sets b o (encodeUndo (record { addr = getD addr i 0; bytes = take (i * 32 + getD len i 0 - i * 32) (drop (i * 32) bytes) }))
       → sets b o (encodeUndos (writesFrom addr len bytes (n - i) i)) ≡ sets c (o + (3 + getD len i 0)) (encodeUndos (writesFrom addr len bytes (n - (i + 1)) (i + 1)))
-  undo-turn o b c e =
-      let us = writesFrom addr len bytes (n - (i + 1)) (i + 1) in
-      let u = writeAt addr len bytes i in
-      ap (λ (vs : List Write). sets b o (encodeUndos vs)) (writes-step addr len bytes n i h)
-      ∙ sets-append b o (encodeUndo u) (encodeUndos us)
-      ∙ ap₂ (λ (m : List ℕ) (k : ℕ). sets m (o + k) (encodeUndos us))
-      (sym (e ∙ ap (λ (k : ℕ). sets b o (encodeUndo (record { addr = getD addr i 0; bytes = take k (drop (i * 32) bytes) }))) lent))
-      (length-undo u ∙ ap (λ (k : ℕ). 3 + k) lent-length)
+  undo-turn = turn-stores addr len bytes n i h p 3 encodeUndo encodeUndos (λ u us. refl) length-undo
 
 -- ---- a turn of the loop over transactions
 

@@ -21,7 +21,7 @@ use Rattle.log.proofs.RecordLaws.{record-cases, record-named, record-by
 use Rattle.log.proofs.GroupLaws.{body-inv, body-intro, group-inv, group-intro}
 use Rattle.log.proofs.LogLaws.{log-more, log-inv}
 
-joined2 : (n : ℕ) → n / 256 * 256 + n % 256 ≡ n
+pub joined2 : (n : ℕ) → n / 256 * 256 + n % 256 ≡ n
 joined2 n = omega arith
 
 joined4 : (n : ℕ) → n / 65536 * 65536 + n % 65536 ≡ n

@@ -1,25 +1,34 @@
--- Sorting by commit number, highest first, and leaving out the low numbers.
+-- Sorting by commit number, highest first: what is sorted, the first of the highest in front, and tests before or after it; leaving out the low
+-- numbers.
 use mathlib.Core.Path.{_≡_, refl, sym, ap, _∙_}
 use mathlib.Core.Logic.{_≢_}
 use mathlib.Core.Bool.{Bool, true, false, cond, _&&_}
 use mathlib.Core.List.{List, [], _∷_, _++_}
-use Prim.Native.Nat.{ℕ, _≤_, _<_}
+use Prim.Native.Nat.{ℕ, suc, _≤_, _<_}
 use native.Mathlib.Omega.{arith}
-use lib.Dec.{leb, ltb}
-use Rattle.recovery.specs.Lists.{All, nil, cons}
+use lib.ListN.{length}
+use lib.Dec.{leb}
+use Rattle.recovery.specs.Lists.{All, nil, cons, filter}
 use Rattle.recovery.specs.Transaction.{Tx}
 use Rattle.recovery.specs.Restart.{insertDesc, sortDesc, above}
-use Rattle.recovery.proofs.Bool.{leb-yes, leb-no, is-leb, not-leb, ltb-yes, ltb-no, is-ltb, not-ltb}
-use Rattle.recovery.proofs.Lists.{all-map, filter-all, filter-none, filter-filter}
+use Rattle.recovery.proofs.Bool.{leb-yes, leb-no, is-leb, not-leb, ltb-yes, ltb-no, is-ltb}
+use Rattle.recovery.proofs.Lists.{all-map, all-left, all-right, all-filter, filter-all, filter-none, filter-filter}
 use Rattle.recovery.proofs.Distinct.{Distinct, empty, more}
 use Rattle.recovery.proofs.Transactions.{isAbove}
+
+-- every number is at most n, or below n
+abbrev pub AllLe : ℕ → List Tx → Type 0
+AllLe n l = All (λ t. t .csn ≤ n) l
+
+abbrev pub AllLt : ℕ → List Tx → Type 0
+AllLt n l = All (λ t. t .csn < n) l
 
 -- above
 
 pub above-high : (n : ℕ) {xs : List Tx} → All (λ c. n < c .csn) xs → above n xs ≡ xs
 above-high n h = filter-all (isAbove n) (all-map (λ c l. ltb-yes n (c .csn) l) h)
 
-pub above-low : (n : ℕ) {xs : List Tx} → All (λ c. c .csn ≤ n) xs → above n xs ≡ []
+pub above-low : (n : ℕ) {xs : List Tx} → AllLe n xs → above n xs ≡ []
 above-low n h = filter-none (isAbove n) (all-map (λ c l. ltb-no n (c .csn) l) h)
 
 pub above-above : (d n : ℕ) (xs : List Tx) → d ≤ n → above n (above d xs) ≡ above n xs
@@ -81,57 +90,76 @@ sort-distinct (more {x} h d) = insert-distinct x (sort-all h) (sort-distinct d)
 
 pub data Descending : List Tx → Type 0 where
   bottom : Descending []
-  top : {t : Tx} {ts : List Tx} → All (λ u. u .csn ≤ t .csn) ts → Descending ts → Descending (t ∷ ts)
+  top : {t : Tx} {ts : List Tx} → AllLe (t .csn) ts → Descending ts → Descending (t ∷ ts)
+
+-- a transaction that goes before the front of a sorted list is above all of it
+all-lower : (t u : Tx) {l : List Tx} → leb (u .csn) (t .csn) ≡ true → AllLe (u .csn) l → AllLe (t .csn) (u ∷ l)
+all-lower t u e h = let le : u .csn ≤ t .csn = is-leb (u .csn) (t .csn) e in cons le (all-map (λ v q. omega arith) h)
 
 insert-descending : (t : Tx) {l : List Tx} → Descending l → Descending (insertDesc t l)
 insert-descending t bottom = top nil bottom
 insert-descending t (top {t = u} {ts = l} h d) = go (leb (u .csn) (t .csn)) refl (insert-descending t d)
   where
     go : (b : Bool) → leb (u .csn) (t .csn) ≡ b → Descending (insertDesc t l) → Descending (cond b (t ∷ u ∷ l) (u ∷ insertDesc t l))
-    go true e k = let le : u .csn ≤ t .csn = is-leb (u .csn) (t .csn) e in top (cons le (all-map (λ v q. omega arith) h)) (top h d)
+    go true e k = top (all-lower t u e h) (top h d)
     go false e k = let lt : t .csn < u .csn = not-leb (u .csn) (t .csn) e in top (insert-all t (omega arith) h) k
 
 sort-descending : (l : List Tx) → Descending (sortDesc l)
 sort-descending [] = bottom
 sort-descending (t ∷ l) = insert-descending t (sort-descending l)
 
--- leaving out the low numbers commutes with sorting
+-- as many as before
 
-above-insert-low : (n : ℕ) (t : Tx) (l : List Tx) → t .csn ≤ n → above n (insertDesc t l) ≡ above n l
-above-insert-low n t [] h = rw (ltb-no n (t .csn) h)
-above-insert-low n t (u ∷ l) h = go (leb (u .csn) (t .csn)) (above-insert-low n t l h)
+insert-length : (t : Tx) (l : List Tx) → length (insertDesc t l) ≡ suc (length l)
+insert-length t [] = refl
+insert-length t (u ∷ l) = go (leb (u .csn) (t .csn)) (insert-length t l)
   where
-    go : (b : Bool) → above n (insertDesc t l) ≡ above n l → above n (cond b (t ∷ u ∷ l) (u ∷ insertDesc t l)) ≡ above n (u ∷ l)
-    go true k = rw (ltb-no n (t .csn) h)
-    go false k = rw k
+    go : (b : Bool) → length (insertDesc t l) ≡ suc (length l) → length (cond b (t ∷ u ∷ l) (u ∷ insertDesc t l)) ≡ suc (suc (length l))
+    go true ih = refl
+    go false ih = ap suc ih
 
-above-insert-high : (n : ℕ) (t : Tx) {l : List Tx} → n < t .csn → Descending l → above n (insertDesc t l) ≡ insertDesc t (above n l)
-above-insert-high n t h bottom = rw (ltb-yes n (t .csn) h)
-above-insert-high n t h (top {t = u} {ts = l} k d) = go (leb (u .csn) (t .csn)) refl (ltb n (u .csn)) refl (above-insert-high n t h d)
-  where
-    go : (b : Bool) → leb (u .csn) (t .csn) ≡ b → (c : Bool) → ltb n (u .csn) ≡ c → above n (insertDesc t l) ≡ insertDesc t (above n l)
-        → above n (insertDesc t (u ∷ l)) ≡ insertDesc t (above n (u ∷ l))
-    go true e true g ih = rw (g, e, g, ltb-yes n (t .csn) h)
-    go true e false g ih =
-        let low : u .csn ≤ n = not-ltb n (u .csn) g in
-        let none : above n l ≡ [] = above-low n (all-map (λ v q. omega arith) k) in
-        rw (g, e, g, ltb-yes n (t .csn) h, none)
-    go false e true g ih = rw (g, e, g) (ap (λ (r : List Tx). u ∷ r) ih)
-    go false e false g ih = absurd (omega (arith, not-ltb n (u .csn) g, not-leb (u .csn) (t .csn) e))
+pub sort-length : (l : List Tx) → length (sortDesc l) ≡ length l
+sort-length [] = refl
+sort-length (t ∷ l) = insert-length t (sortDesc l) ∙ ap suc (sort-length l)
+
+-- the first of the highest goes to the front: before it only lower ones, after it none that is higher
+
+insert-first : (t : Tx) {l : List Tx} → AllLe (t .csn) l → insertDesc t l ≡ t ∷ l
+insert-first t nil = refl
+insert-first t (cons {x = u} h hs) = rw (leb-yes (u .csn) (t .csn) h)
+
+pub sort-pick : {xs : List Tx} (ys : List Tx) (t : Tx) → AllLt (t .csn) xs → AllLe (t .csn) ys → sortDesc (xs ++ t ∷ ys) ≡ t ∷ sortDesc (xs ++ ys)
+sort-pick ys t nil q = insert-first t (sort-all q)
+sort-pick ys t (cons {x} h hs) q = ap (insertDesc x) (sort-pick ys t hs q) ∙ rw (leb-no (t .csn) (x .csn) h)
+
+pub sort-top : (t : Tx) (xs ys : List Tx) → AllLt (t .csn) (xs ++ ys) → sortDesc (xs ++ t ∷ ys) ≡ t ∷ sortDesc (xs ++ ys)
+sort-top t xs ys h = sort-pick ys t (all-left xs ys h) (all-map (λ u k. omega arith) (all-right xs h))
+
+-- a test before or after the sorting
+
+module _ (p : Tx → Bool) where
+  filter-insert : (t : Tx) {l : List Tx} → Descending l → filter p (insertDesc t l) ≡ cond (p t) (insertDesc t (filter p l)) (filter p l)
+  filter-insert t bottom = refl
+  filter-insert t (top {t = u} {ts = l} h d) = go (leb (u .csn) (t .csn)) refl (p t) refl (p u) refl (filter-insert t d)
+    where
+      go : (b : Bool) → leb (u .csn) (t .csn) ≡ b → (x : Bool) → p t ≡ x → (y : Bool) → p u ≡ y
+          → filter p (insertDesc t l) ≡ cond (p t) (insertDesc t (filter p l)) (filter p l)
+          → filter p (cond b (t ∷ u ∷ l) (u ∷ insertDesc t l)) ≡ cond (p t) (insertDesc t (filter p (u ∷ l))) (filter p (u ∷ l))
+      go true e true q y r ih = rw q (sym (insert-first t (all-filter p (all-lower t u e h))))
+      go true e false q y r ih = rw q
+      go false e true q true r ih = rw (q, r, e) (ap (λ (k : List Tx). u ∷ k) (ih ∙ rw q))
+      go false e true q false r ih = rw (q, r) (ih ∙ rw q)
+      go false e false q true r ih = rw (q, r) (ap (λ (k : List Tx). u ∷ k) (ih ∙ rw q))
+      go false e false q false r ih = rw (q, r) (ih ∙ rw q)
+
+  pub filter-sort : (l : List Tx) → filter p (sortDesc l) ≡ sortDesc (filter p l)
+  filter-sort [] = refl
+  filter-sort (t ∷ l) = filter-insert t (sort-descending l) ∙ go (p t) (filter-sort l)
+    where
+      go : (b : Bool) → filter p (sortDesc l) ≡ sortDesc (filter p l)
+          → cond b (insertDesc t (filter p (sortDesc l))) (filter p (sortDesc l)) ≡ sortDesc (cond b (t ∷ filter p l) (filter p l))
+      go true ih = ap (insertDesc t) ih
+      go false ih = ih
 
 pub above-sort : (n : ℕ) (l : List Tx) → above n (sortDesc l) ≡ sortDesc (above n l)
-above-sort n [] = refl
-above-sort n (t ∷ l) = go (ltb n (t .csn)) refl (above-sort n l)
-  where
-    go : (b : Bool) → ltb n (t .csn) ≡ b → above n (sortDesc l) ≡ sortDesc (above n l) → above n (insertDesc t (sortDesc l)) ≡ sortDesc (cond b (t ∷ above n l) (above n l))
-    go true e ih = above-insert-high n t (is-ltb n (t .csn) e) (sort-descending l) ∙ ap (λ (r : List Tx). insertDesc t r) ih
-    go false e ih = above-insert-low n t (sortDesc l) (not-ltb n (t .csn) e) ∙ ih
-
--- a highest number goes to the front, wherever it stood
-pub sort-top : (t : Tx) (xs ys : List Tx) → All (λ u. u .csn < t .csn) (xs ++ ys) → sortDesc (xs ++ t ∷ ys) ≡ t ∷ sortDesc (xs ++ ys)
-sort-top t [] ys h = insert-top (sort-all h)
-  where
-    insert-top : {l : List Tx} → All (λ u. u .csn < t .csn) l → insertDesc t l ≡ t ∷ l
-    insert-top nil = refl
-    insert-top (cons {x = u} k ks) = rw (leb-yes (u .csn) (t .csn) (omega arith))
-sort-top t (x ∷ xs) ys (cons k ks) = rw (sort-top t xs ys ks, leb-no (t .csn) (x .csn) k)
+above-sort n l = filter-sort (isAbove n) l

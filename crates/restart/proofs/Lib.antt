@@ -1,11 +1,10 @@
--- The laws of restart. Recovery: what `restartOf` leaves, in recovery's terms. Under them: slots (SlotLaws), the image
--- rules (Rules), the pass over the log (RedoLaws, Steps, Passed), step 4 (Undos, Sort, Select), and the branches of the code (Cases).
+-- The laws of restart. Recovery: what `restartOf` leaves, in recovery's terms. Under it: slots (SlotLaws), the image rules (Rules), the pass
+-- over the log (RedoLaws, Steps, Passed), step 4 (Undos, Select), and the branches of the code (Cases).
 pub mod SlotLaws
 pub mod Rules
 pub mod RedoLaws
 pub mod Cases
 pub mod Steps
-pub mod Sort
 pub mod Undos
 pub mod Select
 pub mod Passed

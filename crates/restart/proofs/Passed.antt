@@ -17,12 +17,13 @@ use Rattle.recovery.specs.Restart.{groupId, finished, undoRecords, undoOf, forw
 use Rattle.recovery.proofs.Lists.{all-map}
 use Rattle.image.specs.declared.Image.{Image}
 use Rattle.image.specs.Rules.{keepsRules}
+use Rattle.image.proofs.Rules.{image-count}
 use Rattle.restart.specs.declared.forward.Slot.{Slot}
 use Rattle.restart.specs.declared.forward.Slot.the-variants.{At, Nowhere}
 use Rattle.restart.specs.Slots.{txAt, txsOf, hasId, slotOf}
 use Rattle.restart.specs.Forward.{Went, codeOf, marked, undoLogged, past, onGroup, goOver}
 use Rattle.restart.proofs.SlotLaws.{first-at, first-none}
-use Rattle.restart.proofs.Rules.{image-few, same-slot, lookup-at, lookup-nowhere}
+use Rattle.restart.proofs.Rules.{same-slot, lookup-at, lookup-nowhere}
 
 -- ---- the numbers
 
@@ -97,7 +98,7 @@ module _ (image : Image) (ok : keepsRules image ≡ true) where
       at k q true e =
           let s : i ≡ k = eqb-true i k e in
           let f = first-at (hasId image id) (image .count) k q in
-          rw (s, f .1) (hit k (omega (arith, f .0, image-few image ok)) (eqb (getD found k 0) 0))
+          rw (s, f .1) (hit k (omega (arith, f .0, image-count image ok)) (eqb (getD found k 0) 0))
       at k q false e =
           let n = eqb-false i k e in
           let f = first-at (hasId image id) (image .count) k q in

@@ -14,20 +14,20 @@ use Rattle.recovery.specs.Transaction.{Tx, running, committing}
 use Rattle.recovery.specs.Replay.{undoEach, layBytes}
 use Rattle.recovery.specs.Restart.{groupId, finished, unfinished, sortDesc, above, undoOrder, undone, aborts, recover}
 use Rattle.recovery.proofs.Lists.{all-map, all-filter, filter-append, filter-filter}
+use Rattle.recovery.proofs.Sorting.{sort-length, filter-sort}
 use Rattle.recovery.proofs.AbortLaw.{order-all}
 use Rattle.log.specs.Log.{readLog, encodeLog, wellFormedLog}
 use Rattle.log.proofs.Torn.{log-padded}
-use Rattle.transaction.proofs.Lists.{length-up}
+use Rattle.transaction.proofs.Lists.{length-up, all-up}
 use Rattle.image.specs.declared.Image.{Image}
 use Rattle.image.specs.Rules.{keepsRules}
+use Rattle.image.proofs.Rules.{image-count, ruled-at}
 use Rattle.restart.specs.declared.forward.Pass.{Pass}
 use Rattle.restart.specs.Slots.{txAt, txsOf, filterBelow}
 use Rattle.restart.specs.Forward.{startOf, groupsOf, forwardOf}
 use Rattle.restart.specs.Undo.{isRunning, isLost, runningAt, lostAt, lostBy, runningOf, lostOf, undoneOf}
 use Rattle.restart.specs.Restart.{restartOf}
-use Rattle.restart.proofs.SlotLaws.{filter-up, all-up, txs-up}
-use Rattle.restart.proofs.Rules.{image-few, ruled}
-use Rattle.restart.proofs.Sort.{sort-length, filter-sort}
+use Rattle.restart.proofs.SlotLaws.{filter-up, txs-up}
 use Rattle.restart.proofs.Undos.{aborts-length}
 use Rattle.restart.proofs.Passed.{highestId, ids-below, counted, firstCode, codes-from, unused-codes, Marks, Seen, seen}
 
@@ -97,7 +97,7 @@ module _ (image : Image) (ok : keepsRules image ≡ true) where
     running-is : filterBelow (runningAt image found) (txAt image) (image .count) ≡ unfinished f (running (txsOf image))
     unfolding isRunning
     running-is =
-        filter-up (runningAt image found) runs (txAt image) (image .count) (λ j h. one (eqb (getD found j 0) 0) (txAt image j .committing) _ _ (marks j h) (ruled image ok j h .kind))
+        filter-up (runningAt image found) runs (txAt image) (image .count) (λ j h. one (eqb (getD found j 0) 0) (txAt image j .committing) _ _ (marks j h) (ruled-at image ok j h .kind))
         ∙ ap (filter runs) (sym (txs-up image))
         ∙ sym (filter-filter open? (λ t. not (t .committing)) runs (λ t. refl) (txsOf image))
       where
@@ -177,7 +177,7 @@ module _ (image : Image) (ok : keepsRules image ≡ true) where
       -- it is at least each id in the image and in the groups read
       pub last-above-image : All (λ t. t .id ≤ restartOf image log m tail .answer .last .0) (txsOf image)
       last-above-image =
-          rw txs-up (all-up (txAt image) (image .count) 0 (λ j a b. let g = ruled image ok j (omega arith) .given in let l = last-is in omega arith))
+          rw txs-up (all-up (txAt image) (image .count) 0 (λ j a b. let g = ruled-at image ok j (omega arith) .given in let l = last-is in omega arith))
 
       pub last-above-groups : All (λ g. groupId g ≤ restartOf image log m tail .answer .last .0) (groupsOf image log)
       last-above-groups = let l = last-is in all-map (λ g h. omega arith) (ids-below (groupsOf image log))
@@ -202,7 +202,7 @@ module _ (image : Image) (ok : keepsRules image ≡ true) where
         let xs = encodeLog (aborts (undoneBy image log)) in
         let l = aborts-length (undoneBy image log) in
         let few = undone-few image log in
-        let most = image-few image ok in
+        let most = image-count image ok in
         let z : 0 + length xs ≤ length (zeros 16384) = omega (arith, length-replicate {A = ℕ} 16384 0) in
         let e : 0 + length xs ≡ 4 * length (undoneBy image log) = omega arith in
         ap (λ (ts : List Tx). sets (zeros 16384) 0 (encodeLog (aborts ts))) undone-is
@@ -217,7 +217,7 @@ module _ (image : Image) (ok : keepsRules image ≡ true) where
     -- it is read back as exactly those groups, after any commit number
     pub tail-read : (prev : ℕ) → readLog prev (restartOf image log m (zeros 16384) .tail) ≡ aborts (undoneBy image log)
     tail-read prev =
-        let named : All (λ t. 1 ≤ t .id) (txsOf image) = rw txs-up (all-up (txAt image) (image .count) 0 (λ j a b. ruled image ok j (omega arith) .named)) in
+        let named : All (λ t. 1 ≤ t .id) (txsOf image) = rw txs-up (all-up (txAt image) (image .count) 0 (λ j a b. ruled-at image ok j (omega arith) .named)) in
         ap (readLog prev) tail-is
         ∙ log-padded prev (aborts (undoneBy image log)) (16384 - 4 * length (undoneBy image log))
         (aborts-well prev (all-filter (λ t. not (has (t .id) (finished (groupsOf image log) []))) (order-all (txsOf image) (lastCsn (image .ondisk .0) (groupsOf image log)) named)))

@@ -1,114 +1,36 @@
 -- What the image rules say of the transactions in the slots.
 use Prim.Native.Nat.{ℕ, zero, suc, _+_, _≤_, _<_}
 use native.Mathlib.Omega.{arith}
-use mathlib.Core.Bool.{Bool, true, false, cond, not, _&&_}
+use mathlib.Core.Bool.{Bool, true, false}
 use mathlib.Core.List.{List}
 use mathlib.Core.Option.{none, some}
-use mathlib.Core.Path.{_≡_, refl, sym, ap, _∙_, subst}
-use lib.ListN.{length}
+use mathlib.Core.Path.{_≡_, refl, sym, subst}
 use lib.Dec.{leb, eqb}
 use borrow.Author.Tests.{leb-true, leb-false, eqb-true, eqb-false}
-use Rattle.recovery.specs.Lists.{All, any}
+use Rattle.recovery.specs.Lists.{All}
 use Rattle.recovery.specs.Transaction.{Tx as Transaction, lookup}
 use Rattle.recovery.proofs.Bool.{or-left}
-use Rattle.recovery.proofs.Lists.{none-any}
 use Rattle.recovery.proofs.Distinct.{empty, more}
 use Rattle.recovery.proofs.Transactions.{DistinctIds, lookup-own, lookup-none}
-use Rattle.log.proofs.Basics.{not-yes}
-use Rattle.transaction.specs.declared.Tx.{Tx}
-use Rattle.transaction.specs.View.{Outline, rangesOf}
-use Rattle.transaction.specs.Lists.{upFrom, every}
-use Rattle.transaction.specs.Rules.{recordsOk, headOk, outlineOk}
-use Rattle.transaction.proofs.Lists.{and-left, and-right, length-up, every-at}
+use Rattle.transaction.specs.Lists.{upFrom}
+use Rattle.transaction.proofs.Lists.{all-at, all-up}
 use Rattle.image.specs.declared.Image.{Image}
-use Rattle.image.specs.Slots.{slotAt, outlineAt, outlined}
-use Rattle.image.specs.Rules.{alikeTo, distinct, keepsRules}
+use Rattle.image.specs.Slots.{outlineAt}
+use Rattle.image.specs.Rules.{keepsRules}
+use Rattle.image.proofs.Rules.{image-count, image-distinct, undo-at, distinct-at}
 use Rattle.restart.specs.declared.forward.Slot.the-variants.{At, Nowhere}
 use Rattle.restart.specs.Slots.{txAt, txsOf, hasId, slotOf}
 use Rattle.restart.specs.Turns.{Undoable}
-use Rattle.restart.proofs.SlotLaws.{first-at, first-none, all-at, all-up, txs-up}
-
--- ---- the rules of one transaction
-
-pub record Ruled (last id status : ℕ) : Type 0 where
-  pub named : 1 ≤ id
-  pub given : id ≤ last
-  pub kind : eqb status 1 ≡ not (eqb status 2)
-
-head-rules : (last assigned id status csn : ℕ) → headOk last assigned id status csn ≡ true → Ruled last id status
-unfolding headOk
-head-rules last assigned id status csn e =
-    let low : Bool = eqb status 2 && (leb 1 csn && leb csn assigned) in
-    let r = and-right (leb 1 id) (leb id last && cond (eqb status 1) (eqb csn 0) low) e in
-    record {
-      named = leb-true 1 id (and-left (leb 1 id) _ e);
-      given = leb-true id last (and-left (leb id last) _ r);
-      kind = go (eqb status 1) refl (and-right (leb id last) (cond (eqb status 1) (eqb csn 0) low) r);
-    }
-  where
-    go : (b : Bool) → eqb status 1 ≡ b → cond b (eqb csn 0) (eqb status 2 && (leb 1 csn && leb csn assigned)) ≡ true → b ≡ not (eqb status 2)
-    go true q h = let s : status ≡ 1 = eqb-true status 1 q in rw s
-    go false q h = rw (and-left (eqb status 2) (leb 1 csn && leb csn assigned) h)
-
--- ---- no id stands in two slots
-
-apart-from : (txs : List Tx) (k i : ℕ) → distinct (upFrom (outlineAt txs) k i) ≡ true
-    → (a b : ℕ) → i ≤ a → a < b → b < i + k → slotAt txs a .id .0 ≡ slotAt txs b .id .0 → ⊥
-apart-from txs zero i e a b h l u s = omega arith
-apart-from txs (suc k) i e a b h l u s =
-    go (eqb a i) refl
-    (λ j. apart-from txs k (suc i) (and-right (not (any (alikeTo (outlineAt txs i)) later)) (distinct later) e) a b j l (omega arith) s)
-  where
-    later : List Outline
-    later = upFrom (outlineAt txs) k (suc i)
-
-    go : (t : Bool) → eqb a i ≡ t → (suc i ≤ a → ⊥) → ⊥
-    go true q f =
-        let none = none-any (alikeTo (outlineAt txs i)) later (not-yes _ (and-left (not (any (alikeTo (outlineAt txs i)) later)) (distinct later) e)) in
-        let z = all-at (outlineAt txs) k (suc i) none b (omega (arith, eqb-true a i q)) (omega arith) in
-        eqb-false _ _ (or-left (eqb (slotAt txs i .id .0) (slotAt txs b .id .0)) _ z) (ap (λ (x : ℕ). slotAt txs x .id .0) (sym (eqb-true a i q)) ∙ s)
-    go false q f = let d = eqb-false a i q in f (omega (arith, d))
+use Rattle.restart.proofs.SlotLaws.{first-at, first-none, txs-up}
 
 module _ (image : Image) (ok : keepsRules image ≡ true) where
-  -- the image rules, in their order
-  abbrev counters : Bool
-  counters = leb (image .logend) 16384 && leb (image .ondisk .0) (image .assigned .0)
-
-  abbrev fewOk : Bool
-  fewOk = leb (length (outlined (image .txs) (image .count))) 8
-
-  abbrev allOk : Bool
-  allOk = every (outlineOk (image .lastid .0) (image .assigned .0)) (outlined (image .txs) (image .count))
-
-  pub image-distinct : distinct (outlined (image .txs) (image .count)) ≡ true
-  image-distinct = and-right allOk _ (and-right (counters && fewOk) (allOk && distinct (outlined (image .txs) (image .count))) ok)
-
-  pub image-few : image .count ≤ 8
-  image-few =
-      let h = leb-true (length (outlined (image .txs) (image .count))) 8 (and-right counters fewOk (and-left (counters && fewOk) _ ok)) in
-      omega (arith, length-up (outlineAt (image .txs)) (image .count) 0)
-
-  pub outline-ok : (i : ℕ) → i < image .count → outlineOk (image .lastid .0) (image .assigned .0) (outlineAt (image .txs) i) ≡ true
-  outline-ok i h =
-      every-at (outlineAt (image .txs)) (outlineOk (image .lastid .0) (image .assigned .0)) (image .count) 0
-      (and-left allOk (distinct (outlined (image .txs) (image .count))) (and-right (counters && fewOk) _ ok)) i (omega arith) (omega arith)
-
-  abbrev headAt : ℕ → Bool
-  headAt i =
-      headOk (image .lastid .0) (image .assigned .0) (slotAt (image .txs) i .id .0) (slotAt (image .txs) i .status) (slotAt (image .txs) i .csn .0)
-
-  pub head-ok : (i : ℕ) → i < image .count → headAt i ≡ true
-  head-ok i h = and-left (headAt i) (recordsOk (rangesOf (slotAt (image .txs) i .undo))) (outline-ok i h)
-
   pub undoable : Undoable image
-  undoable =
-      record { few = image-few; ranged = λ i h. and-right (headAt i) (recordsOk (rangesOf (slotAt (image .txs) i .undo))) (outline-ok i h) }
+  undoable = record { few = image-count image ok; ranged = undo-at image ok }
 
-  pub ruled : (i : ℕ) → i < image .count → Ruled (image .lastid .0) (txAt image i .id) (slotAt (image .txs) i .status)
-  ruled i h = head-rules _ _ _ _ _ (head-ok i h)
-
+  -- no id stands in two slots
   apart : (a b : ℕ) → a < b → b < image .count → txAt image a .id ≡ txAt image b .id → ⊥
-  apart a b l u = apart-from (image .txs) (image .count) 0 image-distinct a b (omega arith) l (omega arith)
+  apart a b l u =
+      eqb-false _ _ (or-left (eqb (txAt image a .id) (txAt image b .id)) _ (distinct-at (outlineAt (image .txs)) (image .count) 0 (image-distinct image ok) a b (omega arith) l (omega arith)))
 
   -- a slot by its id
   pub same-slot : (i j : ℕ) → i < image .count → j < image .count → txAt image i .id ≡ txAt image j .id → (i ≡ j → ⊥) → ⊥

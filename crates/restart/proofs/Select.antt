@@ -12,6 +12,7 @@ use Rattle.recovery.specs.Lists.{nil, cons}
 use Rattle.recovery.specs.Transaction.{Tx}
 use Rattle.recovery.specs.Restart.{sortDesc}
 use Rattle.recovery.proofs.Lists.{all-map, all-append}
+use Rattle.recovery.proofs.Sorting.{AllLe, AllLt, sort-pick}
 use Rattle.log.specs.declared.Csn.{Csn}
 use Rattle.log.proofs.Basics.{and-left, and-right}
 use Rattle.image.specs.declared.Image.{Image}
@@ -23,7 +24,6 @@ use Rattle.restart.specs.Slots.{txAt, oneIf, filterBelow}
 use Rattle.restart.specs.Undo.{isLost, lostAt, lostBy}
 use Rattle.restart.specs.Turns.{betterOf, bestOf}
 use Rattle.restart.proofs.SlotLaws.{filter-same}
-use Rattle.restart.proofs.Sort.{AllLe, AllLt, sort-pick}
 
 module _ (image : Image) (found : List ℕ) where
   -- unfinished and committing

@@ -6,11 +6,11 @@ use native.Mathlib.Numerals.{add-one}
 use native.Mathlib.Omega.{arith}
 use mathlib.Core.Bool.{Bool, true, false, cond}
 use mathlib.Core.List.{List, [], _∷_, _++_, map}
-use mathlib.Core.Path.{_≡_, refl, sym, ap, ap₂, _∙_, subst}
+use mathlib.Core.Path.{_≡_, refl, sym, ap, ap₂, _∙_}
 use lib.ListN.{length, length-append}
 use lib.Dec.{eqb}
 use borrow.Author.Tests.{eqb-true, eqb-false}
-use Rattle.recovery.specs.Lists.{All, nil, cons, filter}
+use Rattle.recovery.specs.Lists.{filter}
 use Rattle.recovery.specs.Transaction.{Tx as Transaction}
 use Rattle.recovery.proofs.Lists.{filter-append}
 use Rattle.log.proofs.Basics.{clash}
@@ -89,18 +89,6 @@ module _ {A : Type 0} where
       ap₂ (λ (xs : List A) (b : Bool). xs ++ oneIf b (f n)) (filter-up p q f n (λ j l. h j (omega arith))) (h n (omega arith))
       ∙ ap (λ (xs : List A). filter q (upFrom f n 0) ++ xs) (one-cond (q (f n)) (f n))
       ∙ sym (ap (filter q) (up-snoc f n 0 ∙ ap (λ (j : ℕ). upFrom f n 0 ++ (f j ∷ [])) (zero-add n)) ∙ filter-append q (upFrom f n 0) (f n ∷ []))
-
-  pub all-at : {p : A → Type 0} (f : ℕ → A) (k i : ℕ) → All p (upFrom f k i) → (j : ℕ) → i ≤ j → j < i + k → p (f j)
-  all-at f zero i h j a b = absurd (omega arith)
-  all-at {p} f (suc k) i (cons h hs) j a b = go (eqb j i) refl (λ l. all-at f k (suc i) hs j l (omega arith))
-    where
-      go : (t : Bool) → eqb j i ≡ t → (suc i ≤ j → p (f j)) → p (f j)
-      go true q later = subst (λ (x : ℕ). p (f x)) (sym (eqb-true j i q)) h
-      go false q later = let d = eqb-false j i q in later (omega (arith, d))
-
-  pub all-up : {p : A → Type 0} (f : ℕ → A) (k i : ℕ) → ((j : ℕ) → i ≤ j → j < i + k → p (f j)) → All p (upFrom f k i)
-  all-up f zero i h = nil
-  all-up f (suc k) i h = cons (h i (omega arith) (omega arith)) (all-up f k (suc i) (λ j a b. h j (omega arith) (omega arith)))
 
 -- the image's transactions by slot
 pub txs-up : (image : Image) → txsOf image ≡ upFrom (txAt image) (image .count) 0

@@ -11,6 +11,7 @@ use Rattle.recovery.specs.Transaction.{Tx}
 use Rattle.recovery.specs.Replay.{undoAll, undoEach, layBytes}
 use Rattle.recovery.specs.Restart.{sortDesc, aborts}
 use Rattle.recovery.proofs.Groups.{undoEach-append}
+use Rattle.recovery.proofs.Sorting.{sort-length}
 use Rattle.log.specs.Record.{encode, abort}
 use Rattle.log.specs.Log.{encodeLog}
 use Rattle.log.proofs.Basics.{clash}
@@ -22,7 +23,6 @@ use Rattle.restart.specs.Forward.{Went, wentBy, forwardOf}
 use Rattle.restart.specs.Undo.{runningAt, lostAt, lostBy, runningOf, lostOf}
 use Rattle.restart.specs.Restart.{Outcome, outcome, restartOf}
 use Rattle.restart.proofs.SlotLaws.{filter-length}
-use Rattle.restart.proofs.Sort.{sort-length}
 
 aborts-append : (xs ys : List Tx) → encodeLog (aborts (xs ++ ys)) ≡ encodeLog (aborts xs) ++ encodeLog (aborts ys)
 aborts-append [] ys = refl

@@ -12,11 +12,12 @@ use borrow.Author.Tests.{eq-eqb, ne-eqb, lt-ltb, leb-true, eqb-true}
 use Rattle.recovery.specs.Group.{lastCsn}
 use Rattle.recovery.specs.Lists.{any}
 use Rattle.log.specs.Log.{readLog}
+use Rattle.log.proofs.Basics.{and-left, and-right}
 use Rattle.transaction.specs.Lists.{upFrom, every, sumOf}
 use Rattle.transaction.specs.declared.Tx.{Tx}
 use Rattle.transaction.specs.View.{Range, rangesOf}
 use Rattle.transaction.specs.Rules.{headOk as headRules, recordsOk, outlineOk, alike, redoOk, rangesSize, roomOf}
-use Rattle.transaction.proofs.Lists.{and-left, and-right, every-at, length-up, up-turn}
+use Rattle.transaction.proofs.Lists.{every-at, length-up, up-turn}
 use Rattle.transaction.proofs.Ranges.{size-bound}
 use Rattle.store.specs.declared.State.{State}
 use Rattle.store.specs.declared.admit.Measured.{Measured}

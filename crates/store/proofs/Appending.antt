@@ -14,7 +14,7 @@ use Rattle.log.proofs.RecordLaws.{record-none}
 use Rattle.log.proofs.GroupLaws.{group-none}
 use Rattle.log.proofs.LogLaws.{log-none}
 use Rattle.log.proofs.RoundTrip.{length-group, log-after, log-same}
-use Rattle.transaction.proofs.Lists.{and-left, and-right}
+use Rattle.log.proofs.Basics.{and-left, and-right}
 use Rattle.store.specs.Rules.{isZero, allZero}
 
 -- ---- zeros

@@ -18,15 +18,16 @@ use Rattle.transaction.specs.View.{Range, rangeAt, rangesOf, writesOf}
 use Rattle.transaction.specs.Rules.{recordsOk, heldAgainst, rangesSize, roomOf}
 use Rattle.transaction.proofs.Lists.{length-up}
 use Rattle.transaction.proofs.Ranges.{counted}
+use Rattle.image.proofs.Rules.{image-count, undo-at}
 use Rattle.store.specs.declared.State.{State}
-use Rattle.store.specs.State.{txAt, txsOf, slotOf}
+use Rattle.store.specs.State.{txAt, txsOf, slotOf, imageOf}
 use Rattle.store.specs.Answer.{done, refused, answer}
 use Rattle.store.specs.Rules.{tailLength}
 use Rattle.store.specs.Numbers.{check, firstNumber, txOf, check8, check9, check10, writeChecks}
 use Rattle.store.specs.Steps.{begunState, writtenState, precommittedState, droppedState}
 use Rattle.store.specs.Calls.{refusedReturn, doneReturn, beginNumber, beginOf, writeNumber, writeOf, readNumber, readOf, readAnswerOf, appended, precommitNumber, precommitOf, abortNumber, abortOf, settleNumber, settleOf}
 use Rattle.store.proofs.Checks.{passed}
-use Rattle.store.proofs.Fits.{Fit, image-count, undo-at, status-at, redo-at, room-at}
+use Rattle.store.proofs.Fits.{Fit, status-at, redo-at, room-at}
 use Rattle.store.proofs.Choosing.{Running, running, ranged-by-8}
 
 -- ---- outcomes, by the number
@@ -122,11 +123,11 @@ usable s t id f r =
     let k = slotOf s id in
     let e : txAt s k .status ≡ 1 = status-at s t f k (r .listed) (r .notCommitting) in
     let same = redo-at s t f k (r .listed) e in
-    let u = undo-at s (f .image) k (r .listed) in
+    let u = undo-at (imageOf s) (f .image) k (r .listed) in
     let room : rangesSize (rangesOf (txAt s k .redo)) + 8 ≤ sumOf roomOf (txsOf s) = rw (eq-eqb (txAt s k .status) 1 e) at (room-at s t f k (r .listed)) in
     record {
       listed = r .listed;
-      few = image-count s (f .image);
+      few = image-count (imageOf s) (f .image);
       undo = u;
       redo = subst (λ (rs : List Range). recordsOk rs ≡ true) same u;
       counts = same-count (txAt s k .undo) (txAt s k .redo) same;

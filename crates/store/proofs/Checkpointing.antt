@@ -16,17 +16,11 @@ use Rattle.image.specs.Format.{encodeImage, imageSize}
 use Rattle.image.proofs.Sizes.{length-content, image-small}
 use Rattle.image.proofs.RoundTrip.{encode-used}
 use Rattle.store.specs.declared.State.{State}
-use Rattle.store.specs.State.{unrecovered}
+use Rattle.store.specs.State.{imageOf, unrecovered}
 use Rattle.store.specs.Answer.{done, cut, refused}
-use Rattle.store.specs.Rules.{keepsImageRules}
 use Rattle.store.specs.Stored.{stored, zeroed}
-use Rattle.store.specs.Checkpoint.{imageOf, slotStores, intoA, slotAt, slotName, imageStores, checkpointStores, checkpointPlan, checkpointOf}
+use Rattle.store.specs.Checkpoint.{slotStores, intoA, slotAt, slotName, imageStores, checkpointStores, checkpointPlan, checkpointOf}
 use Rattle.store.proofs.Storing.{diskNumber, disk-admitted, disk-passes, stored-refused, stored-cut, stored-done}
-
--- ---- the image rules are the same of a state and of its image
-
-pub image-keeps : (s : State) → keepsImageRules s ≡ keepsRules (imageOf s)
-image-keeps s = refl
 
 -- ---- the stores
 
@@ -134,7 +128,7 @@ module _ (s : State) (d m t : List ℕ) (n : ℕ) (z : diskNumber s d m t ≡ 0)
   image-length : length image ≤ 8653
   image-length =
       let a = disk-admitted s d m t z in
-      omega (arith, length-content (contentOf (imageOf s)) m (a .memory), image-small (imageOf s) (sym (image-keeps s) ∙ a .fits .image))
+      omega (arith, length-content (contentOf (imageOf s)) m (a .memory), image-small (imageOf s) (a .fits .image))
 
   -- the log, the pointer byte and the image that it names are not touched before the pointer byte is
   module _ (h : n ≤ imageSize (imageOf s)) where
@@ -200,7 +194,7 @@ module _ (s : State) (d m t : List ℕ) (allowed : ℕ) where
 
   module _ (z : diskNumber s d m t ≡ 0) where
     pub image-ok : (i : Image) → i ≡ imageOf s → keepsRules i ≡ true
-    image-ok i e = ap keepsRules e ∙ sym (image-keeps s) ∙ disk-admitted s d m t z .fits .image
+    image-ok i e = ap keepsRules e ∙ disk-admitted s d m t z .fits .image
 
     -- i is the image made, n the number of its bytes, b the buffer before it was encoded and x after
     pub encoded : (i : Image) (n : ℕ) (b x : List ℕ) → i ≡ imageOf s → n ≡ imageSize i → 8653 ≤ length b → x ≡ sets b 0 (encodeImage i m) → Encoded s d m x n

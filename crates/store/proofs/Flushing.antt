@@ -21,7 +21,7 @@ use Rattle.log.proofs.RoundTrip.{length-log}
 use Rattle.log.proofs.Soundness.{Bytes, log-sound, log-formed}
 use Rattle.log.proofs.StoreLaws.{length-apply, length-copies, copies-cut, length-shifted}
 use Rattle.log.proofs.Torn.{log-torn, log-cut}
-use Rattle.transaction.proofs.Lists.{and-left, and-right}
+use Rattle.log.proofs.Basics.{and-left, and-right}
 use Rattle.store.specs.declared.State.{State}
 use Rattle.store.specs.State.{unrecovered, outlinesOf}
 use Rattle.store.specs.Answer.{done, cut, refused}

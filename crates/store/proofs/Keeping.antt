@@ -10,23 +10,26 @@ use mathlib.Core.Path.{_≡_, refl, sym, ap, ap₂, _∙_, subst}
 use lib.ListN.{length, take, drop, length-drop}
 use lib.Seq.{length-take-le}
 use lib.Dec.{eqb, leb, ltb}
-use borrow.Author.Tests.{eqb-true, eq-eqb, ne-eqb, le-leb, leb-true, ltb-false, not-true}
+use borrow.Author.Tests.{eq-eqb, ne-eqb, le-leb, leb-true, ltb-false}
 use Rattle.recovery.specs.Group.{aborted, groupSize}
 use Rattle.recovery.specs.Lists.{any}
 use Rattle.log.specs.declared.TxId.{TxId}
 use Rattle.log.specs.declared.Csn.{Csn}
 use Rattle.log.specs.Record.{inRange}
+use Rattle.log.proofs.Basics.{and-left, and-right}
 use Rattle.transaction.specs.declared.Tx.{Tx}
 use Rattle.transaction.specs.Lists.{upFrom, every, sumOf}
 use Rattle.transaction.specs.Flat.{emptyRecords}
 use Rattle.transaction.specs.View.{Range, range, rangeAt, rangesOf, Outline, outline, outlineOf}
 use Rattle.transaction.specs.Rules.{rangeOk, recordsOk, heldAgainst, headOk, outlineOk, sameRanges, redoOk, rangesSize, roomOf}
 use Rattle.transaction.specs.Steps.{freshTx, written, precommitted}
-use Rattle.transaction.proofs.Lists.{and-left, and-right, every-at, length-up, up-snoc, up-same}
+use Rattle.transaction.proofs.Lists.{every-at, length-up, up-snoc, up-same}
 use Rattle.transaction.proofs.Pushed.{pushed-ranges, one-more, ranges-self, size-snoc}
 use Rattle.store.specs.declared.State.{State}
-use Rattle.store.specs.State.{txAt, txsOf, outlineAt, outlinesOf, slotOf}
+use Rattle.store.specs.State.{txAt, txsOf, outlineAt, outlinesOf, slotOf, imageOf}
 use Rattle.image.specs.Rules.{alikeTo, distinct}
+use Rattle.image.proofs.Rules.{image-logend, image-ordered, image-count, image-distinct, outline-at, head-at, undo-at, ruled-at, distinct-at}
+use Rattle.recovery.proofs.Bool.{or-left}
 use Rattle.store.specs.Rules.{keepsImageRules, roomUsed, unfit}
 use Rattle.store.specs.declared.call.Begun.{Begun}
 use Rattle.store.specs.declared.call.Precommitted.{Precommitted}
@@ -34,7 +37,7 @@ use Rattle.store.specs.declared.call.Returned.{Returned}
 use Rattle.store.specs.Numbers.{check, txOf, check8, check9, check10, beginChecks, writeChecks, precommitChecks, abortChecks, settleChecks}
 use Rattle.store.specs.Calls.{Outcome, appended, beginNumber, beginOf, writeNumber, writeOf, precommitNumber, precommitOf, abortNumber, abortOf, settleNumber, settleOf}
 use Rattle.store.proofs.Checks.{passed}
-use Rattle.store.proofs.Fits.{or-left, or-right, Fit, unfit-no, image-logend, image-ordered, image-count, image-distinct, image-at, status-at, redo-at}
+use Rattle.store.proofs.Fits.{Fit, unfit-no, status-at, redo-at}
 use Rattle.store.proofs.Choosing.{Running, running, listed-slot, ranged-by-8}
 use Rattle.store.proofs.Calling.{usable, Writable, writable, begin-done, write-done, precommit-done, abort-done, settle-done}
 use Rattle.store.proofs.Appending.{appended-size, appended-csn, appended-zeros}
@@ -49,26 +52,10 @@ pub nothing : {A : Type 0} (p : A → Bool) (f : ℕ → A) (k i : ℕ) → ((x 
 nothing p f zero i h = refl
 nothing p f (suc k) i h = rw (h i (omega arith) (omega arith)) (nothing p f k (suc i) (λ x a b. h x (omega arith) (omega arith)))
 
-none-at : {A : Type 0} (p : A → Bool) (f : ℕ → A) (k i : ℕ) → any p (upFrom f k i) ≡ false → (x : ℕ) → i ≤ x → x < i + k → p (f x) ≡ false
-none-at p f zero i e x a b = absurd (omega arith)
-none-at p f (suc k) i e x a b =
-    same-or-other x i (λ q. rw q (or-left (p (f i)) (any p (upFrom f k (suc i))) e)) (λ q. none-at p f k (suc i) (or-right (p (f i)) (any p (upFrom f k (suc i))) e) x (omega (arith, a, q)) (omega arith))
-
-not-no : (b : Bool) → not b ≡ true → b ≡ false
-not-no b e = not-true b e
-
 distinct-intro : (o : ℕ → Outline) (k i : ℕ) → ((x y : ℕ) → i ≤ x → x < y → y < i + k → alikeTo (o x) (o y) ≡ false) → distinct (upFrom o k i) ≡ true
 distinct-intro o zero i h = refl
 distinct-intro o (suc k) i h =
     rw (nothing (alikeTo (o i)) o k (suc i) (λ y a b. h i y (omega arith) (omega arith) (omega arith))) (distinct-intro o k (suc i) (λ x y a b c. h x y (omega arith) b (omega arith)))
-
-distinct-at : (o : ℕ → Outline) (k i : ℕ) → distinct (upFrom o k i) ≡ true → (x y : ℕ) → i ≤ x → x < y → y < i + k → alikeTo (o x) (o y) ≡ false
-distinct-at o zero i e x y a b c = absurd (omega arith)
-distinct-at o (suc k) i e x y a b c =
-    let l = not-no (any (alikeTo (o i)) (upFrom o k (suc i))) (and-left (not (any (alikeTo (o i)) (upFrom o k (suc i)))) (distinct (upFrom o k (suc i))) e) in
-    let r = and-right (not (any (alikeTo (o i)) (upFrom o k (suc i)))) (distinct (upFrom o k (suc i))) e in
-    same-or-other x i (λ q. subst (λ (n : ℕ). alikeTo (o n) (o y) ≡ false) (sym q) (none-at (alikeTo (o i)) o k (suc i) l y (omega (arith, q, b)) (omega arith)))
-    (λ q. distinct-at o k (suc i) r x y (omega (arith, a, q)) b (omega arith))
 
 -- ---- the rules as they are kept
 
@@ -90,46 +77,15 @@ head-later last last' assigned assigned' id status csn h g e =
         let c = leb-true csn assigned (and-right (leb 1 csn) _ r) in
         rw (and-left (eqb status 2) _ e, and-left (leb 1 csn) _ r, le-leb csn assigned' (omega arith))
 
-head-csn : (last assigned id status csn : ℕ) → headOk last assigned id status csn ≡ true → csn ≤ assigned
-unfolding headOk
-head-csn last assigned id status csn e = go (eqb status 1) (and-right (leb id last) _ (and-right (leb 1 id) _ e))
-  where
-    go : (b : Bool) → cond b (eqb csn 0) (eqb status 2 && (leb 1 csn && leb csn assigned)) ≡ true → csn ≤ assigned
-    go true e = omega (arith, eqb-true csn 0 e)
-    go false e = leb-true csn assigned (and-right (leb 1 csn) _ (and-right (eqb status 2) _ e))
-
-head-id : (last assigned id status csn : ℕ) → headOk last assigned id status csn ≡ true → (1 ≤ id) × (id ≤ last)
-unfolding headOk
-head-id last assigned id status csn e = (leb-true 1 id (and-left (leb 1 id) _ e), leb-true id last (and-left (leb id last) _ (and-right (leb 1 id) _ e)))
-
--- what the head of a listed transaction says
-pub record Headed (s : State) (i : ℕ) : Type 0 where
-  pub whole : headOk (s .lastid .0) (s .assigned .0) (txAt s i .id .0) (txAt s i .status) (txAt s i .csn .0) ≡ true
-  pub given : txAt s i .id .0 ≤ s .lastid .0
-  pub numbered : txAt s i .csn .0 ≤ s .assigned .0
-  pub records : recordsOk (rangesOf (txAt s i .undo)) ≡ true
-
 module _ (s : State) (t : List ℕ) (f : Fit s t) where
-  headed : (i : ℕ) → i < s .count → Headed s i
-  headed i h =
-      let x = txAt s i in
-      let o = image-at s (f .image) i h in
-      let e = and-left (headOk (s .lastid .0) (s .assigned .0) (x .id .0) (x .status) (x .csn .0)) (recordsOk (rangesOf (x .undo))) o in
-      record {
-        whole = e;
-        given = head-id _ _ _ _ _ e .1;
-        numbered = head-csn _ _ _ _ _ e;
-        records = and-right (headOk (s .lastid .0) (s .assigned .0) (x .id .0) (x .status) (x .csn .0)) (recordsOk (rangesOf (x .undo))) o;
-      }
-
   -- with later counters
   outline-later : (last' assigned' : ℕ) → s .lastid .0 ≤ last' → s .assigned .0 ≤ assigned' → (i : ℕ) → i < s .count → outlineOk last' assigned' (outlineAt s i) ≡ true
   outline-later last' assigned' a b i h =
-      let x = headed i h in
-      rw (head-later (s .lastid .0) last' (s .assigned .0) assigned' (txAt s i .id .0) (txAt s i .status) (txAt s i .csn .0) a b (x .whole)) (x .records)
+      rw (head-later (s .lastid .0) last' (s .assigned .0) assigned' (txAt s i .id .0) (txAt s i .status) (txAt s i .csn .0) a b (head-at (imageOf s) (f .image) i h))
+      (undo-at (imageOf s) (f .image) i h)
 
   apart : (x y : ℕ) → x < y → y < s .count → alikeTo (outlineAt s x) (outlineAt s y) ≡ false
-  apart x y a b = distinct-at (outlineAt s) (s .count) 0 (image-distinct s (f .image)) x y (omega arith) a (omega arith)
+  apart x y a b = distinct-at (outlineAt s) (s .count) 0 (image-distinct (imageOf s) (f .image)) x y (omega arith) a (omega arith)
 
   redo-right : (i : ℕ) → i < s .count → redoOk (txAt s i) ≡ true
   redo-right i h = every-at (txAt s) redoOk (s .count) 0 (f .redo) i (omega arith) (omega arith)
@@ -234,7 +190,7 @@ begun-fits s t z f h room =
     let c = begun-slot s z h in
     let old : (i : ℕ) → i < r .count → (i ≡ s .count → ⊥) → i < s .count = λ i l n. omega (arith, l, n) in
     let good = fresh-outline (s .lastid .0) (s .assigned .0) in
-    let d = changed-distinct s t f r u (s .count) c (omega arith) (omega arith) old good (λ x a b. fresh-apart s x (headed s t f x b .given)) (λ y a b. absurd (omega (arith, a, b))) in
+    let d = changed-distinct s t f r u (s .count) c (omega arith) (omega arith) old good (λ x a b. fresh-apart s x (ruled-at (imageOf s) (f .image) x b .given)) (λ y a b. absurd (omega (arith, a, b))) in
     let n : txAt r (0 + s .count) ≡ u = ap (txAt r) (zero-add (s .count)) ∙ c .here in
     let sum : sumOf roomOf (txsOf r) ≡ sumOf roomOf (txsOf s) + 8 =
     ap (λ (k : ℕ). sumOf roomOf (upFrom (txAt r) k 0)) (add-one (s .count))
@@ -245,7 +201,7 @@ begun-fits s t z f h room =
     record {
       recovered = f .recovered;
       image =
-          image-kept r (image-logend s (f .image)) (image-ordered s (f .image)) (omega (arith, h)) (changed-outlines s t f r u (s .count) c (omega arith) (omega arith) old good) d;
+          image-kept r (image-logend (imageOf s) (f .image)) (image-ordered (imageOf s) (f .image)) (omega (arith, h)) (changed-outlines s t f r u (s .count) c (omega arith) (omega arith) old good) d;
       room = omega (arith, sum, room);
       redo = changed-redo s t f r u (s .count) c (omega arith) (omega arith) old good (fresh-redo id);
       tail = f .tail;
@@ -299,10 +255,10 @@ written-fits s t j m a bs z f h e lm w g room =
     let u = written x a old bs in
     let l : length old ≡ length bs = length-take-le (length bs) (drop a m) (rw length-drop (omega (arith, lm, w .within))) in
     let y = z .each j h in
-    let few = image-count s (f .image) in
+    let few = image-count (imageOf s) (f .image) in
     let c = written-slot s z j h few m a bs in
     let same : (i : ℕ) → i < r .count → (i ≡ j → ⊥) → i < s .count = λ i p n. p in
-    let good = written-outline x a old bs y (w .undo) (w .redo) l (s .lastid .0) (s .assigned .0) (headed s t f j h .whole) (headed s t f j h .records) g in
+    let good = written-outline x a old bs y (w .undo) (w .redo) l (s .lastid .0) (s .assigned .0) (head-at (imageOf s) (f .image) j h) (undo-at (imageOf s) (f .image) j h) g in
     let d = changed-distinct s t f r u j c (omega arith) (omega arith) same good
     (λ i p q. written-apart x a old bs y (w .undo) (w .redo) l (outlineAt s i) .0 ∙ apart s t f i j p h)
     (λ i p q. written-apart x a old bs y (w .undo) (w .redo) l (outlineAt s i) .1 ∙ apart s t f j i p q) in
@@ -310,7 +266,7 @@ written-fits s t j m a bs z f h e lm w g room =
     let more = written-room x a old bs y (w .undo) (w .redo) l e in
     record {
       recovered = f .recovered;
-      image = image-kept r (image-logend s (f .image)) (image-ordered s (f .image)) few (changed-outlines s t f r u j c (omega arith) (omega arith) same good) d;
+      image = image-kept r (image-logend (imageOf s) (f .image)) (image-ordered (imageOf s) (f .image)) few (changed-outlines s t f r u j c (omega arith) (omega arith) same good) d;
       room = omega (arith, sum, more, room);
       redo = changed-redo s t f r u j c (omega arith) (omega arith) same good (written-redo-ok x a old bs y (w .undo) (w .redo) l (redo-at s t f j h e));
       tail = f .tail;
@@ -355,13 +311,13 @@ precommitted-fits s t id z lt f run =
     let csn : Csn = record { 0 = s .assigned .0 + 1 } in
     let u = precommitted x csn in
     let e = status-at s t f j h (run .notCommitting) in
-    let few = image-count s (f .image) in
+    let few = image-count (imageOf s) (f .image) in
     let c = precommitted-slot s z j h few in
     let same : (i : ℕ) → i < r .count → (i ≡ j → ⊥) → i < s .count = λ i p n. p in
-    let good = precommitted-outline x (s .lastid .0) (s .assigned .0) (headed s t f j h .whole) (headed s t f j h .records) in
+    let good = precommitted-outline x (s .lastid .0) (s .assigned .0) (head-at (imageOf s) (f .image) j h) (undo-at (imageOf s) (f .image) j h) in
     let d = changed-distinct s t f r u j c (omega arith) (omega arith) same good
-    (λ i p q. precommitted-below (outlineAt s i) x (s .assigned .0 + 1) (apart s t f i j p h) (λ n. omega (arith, n, headed s t f i q .numbered)))
-    (λ i p q. precommitted-above (outlineAt s i) x (s .assigned .0 + 1) (apart s t f j i p q) (λ n. omega (arith, n, headed s t f i q .numbered))) in
+    (λ i p q. precommitted-below (outlineAt s i) x (s .assigned .0 + 1) (apart s t f i j p h) (λ n. omega (arith, n, ruled-at (imageOf s) (f .image) i q .numbered)))
+    (λ i p q. precommitted-above (outlineAt s i) x (s .assigned .0 + 1) (apart s t f j i p q) (λ n. omega (arith, n, ruled-at (imageOf s) (f .image) i q .numbered))) in
     let us = usable s t id f run in
     let y = commit-appends s t id z lt f run in
     let g = commitOf s id in
@@ -371,7 +327,7 @@ precommitted-fits s t id z lt f run =
     record {
       recovered = f .recovered;
       image =
-          image-kept r (image-logend s (f .image)) (omega (arith, image-ordered s (f .image))) few (changed-outlines s t f r u j c (omega arith) (omega arith) same good) d;
+          image-kept r (image-logend (imageOf s) (f .image)) (omega (arith, image-ordered (imageOf s) (f .image))) few (changed-outlines s t f r u j c (omega arith) (omega arith) same good) d;
       room = omega (arith, sum, precommitted-room x csn, k, size, f .room);
       redo = changed-redo s t f r u j c (omega arith) (omega arith) same good (precommitted-redo x csn);
       tail =
@@ -385,22 +341,22 @@ dropped-image : (s : State) (t : List ℕ) (j : ℕ) → SizedState s → Fit s 
 unfolding droppedState
 dropped-image s t j z f h =
     let r = droppedState s j in
-    let few = image-count s (f .image) in
+    let few = image-count (imageOf s) (f .image) in
     let d = dropped-slot s z j h few in
-    image-kept r (image-logend s (f .image)) (image-ordered s (f .image)) (omega (arith, few))
+    image-kept r (image-logend (imageOf s) (f .image)) (image-ordered (imageOf s) (f .image)) (omega (arith, few))
     (every-intro (outlineOk (s .lastid .0) (s .assigned .0)) (outlineAt r) (s .count - 1) 0
-    (λ i a b. dropped-each s t f r j h d refl (λ x. outlineOk (s .lastid .0) (s .assigned .0) (outlineOf x)) (λ k l. image-at s (f .image) k l) i (omega (arith, b))))
+    (λ i a b. dropped-each s t f r j h d refl (λ x. outlineOk (s .lastid .0) (s .assigned .0) (outlineOf x)) (λ k l. outline-at (imageOf s) (f .image) k l) i (omega (arith, b))))
     (dropped-distinct s t f r j h d refl)
 
 dropped-redo : (s : State) (t : List ℕ) (j : ℕ) → SizedState s → Fit s t → j < s .count → every redoOk (txsOf (droppedState s j)) ≡ true
 unfolding droppedState
 dropped-redo s t j z f h =
-    let d = dropped-slot s z j h (image-count s (f .image)) in
+    let d = dropped-slot s z j h (image-count (imageOf s) (f .image)) in
     every-intro redoOk (txAt (droppedState s j)) (s .count - 1) 0 (λ i a b. dropped-each s t f (droppedState s j) j h d refl redoOk (redo-right s t f) i (omega (arith, b)))
 
 dropped-reserved : (s : State) (t : List ℕ) (j : ℕ) → SizedState s → Fit s t → j < s .count → sumOf roomOf (txsOf (droppedState s j)) + roomOf (txAt s j) ≡ sumOf roomOf (txsOf s)
 unfolding droppedState
-dropped-reserved s t j z f h = dropped-sum s t f (droppedState s j) j h (dropped-slot s z j h (image-count s (f .image))) refl
+dropped-reserved s t j z f h = dropped-sum s t f (droppedState s j) j h (dropped-slot s z j h (image-count (imageOf s) (f .image))) refl
 
 settled-fits : (s : State) (t : List ℕ) (j : ℕ) → SizedState s → Fit s t → j < s .count → Fit (droppedState s j) t
 unfolding droppedState
@@ -441,7 +397,7 @@ module _ (s : State) (m t : List ℕ) (z : SizedState s) where
   pub begin-keeps : beginNumber s m t ≡ 0 → Kept (beginOf s m t .state) t
   begin-keeps e =
       let a = accepted s m t (beginChecks (s .count) (s .lastid .0) (roomUsed s t)) e in
-      let b = begin-free s (roomUsed s t) (image-count s (a .fits .image)) (a .own) in
+      let b = begin-free s (roomUsed s t) (image-count (imageOf s) (a .fits .image)) (a .own) in
       subst (λ (o : Begun). Kept (o .state) t) (sym (begin-done s m t e))
       (record { fits = unfit-no (begunState s) t (begun-fits s t z (a .fits) (b .0) (b .1)); sizes = begun-sized s z (b .0) })
 
@@ -464,7 +420,7 @@ module _ (s : State) (m t : List ℕ) (z : SizedState s) where
         let i : inRange a n ≡ true = rw (le-leb _ _ (g .0), le-leb _ _ (g .1), le-leb _ _ (g .2)) in
         let f = written-fits s t at m a bs z (x .fits) (r .listed) (status-at s t (x .fits) at (r .listed) (r .notCommitting)) (x .memory) w i (ltb-false _ _ (q'' .0)) in
         subst (λ (o : Outcome Returned). Kept (o .result .state) (o .tail)) (sym (write-done s m t id a bs e))
-        (record { fits = unfit-no (writtenState s at m a bs) t f; sizes = written-sized s z at (r .listed) (image-count s (x .fits .image)) m a bs })
+        (record { fits = unfit-no (writtenState s at m a bs) t f; sizes = written-sized s z at (r .listed) (image-count (imageOf s) (x .fits .image)) m a bs })
 
     pub precommit-keeps : precommitNumber s m t id ≡ 0 → Kept (precommitOf s m t id .result .state) (precommitOf s m t id .tail)
     precommit-keeps e =
@@ -473,7 +429,7 @@ module _ (s : State) (m t : List ℕ) (z : SizedState s) where
         subst (λ (o : Outcome Precommitted). Kept (o .result .state) (o .tail)) (sym (precommit-done s m t id e))
         (record {
           fits = unfit-no (precommittedState s at) (appended s t (commitOf s (id .0))) (precommitted-fits s t (id .0) z (x .tail) (x .fits) r);
-          sizes = precommitted-sized s z at (r .listed) (image-count s (x .fits .image));
+          sizes = precommitted-sized s z at (r .listed) (image-count (imageOf s) (x .fits .image));
         })
 
     pub abort-keeps : abortNumber s m t id ≡ 0 → Kept (abortOf s m t id .result .state) (abortOf s m t id .tail)
@@ -483,7 +439,7 @@ module _ (s : State) (m t : List ℕ) (z : SizedState s) where
         subst (λ (o : Outcome Returned). Kept (o .result .state) (o .tail)) (sym (abort-done s m t id e))
         (record {
           fits = unfit-no (droppedState s at) (appended s t (aborted (id .0))) (aborted-fits s t (id .0) z (x .tail) (x .fits) r);
-          sizes = dropped-sized s z at (r .listed) (image-count s (x .fits .image));
+          sizes = dropped-sized s z at (r .listed) (image-count (imageOf s) (x .fits .image));
         })
 
     pub settle-keeps : settleNumber s m t id ≡ 0 → Kept (settleOf s m t id .state) t
@@ -491,4 +447,4 @@ module _ (s : State) (m t : List ℕ) (z : SizedState s) where
         let x = accepted s m t (settleChecks s (id .0)) e in
         let l = listed-slot s (id .0) (check 14 (eqb (txOf s (id .0) .status) 1 || ltb (s .ondisk .0) (txOf s (id .0) .csn .0)) ∷ []) (x .own) in
         subst (λ (o : Returned). Kept (o .state) t) (sym (settle-done s m t id e))
-        (record { fits = unfit-no (droppedState s at) t (settled-fits s t at z (x .fits) (l .0)); sizes = dropped-sized s z at (l .0) (image-count s (x .fits .image)) })
+        (record { fits = unfit-no (droppedState s at) t (settled-fits s t at z (x .fits) (l .0)); sizes = dropped-sized s z at (l .0) (image-count (imageOf s) (x .fits .image)) })

@@ -19,11 +19,12 @@ use Rattle.transaction.proofs.Lists.{every-at}
 use Rattle.transaction.proofs.Ranges.{counted, ranged}
 use Rattle.transaction.proofs.Writes.{writes-up, bytes-length, sized}
 use Rattle.transaction.proofs.Pushed.{Sized}
+use Rattle.image.proofs.Rules.{undo-at}
 use Rattle.store.specs.declared.State.{State}
-use Rattle.store.specs.State.{txAt, txsOf}
+use Rattle.store.specs.State.{txAt, txsOf, imageOf}
 use Rattle.store.specs.Rules.{tailLength, roomUsed}
 use Rattle.store.specs.View.{viewAt, live}
-use Rattle.store.proofs.Fits.{Fit, undo-at, status-at}
+use Rattle.store.proofs.Fits.{Fit, status-at}
 use Rattle.store.proofs.Admitting.{any-same, redo-records}
 use Rattle.store.proofs.Stepping.{SizedState}
 
@@ -54,7 +55,7 @@ module _ (s : State) (m t : List ℕ) (z : SizedState s) (f : Fit s t) where
       ≡ (not (eqb id (viewAt s i .id)) && (not (viewAt s i .committing) && any (λ u. overlap u (record { addr = a; bytes = bs })) (viewAt s i .undo)))
   unfolding heldAgainst
   held-at id a bs i h =
-      ap₂ (λ (x y : Bool). not (eqb id (txAt s i .id .0)) && (x && y)) (status i h) (over (txAt s i .undo) a bs (z .each i h .undos) (undo-at s (f .image) i h))
+      ap₂ (λ (x y : Bool). not (eqb id (txAt s i .id .0)) && (x && y)) (status i h) (over (txAt s i .undo) a bs (z .each i h .undos) (undo-at (imageOf s) (f .image) i h))
 
   -- number 9
   pub held-view : (id a : ℕ) (bs : List ℕ) → any (heldAgainst id a (length bs)) (txsOf s) ≡ heldByOther id (record { addr = a; bytes = bs }) (live s m t .txs)
@@ -70,7 +71,7 @@ module _ (s : State) (m t : List ℕ) (z : SizedState s) (f : Fit s t) where
       go false e =
           let one = status-at s t f i h (eqb-false (txAt s i .status) 2 e) in
           let r = txAt s i .redo in
-          let k = redo-records (txAt s i) (undo-at s (f .image) i h) (every-at (txAt s) redoOk (s .count) 0 (f .redo) i (omega arith) (omega arith)) one in
+          let k = redo-records (txAt s i) (undo-at (imageOf s) (f .image) i h) (every-at (txAt s) redoOk (s .count) 0 (f .redo) i (omega arith) (omega arith)) one in
           let l = sized r (z .each i h .redos .space) (counted r k) (λ j b. ranged r k j b .1) in
           rw (eq-eqb (txAt s i .status) 1 one) (omega (arith, l))
 

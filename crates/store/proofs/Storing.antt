@@ -1,21 +1,20 @@
 -- Calls that store on the disk: stores into a part of it, numbers 1 and 2, and the cases of the outcome.
-use Prim.Native.Nat.{ℕ, zero, suc, _+_, _-_, _≤_, _<_, min}
+use Prim.Native.Nat.{ℕ, zero, suc, _+_, _-_, _≤_, _<_}
+use native.Mathlib.Nat.{add-assoc}
 use native.Mathlib.Omega.{arith}
 use mathlib.Core.Bool.{not}
 use mathlib.Core.List.{List, [], _∷_, _++_, append-nil}
 use mathlib.Core.Path.{_≡_, refl, sym, ap, ap₂, _∙_}
-use lib.ListN.{length, take, drop, set, replicate, length-drop, take-append-drop, drop-of-length-le}
+use lib.ListN.{length, take, drop, set, length-drop, take-append-drop, drop-of-length-le}
 use lib.Seq.{take-all, take-set-le, drop-set-add}
 use lib.Dec.{eqb}
 use borrow.Author.Tests.{eq-eqb, ne-eqb, lt-ltb, le-ltb, eqb-true, not-false}
-use Rattle.log.specs.Stores.{Store, store, apply, copies}
+use Rattle.log.specs.Stores.{Store, store, apply, copies, clears}
 use Rattle.store.specs.declared.State.{State}
-use Rattle.store.specs.declared.stored.Stored.{Stored}
-use Rattle.store.specs.State.{unrecovered}
-use Rattle.store.specs.Answer.{done, cut, refused}
+use Rattle.store.specs.Answer.{Word, refused}
 use Rattle.store.specs.Numbers.{firstNumber, sharedChecks}
 use Rattle.store.specs.Admission.{admission}
-use Rattle.store.specs.Stored.{diskChecks, DiskOutcome, Plan, carriedOut, stored, storedBy}
+use Rattle.store.specs.Stored.{diskChecks, DiskOutcome, Plan, cutShort, madeWhole, carriedOut, stored, storedBy}
 use Rattle.store.proofs.Fits.{Fit, unfit-no}
 use Rattle.store.proofs.Checks.{passed}
 use Rattle.store.proofs.Admitting.{Admitted, admitted}
@@ -32,6 +31,10 @@ copies-moved a at [] = refl
 copies-moved a at (v ∷ vs) =
     let e : suc (a + at) ≡ a + suc at = omega arith in
     ap (λ (ss : List Store). store (a + at) v ∷ ss) (ap (λ (j : ℕ). copies j vs) e ∙ copies-moved a (suc at) vs)
+
+pub clears-moved : (a low k : ℕ) → clears (a + low) k ≡ moved a (clears low k)
+clears-moved a low zero = refl
+clears-moved a low (suc k) = ap₂ (λ (i : ℕ) (ss : List Store). store i 0 ∷ ss) (add-assoc a low k) (clears-moved a low k)
 
 take-moved : (n a : ℕ) (ss : List Store) → take n (moved a ss) ≡ moved a (take n ss)
 take-moved zero a ss = refl
@@ -53,6 +56,18 @@ part-stored a n ss d ys e =
     let r : drop (length d - a) (drop a d) ≡ [] = drop-of-length-le (drop a d) {i = length d - a} (omega arith) in
     ap (λ (l : List ℕ). take a d ++ l) (ap₂ _++_ (e ∙ ap (apply (take n ss)) f) r ∙ append-nil (apply (take n ss) (drop a d)))
     ∙ sym (ap (λ (rs : List Store). apply rs d) (take-moved n a ss) ∙ apply-moved a (take n ss) d)
+
+-- ---- a plan, by the stores allowed
+
+pub carried-cut : {R : Type 0} (result : Word → ℕ → State → R) (p : Plan) (n : ℕ) (d : List ℕ) → n < length (p .stores)
+    → carriedOut result p n d ≡ cutShort result p n d
+unfolding carriedOut
+carried-cut result p n d h = rw (lt-ltb _ _ h)
+
+pub carried-done : {R : Type 0} (result : Word → ℕ → State → R) (p : Plan) (n : ℕ) (d : List ℕ) → length (p .stores) ≤ n
+    → carriedOut result p n d ≡ madeWhole result p n d
+unfolding carriedOut
+carried-done result p n d h = rw (le-ltb _ _ h)
 
 -- ---- a call that is not refused
 
@@ -83,30 +98,18 @@ module _ (s : State) (d m t : List ℕ) where
     unfolding storedBy
     stored-refused n e h = rw (e, ne-eqb n 0 h)
 
-    pub stored-cut : diskNumber ≡ 0 → allowed < length (p .stores)
-        → storedBy s d m t p allowed
-        ≡ record {
-          result = stored cut (min allowed (length (p .stores))) unrecovered;
-          disk = apply (take allowed (p .stores)) d;
-          memory = replicate 4096 0;
-          tail = replicate 16384 0;
-        }
-    unfolding storedBy carriedOut
-    stored-cut e h = rw (e, lt-ltb _ _ h)
+    pub stored-cut : diskNumber ≡ 0 → allowed < length (p .stores) → storedBy s d m t p allowed ≡ cutShort stored p allowed d
+    unfolding storedBy
+    stored-cut e h = rw e (carried-cut stored p allowed d h)
 
-    pub stored-done : diskNumber ≡ 0 → length (p .stores) ≤ allowed
-        → storedBy s d m t p allowed
-        ≡ record {
-          result = stored done (min allowed (length (p .stores))) (p .state);
-          disk = apply (take allowed (p .stores)) d;
-          memory = p .memory;
-          tail = p .tail;
-        }
-    unfolding storedBy carriedOut
-    stored-done e h = rw (e, le-ltb _ _ h)
+    pub stored-done : diskNumber ≡ 0 → length (p .stores) ≤ allowed → storedBy s d m t p allowed ≡ madeWhole stored p allowed d
+    unfolding storedBy
+    stored-done e h = rw e (carried-done stored p allowed d h)
 
 -- the parts of an outcome x, as a contract asks for them of the definition
-pub leaves : {o x : DiskOutcome Stored} {r : Stored} {m t : List ℕ} → o ≡ x → r ≡ x .result → m ≡ x .memory → t ≡ x .tail
-    → (r ≡ o .result) × ((x .disk ≡ o .disk) × ((m ≡ o .memory) × (t ≡ o .tail)))
-leaves e p q z =
-    (p ∙ ap (λ (y : DiskOutcome Stored). y .result) (sym e), (ap (λ (y : DiskOutcome Stored). y .disk) (sym e), (q ∙ ap (λ (y : DiskOutcome Stored). y .memory) (sym e), z ∙ ap (λ (y : DiskOutcome Stored). y .tail) (sym e))))
+pub leaves : {R : Type 0} {o x : DiskOutcome R} {r : R} {d m t : List ℕ} → o ≡ x → r ≡ x .result → d ≡ x .disk → m ≡ x .memory → t ≡ x .tail
+    → (r ≡ o .result) × ((d ≡ o .disk) × ((m ≡ o .memory) × (t ≡ o .tail)))
+leaves {R} e p q u v = (
+  p ∙ ap (λ (y : DiskOutcome R). y .result) (sym e),
+  (q ∙ ap (λ (y : DiskOutcome R). y .disk) (sym e), (u ∙ ap (λ (y : DiskOutcome R). y .memory) (sym e), v ∙ ap (λ (y : DiskOutcome R). y .tail) (sym e))),
+)

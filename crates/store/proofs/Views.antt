@@ -9,8 +9,8 @@ use mathlib.Core.Option.{some}
 use mathlib.Core.Path.{_≡_, refl, sym, ap, ap₂, _∙_}
 use lib.ListN.{length, take, drop, length-take}
 use lib.Seq.{sets}
-use lib.Dec.{eqb, leb, ltb}
-use borrow.Author.Tests.{eqb-true, eqb-false, eq-eqb, ne-eqb, le-leb, leb-true, ltb-false, not-false}
+use lib.Dec.{eqb, ltb}
+use borrow.Author.Tests.{eqb-true, eqb-false, eq-eqb, ne-eqb, le-leb, ltb-false, not-false}
 use Rattle.recovery.specs.Group.{Write, Group, committed, aborted, groupSize, lastCsn}
 use Rattle.recovery.specs.Transaction.{Tx as Transaction, lookup, edit, remove}
 use Rattle.recovery.specs.Machine.{Live, newTx, withWrite, inCommit, afterBegin, afterWrite, afterPrecommit, afterAbort, afterSettle}
@@ -19,22 +19,24 @@ use Rattle.log.specs.declared.TxId.{TxId}
 use Rattle.log.specs.Flat.{writesFrom}
 use Rattle.log.specs.Group.{wellFormedBody, wellFormedGroup}
 use Rattle.log.specs.Log.{readLog}
+use Rattle.log.proofs.Basics.{and-left, and-right}
 use Rattle.transaction.specs.declared.Records.{Records}
 use Rattle.transaction.specs.declared.Tx.{Tx}
 use Rattle.transaction.specs.Lists.{upFrom}
 use Rattle.transaction.specs.Flat.{emptyRecords}
 use Rattle.transaction.specs.View.{rangesOf, writesOf, viewOf}
-use Rattle.transaction.specs.Rules.{recordsOk, headOk, rangesSize}
+use Rattle.transaction.specs.Rules.{recordsOk, rangesSize}
 use Rattle.transaction.specs.Steps.{freshTx, written, precommitted}
-use Rattle.transaction.proofs.Lists.{and-left, and-right, up-snoc, up-same}
+use Rattle.transaction.proofs.Lists.{up-snoc, up-same}
 use Rattle.transaction.proofs.Ranges.{counted, ranged}
 use Rattle.transaction.proofs.Writes.{bytes-length, sized}
 use Rattle.transaction.proofs.Pushed.{Sized, pushed-writes}
+use Rattle.image.proofs.Rules.{image-count, ruled-at}
 use Rattle.store.specs.declared.State.{State}
 use Rattle.store.specs.declared.call.Begun.{Begun}
 use Rattle.store.specs.declared.call.Precommitted.{Precommitted}
 use Rattle.store.specs.declared.call.Returned.{Returned}
-use Rattle.store.specs.State.{txAt, slotOf}
+use Rattle.store.specs.State.{txAt, slotOf, imageOf}
 use Rattle.store.specs.Rules.{tailLength, allZero, roomUsed, unfit}
 use Rattle.store.specs.Numbers.{Check, check, firstNumber, txOf, sharedChecks, beginChecks, writeChecks, precommitChecks, abortChecks, settleChecks, check8, check9, check10}
 use Rattle.store.specs.Steps.{begunState, writtenState, precommittedState, droppedState}
@@ -42,7 +44,7 @@ use Rattle.store.specs.Calls.{Outcome, beginNumber, beginOf, writeNumber
 use Rattle.store.specs.View.{viewAt, live}
 use Rattle.store.proofs.Slots.{slot}
 use Rattle.store.proofs.Checks.{passed}
-use Rattle.store.proofs.Fits.{Fit, fit, image-count, image-at}
+use Rattle.store.proofs.Fits.{Fit, fit}
 use Rattle.store.proofs.Choosing.{Running, running, listed-slot}
 use Rattle.store.proofs.Calling.{usable, writable, begin-done, write-done, precommit-done, abort-done, settle-done}
 use Rattle.store.proofs.Positions.{Changed, Dropped, First, found, edited, removed}
@@ -119,14 +121,8 @@ body-right r id csn z e n (suc k) i h =
     let l = bytes-length r i (z .space) (omega arith) (g .1) in
     rw (n, l, le-leb _ _ (g .0), le-leb _ _ (g .1), le-leb _ _ (g .2)) (body-right r id csn z e n k (suc i) (omega arith))
 
-nonzero : (last assigned id status csn : ℕ) → headOk last assigned id status csn ≡ true → eqb id 0 ≡ false
-unfolding headOk
-nonzero last assigned id status csn e = ne-eqb id 0 (λ z. omega (arith, z, leb-true 1 id (and-left (leb 1 id) _ e)))
-
 id-nonzero : (s : State) (t : List ℕ) (id : ℕ) → Fit s t → Running s id → eqb id 0 ≡ false
-id-nonzero s t id f r =
-    let x = txOf s id in
-    ap (λ (i : ℕ). eqb i 0) (sym (r .named)) ∙ nonzero (s .lastid .0) (s .assigned .0) (x .id .0) (x .status) (x .csn .0) (and-left _ (recordsOk (rangesOf (x .undo))) (image-at s (f .image) (slotOf s id) (r .listed)))
+id-nonzero s t id f r = ne-eqb id 0 (λ z. omega (arith, z, r .named, ruled-at (imageOf s) (f .image) (slotOf s id) (r .listed) .named))
 
 pub tail-csn : (s : State) (t : List ℕ) → Fit s t → lastCsn (s .ondisk .0) (readLog (s .ondisk .0) t) ≡ s .assigned .0
 tail-csn s t f = eqb-true _ _ (and-left _ (allZero (drop (tailLength (s .ondisk .0) t) t)) (f .tail))
@@ -206,7 +202,7 @@ module _ (s : State) (m t : List ℕ) (z : SizedState s) where
   pub begin-live : beginNumber s m t ≡ 0 → live (beginOf s m t .state) m t ≡ afterBegin (live s m t)
   begin-live e =
       let a = accepted s m t (beginChecks (s .count) (s .lastid .0) (roomUsed s t)) e in
-      ap (λ (r : State). live r m t) (ap (λ (b : Begun). b .state) (begin-done s m t e)) ∙ begun-live (begin-free s (roomUsed s t) (image-count s (a .fits .image)) (a .own) .0)
+      ap (λ (r : State). live r m t) (ap (λ (b : Begun). b .state) (begin-done s m t e)) ∙ begun-live (begin-free s (roomUsed s t) (image-count (imageOf s) (a .fits .image)) (a .own) .0)
 
   module _ (id : TxId) where
     abbrev j : ℕ
@@ -289,4 +285,4 @@ module _ (s : State) (m t : List ℕ) (z : SizedState s) where
         ap (λ (o : Returned). live (o .state) m t) (settle-done s m t id e)
         ∙ dropped-numbers s m t j
         ∙ ap (with-txs s m t)
-        (dropped-txs s (id .0) z (image-count s (x .fits .image)) (l .0) ∙ ap (λ (i : ℕ). remove i (upFrom (viewAt s) (s .count) 0)) (sym (l .1)))
+        (dropped-txs s (id .0) z (image-count (imageOf s) (x .fits .image)) (l .0) ∙ ap (λ (i : ℕ). remove i (upFrom (viewAt s) (s .count) 0)) (sym (l .1)))

@@ -5,15 +5,11 @@ use mathlib.Core.List.{List, [], _∷_, _++_}
 use lib.ListN.{getD}
 use lib.Dec.{eqb}
 use Rattle.log.specs.Stores.{Store, store, copies}
-use Rattle.image.specs.declared.Image.{Image}
 use Rattle.image.specs.Format.{encodeImage}
 use Rattle.store.specs.declared.State.{State}
 use Rattle.store.specs.declared.stored.Stored.{Stored}
+use Rattle.store.specs.State.{imageOf}
 use Rattle.store.specs.Stored.{DiskOutcome, Plan, storedBy}
-
--- what an image has of a state
-abbrev pub imageOf : State → Image
-imageOf s = record { logend = s .logend; ondisk = s .ondisk; assigned = s .assigned; lastid = s .lastid; count = s .count; txs = s .txs }
 
 -- an image's bytes "in order; then the pointer byte"
 abbrev pub slotStores : ℕ → ℕ → List ℕ → List Store

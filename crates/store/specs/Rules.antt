@@ -8,14 +8,14 @@ use Rattle.recovery.specs.Group.{groupsSize, lastCsn}
 use Rattle.log.specs.Log.{readLog}
 use Rattle.transaction.specs.Lists.{every, sumOf}
 use Rattle.transaction.specs.Rules.{redoOk, roomOf}
-use Rattle.image.specs.Rules.{imageOk}
+use Rattle.image.specs.Rules.{keepsRules}
 use Rattle.store.specs.declared.State.{State}
-use Rattle.store.specs.State.{txsOf, outlinesOf}
+use Rattle.store.specs.State.{imageOf, txsOf}
 
--- ---- the image rules, for numbers 2 and 4
+-- ---- the image rules, as for number 4
 
 abbrev pub keepsImageRules : State → Bool
-keepsImageRules s = imageOk (s .logend) (s .ondisk .0) (s .assigned .0) (s .lastid .0) (outlinesOf s)
+keepsImageRules s = keepsRules (imageOf s)
 
 -- ---- the tail and log room
 

@@ -2,14 +2,16 @@
 use Prim.Native.Nat.{ℕ, suc}
 use mathlib.Core.Bool.{Bool, false, cond}
 use mathlib.Core.List.{List, [], _∷_}
-use lib.ListN.{getD, replicate}
+use lib.ListN.{replicate}
 use lib.Dec.{eqb}
 use Rattle.log.specs.declared.TxId.{TxId}
 use Rattle.log.specs.declared.Csn.{Csn}
 use Rattle.transaction.specs.declared.Tx.{Tx}
-use Rattle.transaction.specs.Flat.{emptyTx, noTx}
-use Rattle.transaction.specs.Lists.{upFrom}
-use Rattle.transaction.specs.View.{Outline, outlineOf}
+use Rattle.transaction.specs.Flat.{emptyTx}
+use Rattle.transaction.specs.View.{Outline}
+use Rattle.image.specs.declared.Image.{Image}
+use Rattle.image.specs.Slots.{slotAt, listed, outlined}
+use Rattle.image.specs.Slots as slots
 use Rattle.store.specs.declared.State.{State}
 
 -- "The unrecovered state is one value, zero in all its other fields."
@@ -25,20 +27,24 @@ unrecovered =
       txs = replicate 8 emptyTx;
     }
 
+-- what an image has of a state
+abbrev pub imageOf : State → Image
+imageOf s = record { logend = s .logend; ondisk = s .ondisk; assigned = s .assigned; lastid = s .lastid; count = s .count; txs = s .txs }
+
 -- the transaction in slot i
 abbrev pub txAt : State → ℕ → Tx
-txAt s i = getD (s .txs) i noTx
+txAt s i = slotAt (s .txs) i
 
 -- the transactions listed, in order of begin
 abbrev pub txsOf : State → List Tx
-txsOf s = upFrom (txAt s) (s .count) 0
+txsOf s = listed (s .txs) (s .count)
 
 -- what the image rules look at in them
 abbrev pub outlineAt : State → ℕ → Outline
-outlineAt s i = outlineOf (txAt s i)
+outlineAt s i = slots.outlineAt (s .txs) i
 
 abbrev pub outlinesOf : State → List Outline
-outlinesOf s = upFrom (outlineAt s) (s .count) 0
+outlinesOf s = outlined (s .txs) (s .count)
 
 abbrev pub hasId : ℕ → Tx → Bool
 hasId id t = eqb id (t .id .0)

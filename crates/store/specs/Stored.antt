@@ -35,13 +35,26 @@ zeroed b = replicate (length b) 0
 
 -- A plan with n stores allowed. "They answer "cut" if that number is below what the call needs, after just that many stores; memory and tail
 -- are then zero and the state is unrecovered." A call's result is made of its answer, the number of stores made, and the state.
+abbrev pub cutShort : {R : Type 0} → (Word → ℕ → State → R) → Plan → ℕ → List ℕ → DiskOutcome R
+cutShort result p n disk =
+    record {
+      result = result cut (min n (length (p .stores))) unrecovered;
+      disk = apply (take n (p .stores)) disk;
+      memory = replicate 4096 0;
+      tail = replicate 16384 0;
+    }
+
+abbrev pub madeWhole : {R : Type 0} → (Word → ℕ → State → R) → Plan → ℕ → List ℕ → DiskOutcome R
+madeWhole result p n disk =
+    record {
+      result = result done (min n (length (p .stores))) (p .state);
+      disk = apply (take n (p .stores)) disk;
+      memory = p .memory;
+      tail = p .tail;
+    }
+
 unfoldable pub carriedOut : {R : Type 0} → (Word → ℕ → State → R) → Plan → ℕ → List ℕ → DiskOutcome R
-carriedOut result p n disk =
-    let made = min n (length (p .stores)) in
-    let left = apply (take n (p .stores)) disk in
-    cond (ltb n (length (p .stores)))
-    (record { result = result cut made unrecovered; disk = left; memory = replicate 4096 0; tail = replicate 16384 0 })
-    (record { result = result done made (p .state); disk = left; memory = p .memory; tail = p .tail })
+carriedOut result p n disk = cond (ltb n (length (p .stores))) (cutShort result p n disk) (madeWhole result p n disk)
 
 -- ---- flush and checkpoint
 

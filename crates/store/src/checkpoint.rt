@@ -10,7 +10,8 @@ ghost use mathlib.Core.Path.{_≡_};
 ghost use Prim.Native.Nat.{_+_, _<_, _≤_, min};
 ghost use lib.ListN.{length, take, getD};
 ghost use Rattle.log.specs.Stores.{apply};
-ghost use Rattle.store.specs.Checkpoint.{imageOf, slotStores, imageStores, checkpointOf};
+ghost use Rattle.store.specs.State.{imageOf};
+ghost use Rattle.store.specs.Checkpoint.{slotStores, imageStores, checkpointOf};
 
 // An image into the slot that starts at an offset, then its name into the pointer byte, as far as stores are allowed; how many were made.
 fn store_slot(disk: &mut [u8], at: usize, name: u8, image: &[u8], allowed: usize) -> usize

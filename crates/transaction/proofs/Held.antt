@@ -6,9 +6,9 @@ use mathlib.Core.Bool.{true}
 use mathlib.Core.Path.{_≡_}
 use lib.Dec.{ltb}
 use borrow.Author.Tests.{ltb-true, lt-ltb}
+use Rattle.log.proofs.Basics.{and-left, and-right}
 use Rattle.transaction.specs.View.{range}
 use Rattle.transaction.specs.Rules.{meets}
-use Rattle.transaction.proofs.Lists.{and-left, and-right}
 
 pub record Common (a n b m : ℕ) : Type 0 where
   pub byte : ℕ

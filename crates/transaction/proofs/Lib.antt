@@ -4,3 +4,4 @@ pub mod Ranges
 pub mod Writes
 pub mod Pushed
 pub mod Held
+pub mod Heads

@@ -2,20 +2,15 @@
 use Prim.Native.Nat.{ℕ, zero, suc, _+_, _-_, _≤_, _<_}
 use native.Mathlib.Numerals.{add-one}
 use native.Mathlib.Omega.{arith}
-use mathlib.Core.Bool.{Bool, true, false, _&&_}
+use mathlib.Core.Bool.{Bool, true, false}
 use mathlib.Core.List.{List, [], _∷_, _++_}
-use mathlib.Core.Path.{_≡_, refl, sym, ap, _∙_}
+use mathlib.Core.Path.{_≡_, refl, sym, ap, _∙_, subst}
 use lib.ListN.{length}
-use Rattle.recovery.specs.Lists.{any}
+use lib.Dec.{eqb}
+use borrow.Author.Tests.{eqb-true, eqb-false}
+use Rattle.recovery.specs.Lists.{All, nil, cons, any}
+use Rattle.log.proofs.Basics.{and-left, and-right}
 use Rattle.transaction.specs.Lists.{upFrom, every, sumOf}
-
-pub and-left : (a b : Bool) → a && b ≡ true → a ≡ true
-and-left true b e = refl
-and-left false b e = e
-
-pub and-right : (a b : Bool) → a && b ≡ true → b ≡ true
-and-right true b e = e
-and-right false b e = let z : true ≡ false = sym e in cc
 
 module _ {A : Type 0} (f : ℕ → A) where
   pub length-up : (k i : ℕ) → length (upFrom f k i) ≡ k
@@ -33,6 +28,18 @@ module _ {A : Type 0} (f : ℕ → A) where
   up-same g (suc k) i h =
       ap (λ (x : A). x ∷ upFrom f k (suc i)) (h i (omega arith) (omega arith))
       ∙ ap (λ (xs : List A). g i ∷ xs) (up-same g k (suc i) (λ j a b. h j (omega arith) (omega arith)))
+
+  pub all-at : {p : A → Type 0} (k i : ℕ) → All p (upFrom f k i) → (j : ℕ) → i ≤ j → j < i + k → p (f j)
+  all-at zero i h j a b = absurd (omega arith)
+  all-at {p} (suc k) i (cons h hs) j a b = go (eqb j i) refl (λ l. all-at k (suc i) hs j l (omega arith))
+    where
+      go : (t : Bool) → eqb j i ≡ t → (suc i ≤ j → p (f j)) → p (f j)
+      go true q later = subst (λ (x : ℕ). p (f x)) (sym (eqb-true j i q)) h
+      go false q later = let d = eqb-false j i q in later (omega (arith, d))
+
+  pub all-up : {p : A → Type 0} (k i : ℕ) → ((j : ℕ) → i ≤ j → j < i + k → p (f j)) → All p (upFrom f k i)
+  all-up zero i h = nil
+  all-up (suc k) i h = cons (h i (omega arith) (omega arith)) (all-up k (suc i) (λ j a b. h j (omega arith) (omega arith)))
 
   pub every-at : (p : A → Bool) (k i : ℕ) → every p (upFrom f k i) ≡ true → (j : ℕ) → i ≤ j → j < i + k → p (f j) ≡ true
   every-at p zero i e j a b = absurd (omega arith)

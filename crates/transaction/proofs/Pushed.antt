@@ -1,24 +1,26 @@
 -- One record more, as it is seen: the ranges and the writes gain one at their end, the others stay.
-use Prim.Native.Nat.{ℕ, zero, suc, _+_, _*_, _≤_, _<_}
-use native.Mathlib.Nat.{zero-add, suc-add}
+use Prim.Native.Nat.{ℕ, suc, _+_, _*_, _≤_, _<_}
+use native.Mathlib.Nat.{zero-add}
 use native.Mathlib.Numerals.{add-one}
 use native.Mathlib.Omega.{arith}
 use mathlib.Core.Bool.{true}
 use mathlib.Core.List.{List, [], _∷_, _++_, append-assoc}
 use mathlib.Core.Path.{_≡_, refl, sym, ap, ap₂, _∙_}
 use lib.ListN.{length, getD, take, drop, set, length-set, length-append, length-replicate}
-use lib.Seq.{sets, sets-eq, take-nil, take-set-le, take-at, drop-at, length-take-le, length-sets, getD-set-same, getD-set-other}
+use lib.Seq.{sets, sets-eq, take-set-le, take-at, drop-at, length-take-le, length-sets, getD-set-same, getD-set-other}
 use borrow.Author.Tests.{eq-eqb, le-leb}
 use Rattle.recovery.specs.Group.{Write}
 use Rattle.log.specs.Record.{inRange}
 use Rattle.log.specs.Flat.{writeAt}
+use Rattle.log.proofs.Basics.{and-left, and-right}
+use Rattle.log.proofs.RoundTrip.{drop-take}
 use Rattle.transaction.specs.declared.Records.{Records}
 use Rattle.transaction.specs.Lists.{upFrom, every}
 use Rattle.transaction.specs.Flat.{emptyRecords}
 use Rattle.transaction.specs.View.{Range, range, rangeAt, rangesOf, writesOf}
 use Rattle.transaction.specs.Rules.{rangeOk, recordsOk, sameRange, sameRanges, rangesSize}
 use Rattle.transaction.specs.Steps.{pushed}
-use Rattle.transaction.proofs.Lists.{up-snoc, up-same, and-left, and-right}
+use Rattle.transaction.proofs.Lists.{up-snoc, up-same}
 use Rattle.transaction.proofs.Writes.{writes-up}
 
 -- the arrays' lengths, which every value of the code has
@@ -42,11 +44,6 @@ push-sized r a bs z =
 
 -- ---- a part of a list after stores: before them it is as it was, and where they were made it is what was stored
 
-pub drop-take : (m k : ℕ) (l : List ℕ) → drop m (take (m + k) l) ≡ take k (drop m l)
-drop-take zero k l = rw (zero-add k)
-drop-take (suc m) k [] = rw (suc-add m k, take-nil k)
-drop-take (suc m) k (x ∷ l) = rw (suc-add m k) (drop-take m k l)
-
 sets-before : (d bs : List ℕ) (p l q : ℕ) → p + l ≤ q → take l (drop p (sets d q bs)) ≡ take l (drop p d)
 sets-before d [] p l q h = refl
 sets-before d (x ∷ bs) p l q h =
@@ -64,16 +61,16 @@ sets-there d bs q h =
 
 -- ---- the record that was pushed
 
+pub pushed-count : (r : Records) (a : ℕ) (bs : List ℕ) → pushed r a bs .count ≡ suc (r .count)
+unfolding pushed
+pushed-count r a bs = add-one (r .count)
+
 module _ (r : Records) (a : ℕ) (bs : List ℕ) (z : Sized r) (c : r .count < 16) where
   address : getD (set (r .addr) (r .count) a) (r .count) 0 ≡ a
   address = getD-set-same (r .addr) (r .count) a 0 (omega (arith, z .addrs))
 
   long : getD (set (r .len) (r .count) (length bs)) (r .count) 0 ≡ length bs
   long = getD-set-same (r .len) (r .count) (length bs) 0 (omega (arith, z .lens))
-
-  counts : pushed r a bs .count ≡ suc (r .count)
-  unfolding pushed
-  counts = add-one (r .count)
 
   range-kept : (j : ℕ) → j < r .count → rangeAt (pushed r a bs) j ≡ rangeAt r j
   unfolding pushed
@@ -86,7 +83,7 @@ module _ (r : Records) (a : ℕ) (bs : List ℕ) (z : Sized r) (c : r .count < 1
 
   pub pushed-ranges : rangesOf (pushed r a bs) ≡ rangesOf r ++ (range a (length bs) ∷ [])
   pushed-ranges =
-      ap (λ (k : ℕ). upFrom (rangeAt (pushed r a bs)) k 0) counts
+      ap (λ (k : ℕ). upFrom (rangeAt (pushed r a bs)) k 0) (pushed-count r a bs)
       ∙ up-snoc (rangeAt (pushed r a bs)) (r .count) 0
       ∙ ap₂ (λ (rs : List Range) (q : Range). rs ++ (q ∷ [])) (up-same (rangeAt (pushed r a bs)) (rangeAt r) (r .count) 0 (λ j p q. range-kept j (omega arith))) range-new
 
@@ -111,7 +108,7 @@ module _ (r : Records) (a : ℕ) (bs : List ℕ) (z : Sized r) (c : r .count < 1
     pub pushed-writes : writesOf (pushed r a bs) ≡ writesOf r ++ (record { addr = a; bytes = bs } ∷ [])
     pushed-writes =
         writes-up (pushed r a bs .addr) (pushed r a bs .len) (pushed r a bs .bytes) (pushed r a bs .count) 0
-        ∙ ap (λ (k : ℕ). upFrom (seen (pushed r a bs)) k 0) counts
+        ∙ ap (λ (k : ℕ). upFrom (seen (pushed r a bs)) k 0) (pushed-count r a bs)
         ∙ up-snoc (seen (pushed r a bs)) (r .count) 0
         ∙ ap₂ (λ (ws : List Write) (w : Write). ws ++ (w ∷ [])) (up-same (seen (pushed r a bs)) (seen r) (r .count) 0 (λ j p q. write-kept j (omega arith))) write-new
         ∙ ap (λ (ws : List Write). ws ++ (record { addr = a; bytes = bs } ∷ [])) (sym (writes-up (r .addr) (r .len) (r .bytes) (r .count) 0))

@@ -8,11 +8,12 @@ use lib.ListN.{length, getD}
 use lib.Dec.{leb, eqb}
 use borrow.Author.Tests.{leb-true, le-leb, lt-leb, eqb-true}
 use Rattle.log.specs.Record.{inRange}
+use Rattle.log.proofs.Basics.{and-left, and-right}
 use Rattle.transaction.specs.declared.Records.{Records}
 use Rattle.transaction.specs.Lists.{upFrom, every}
 use Rattle.transaction.specs.View.{Range, range, rangeAt, rangesOf}
 use Rattle.transaction.specs.Rules.{rangeOk, recordsOk, rangesSize, sameRange, sameRanges}
-use Rattle.transaction.proofs.Lists.{and-left, and-right, length-up, up-turn, every-at}
+use Rattle.transaction.proofs.Lists.{length-up, up-turn, every-at}
 
 -- what the range rule says of a length and an address
 pub in-range : (a n : ℕ) → inRange a n ≡ true → (1 ≤ n) × (n ≤ 32) × (a + n ≤ 4096)

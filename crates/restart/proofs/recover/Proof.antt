@@ -3,7 +3,8 @@ use native.Mathlib.Nat.{zero-add}
 use native.Mathlib.Omega.{arith}
 use mathlib.Core.Path.{sym, _∙_}
 use borrow.Author.Needs.{needs}
-use Rattle.restart.proofs.Rules.{image-few, undoable}
+use Rattle.image.proofs.Rules.{image-count}
+use Rattle.restart.proofs.Rules.{undoable}
 use Rattle.restart.proofs.Undos.{running-few, restart-case}
 use Rattle.restart.proofs.recover.Statement.{statement}
 use Rattle.restart.proofs.recover.Tie as tie
@@ -24,7 +25,7 @@ undo-lost-requires c κs =
     let s = c .before .before .before .before .before .before .before .before .before .before .before .before .before .before .before .before in
     let f = c .before .before .before .before .before .before .before .before .before .before .before .forward in
     let r = c .before .before .before .before .before .before .undo-running in
-    let n : r .result ≤ 8 = omega (arith, r .ensures .0, running-few (s .args .image) (f .result), image-few (s .args .image) (s .pre .0)) in
+    let n : r .result ≤ 8 = omega (arith, r .ensures .0, running-few (s .args .image) (f .result), image-count (s .args .image) (s .pre .0)) in
     (undoable (s .args .image) (s .pre .0), (r .kept .1 .1 .0 ∙ (f .kept .1 .1 .0 ∙ s .pre .1 .0), (r .kept .1 .1 .1 .0 ∙ s .pre .1 .1, n)))
 
 same-length : tie.Need-same-length

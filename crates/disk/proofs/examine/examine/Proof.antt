@@ -10,8 +10,9 @@ use Rattle.image.specs.declared.Image.{Image}
 use Rattle.image.specs.Rules.{keepsRules}
 use Rattle.restart.specs.declared.Recovered.{Recovered}
 use Rattle.restart.specs.Restart.{Outcome, restartOf}
+use Rattle.image.proofs.Rules.{image-logend}
 use Rattle.disk.specs.Examine.{stepsOf}
-use Rattle.disk.proofs.Examining.{keeps, keeps-end, steps-are, end-within, undone-within, told, means-3, means-4, means-5, means}
+use Rattle.disk.proofs.Examining.{keeps, steps-are, end-within, undone-within, told, means-3, means-4, means-5, means}
 use Rattle.disk.proofs.examine.examine.Statement.{statement}
 use Rattle.disk.proofs.examine.examine.Tie as tie
 
@@ -59,7 +60,7 @@ kept c =
     keeps (c .before .before .before .before .before .before .before .before .before .before .before .args .disk .now) (c .before .before .before .before .before .before .if1 .left) (l .result) (l .last .1 .1 .0) (l .ensures .0) (l .ensures .1) (not-no _ (c .if2 .left))
 
 start : (c : tie.Else2) → c .before .before .before .before .load .result .image .logend ≤ 16384
-start c = keeps-end (c .before .before .before .before .load .result .image) (kept c)
+start c = image-logend (c .before .before .before .before .load .result .image) (kept c)
 
 fill-zero-requires : tie.Need-fill-zero-requires
 fill-zero-requires c κs = search needs

@@ -7,7 +7,7 @@ use lib.Seq.{sets}
 use Rattle.transaction.specs.Lists.{upFrom}
 use Rattle.image.specs.Content.{savedAt, savedIn}
 use Rattle.image.specs.Format.{encodeTxs, txSize, txsSize}
-use Rattle.image.proofs.Rules.{rules-count, rules-records}
+use Rattle.image.proofs.Rules.{image-count, undo-at}
 use Rattle.image.proofs.Writings.{tx-size, tx-turn}
 use borrow.Author.Needs.{needs}
 use Rattle.image.proofs.write.put_txs.Statement.{statement}
@@ -32,7 +32,7 @@ loop-holds c =
     (omega arith, refl, rw (sub-zero n), rw (sub-zero n))
 
 few : (c : tie.In-loop Inv-loop μ-loop) → c .before .before .before .args .t3 .count ≤ 8
-few c = rules-count (c .before .before .before .args .t3) (c .before .before .before .pre .0)
+few c = image-count (c .before .before .before .args .t3) (c .before .before .before .pre .0)
 
 mul-t : tie.Need-mul-t Inv-loop μ-loop
 mul-t c = let h = few c in omega arith
@@ -51,7 +51,7 @@ put-tx-requires : tie.Need-put-tx-requires Inv-loop μ-loop
 put-tx-requires c κs =
     let i = c .before .before .before .before .before .args .t3 in
     let l = c .before .before .before .loop in
-    (rules-records i (c .before .before .before .before .before .pre .0) (l .i) (c .before .before .loop-test .taken), omega (arith, turn-size (c .before .before), l .inv .1, l .inv .2, c .before .before .before .before .before .pre .1))
+    (undo-at i (c .before .before .before .before .before .pre .0) (l .i) (c .before .before .loop-test .taken), omega (arith, turn-size (c .before .before), l .inv .1, l .inv .2, c .before .before .before .before .before .pre .1))
 
 add-i : tie.Need-add-i Inv-loop μ-loop
 add-i c = search needs

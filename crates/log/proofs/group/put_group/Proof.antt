@@ -7,7 +7,7 @@ use lib.Seq.{sets}
 use Rattle.recovery.specs.Group.{redoSize}
 use Rattle.log.specs.Group.{encodeBody}
 use Rattle.log.specs.Flat.{writesFrom}
-use Rattle.log.proofs.FlatLaws.{turn-size, turn-stores}
+use Rattle.log.proofs.FlatLaws.{redo-size, redo-stores}
 use Rattle.log.proofs.group.put_group.Statement.{statement}
 use Rattle.log.proofs.group.put_group.Tie as tie
 
@@ -68,7 +68,7 @@ size-turn : (c : tie.After-put-redo-arg2 Inv-loop μ-loop)
     let i = c .before .before .before .before .before .loop .i in
     redoSize (writesFrom (a .addr .now) (a .len .now) (a .bytes .now) (a .n - i) i)
     ≡ 7 + getD (a .len .now) i 0 + redoSize (writesFrom (a .addr .now) (a .len .now) (a .bytes .now) (a .n - (i + 1)) (i + 1))
-size-turn c = turn-size _ _ _ _ _ (c .before .before .before .before .loop-test .taken) (c .put-redo-arg2 .given .2)
+size-turn c = redo-size _ _ _ _ _ (c .before .before .before .before .loop-test .taken) (c .put-redo-arg2 .given .2)
 
 put-redo-requires : tie.Need-put-redo-requires Inv-loop μ-loop
 put-redo-requires c κs =
@@ -96,7 +96,7 @@ loop-again c =
       omega (arith, h),
       c .before .before .put-redo .kept .0 ∙ inv .1,
       omega (arith, size-turn (c .before .before .before)),
-      inv .3 ∙ turn-stores _ _ _ _ _ h (c .before .before .before .put-redo-arg2 .given .2) _ _ _ _ _ (c .before .before .put-redo .ensures),
+      inv .3 ∙ redo-stores _ _ _ _ _ h (c .before .before .before .put-redo-arg2 .given .2) _ _ _ _ _ (c .before .before .put-redo .ensures),
     )
 
 -- after the loop nothing is left but the commit

@@ -3,9 +3,10 @@ use Prim.Native.Nat.{ℕ, _≤_}
 use native.Mathlib.Omega.{arith}
 use mathlib.Core.Bool.{true, _&&_}
 use mathlib.Core.List.{List}
-use mathlib.Core.Path.{_≡_, sym, ap₂, _∙_}
+use mathlib.Core.Path.{_≡_, refl, sym, ap₂, _∙_}
 use lib.ListN.{length}
 use borrow.Author.Tests.{not-true, not-false}
+use Rattle.log.proofs.LogLaws.{log-within}
 use Rattle.transaction.specs.Lists.{every, sumOf}
 use Rattle.transaction.specs.Rules.{redoOk, roomOf}
 use Rattle.store.specs.declared.State.{State}
@@ -13,7 +14,6 @@ use Rattle.store.specs.State.{txsOf, outlinesOf}
 use Rattle.image.specs.Rules.{outlinesOk}
 use Rattle.store.specs.Rules.{tailLength, tailOk, unfit}
 use Rattle.store.specs.Admission.{headOk, admission}
-use Rattle.store.proofs.Zeros.{log-within}
 use Rattle.store.proofs.Admitting.{refusedBy, head-count, unfit-head, unfit-txs, unfit-tail, unfit-room, unfit-none, txs-measured, txs-room, tail-measured, tail-room, reserved-bound, admit-memory, admit-tail, admit-unfit, admit-fit}
 use Rattle.store.proofs.State.admit.Statement.{statement}
 use Rattle.store.proofs.State.admit.Tie as tie
@@ -89,7 +89,7 @@ measured c =
       log = sym (tail-measured _ _ _ _ (c .before .before .measure-tail .ensures)) ∙ y;
       end = tail-room _ _ _ _ (c .before .before .measure-tail .ensures) y;
       rooms = txs-room s _ (c .before .before .before .before .before .measure-txs .ensures) x;
-      short = log-within (s .ondisk .0) t;
+      short = log-within (s .ondisk .0) _ t refl;
       few = reserved-bound s (head-count s t h) m;
     }
 

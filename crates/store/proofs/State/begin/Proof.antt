@@ -8,6 +8,8 @@ use lib.Dec.{eqb, ltb}
 use mir.Val.{Fits}
 use mir.Syntax.{w16}
 use borrow.Author.Tests.{eqb-false}
+use Rattle.image.proofs.Rules.{image-count}
+use Rattle.store.specs.State.{imageOf}
 use Rattle.store.specs.declared.State.{State}
 use Rattle.store.specs.Answer.{done, answer}
 use Rattle.store.specs.Rules.{roomUsed}
@@ -15,7 +17,6 @@ use Rattle.store.specs.Numbers.{check, firstNumber, beginChecks}
 use Rattle.store.specs.Steps.{begunState}
 use Rattle.store.specs.Calls.{beginNumber}
 use Rattle.store.proofs.Checks.{passed}
-use Rattle.store.proofs.Fits.{image-count}
 use Rattle.store.proofs.Admitting.{Admitted, admitted, shared-stops, shared-passes}
 use Rattle.store.proofs.Calling.{begin-refused, begin-done}
 use Rattle.store.proofs.State.begin.Statement.{statement}
@@ -65,7 +66,7 @@ free c =
     let p = passed 11 (eqb (s .count) 8) (check 12 (eqb (s .lastid .0) 65535) ∷ check 13 (ltb 16384 (r + 8)) ∷ []) (omega arith) (sym (c .before .begin-number .ensures) ∙ c .if2 .left) in
     let q = passed 12 (eqb (s .lastid .0) 65535) (check 13 (ltb 16384 (r + 8)) ∷ []) (omega arith) (p .1) in
     let w : Fits w16 (s .lastid .0) = search needs in
-    (omega (arith, image-count s (x .fits .image), eqb-false (s .count) 8 (p .0)), omega (arith, w, eqb-false (s .lastid .0) 65535 (q .0)))
+    (omega (arith, image-count (imageOf s) (x .fits .image), eqb-false (s .count) 8 (p .0)), omega (arith, w, eqb-false (s .lastid .0) 65535 (q .0)))
 
 begin-step-requires : tie.Need-begin-step-requires
 begin-step-requires c κs = free c

@@ -16,7 +16,7 @@ same-length c = search needs
 returns : tie.Need-returns
 returns c =
     let a = c .before .before .before .before .before .before .args in
-    leaves (checkpoint-refused (a .self) (a .disk .now) (a .memory .now) (a .tail .now) (a .allowed) _ (sym (c .before .admit-disk .ensures)) (c .if1 .taken)) refl refl refl
+    leaves (checkpoint-refused (a .self) (a .disk .now) (a .memory .now) (a .tail .now) (a .allowed) _ (sym (c .before .admit-disk .ensures)) (c .if1 .taken)) refl refl refl refl
 
 -- nothing refuses
 passed : (c : tie.Else1) → let a = c .before .before .before .before .before .before .args in diskNumber (a .self) (a .disk .now) (a .memory .now) (a .tail .now) ≡ 0
@@ -68,7 +68,7 @@ returns-2 c =
     let off = c .before .before .before .before .cut-off in
     leaves
     (checkpoint-cut (a .self) (a .disk .now) (a .memory .now) (a .tail .now) (a .allowed) (passed (c .before .before .before .before .before .before .before .before .before .before .before .before .before .before .before .before .before .before)) (c .before .before .before .before .before .before .before .before .before .before .before .before .before .before .encode .result) (made .result) (c .before .before .before .before .before .before .before .before .before .before .before .before .before .before .encode .last .0) (made .last .0) (image-bytes (c .before .before .before .before .before .before .before .before .before .before .before .before .before .before)) (made .ensures .0) (made .ensures .1) (c .before .before .before .before .before .before .before .if2 .taken))
-    (off .ensures .0) (off .ensures .1 .0) (off .ensures .1 .1)
+    (off .ensures .0) refl (off .ensures .1 .0) (off .ensures .1 .1)
 
 same-length-5 : tie.Need-same-length-5
 same-length-5 c = search needs
@@ -85,7 +85,7 @@ returns-3 c =
     let made = c .before .before .before .store-image in
     leaves
     (checkpoint-done (a .self) (a .disk .now) (a .memory .now) (a .tail .now) (a .allowed) (passed (c .before .before .before .before .before .before .before .before .before .before .before)) (c .before .before .before .before .before .before .before .encode .result) (made .result) (c .before .before .before .before .before .before .before .encode .last .0) (made .last .0) (image-bytes (c .before .before .before .before .before .before .before)) (made .ensures .0) (made .ensures .1) (c .if2 .left))
-    refl refl refl
+    refl refl refl refl
 
 pub checkpoint-spec : {M : Type 1} → statement M
 checkpoint-spec =

@@ -3,15 +3,15 @@ use Prim.Native.Nat.{ℕ}
 use native.Mathlib.Omega.{arith}
 use mathlib.Core.List.{[], _∷_}
 use mathlib.Core.Path.{sym, ap, _∙_}
-use Rattle.store.specs.State.{slotOf}
+use Rattle.image.proofs.Rules.{image-count}
+use Rattle.store.specs.State.{slotOf, imageOf}
 use Rattle.store.specs.Numbers.{check7, abortChecks}
-use Rattle.store.proofs.Fits.{image-count}
 use Rattle.store.proofs.Choosing.{choice-none, choice-some, in-list, refused-6, passes-6, refused-7, passes-7}
 use Rattle.store.proofs.State.choose_running.Statement.{statement}
 use Rattle.store.proofs.State.choose_running.Tie as tie
 
 find-requires : tie.Need-find-requires
-find-requires c κs = image-count (c .args .t1) (c .pre)
+find-requires c κs = image-count (imageOf (c .args .t1)) (c .pre)
 
 cast-if1 : tie.Need-cast-if1
 cast-if1 c = search needs
@@ -29,12 +29,12 @@ returns c =
 mul-if2 : tie.Need-mul-if2
 mul-if2 c =
     let args = c .before .before .args in
-    let h = image-count (args .t1) (c .before .before .pre) in let l = in-list (args .t1) (args .id .0) (c .before .find .result) (c .before .find .ensures) (c .if1 .left) in omega arith
+    let h = image-count (imageOf (args .t1)) (c .before .before .pre) in let l = in-list (args .t1) (args .id .0) (c .before .find .result) (c .before .find .ensures) (c .if1 .left) in omega arith
 
 element-copy-out-if2 : tie.Need-element-copy-out-if2
 element-copy-out-if2 c =
     let args = c .before .before .args in
-    let h = image-count (args .t1) (c .before .before .pre) in let l = in-list (args .t1) (args .id .0) (c .before .find .result) (c .before .find .ensures) (c .if1 .left) in omega arith
+    let h = image-count (imageOf (args .t1)) (c .before .before .pre) in let l = in-list (args .t1) (args .id .0) (c .before .find .result) (c .before .find .ensures) (c .if1 .left) in omega arith
 
 refuse-requires-2 : tie.Need-refuse-requires-2
 refuse-requires-2 c κs = search needs

@@ -6,15 +6,15 @@ use mathlib.Core.Path.{_≡_, sym, ap, _∙_}
 use mathlib.Core.Bool.{_||_}
 use lib.Dec.{eqb, ltb}
 use borrow.Author.Tests.{eq-eqb, ne-eqb, lt-ltb, le-ltb}
-use Rattle.store.specs.State.{slotOf}
+use Rattle.image.proofs.Rules.{image-count}
+use Rattle.store.specs.State.{slotOf, imageOf}
 use Rattle.store.specs.Numbers.{check, txOf, settleChecks}
-use Rattle.store.proofs.Fits.{image-count}
 use Rattle.store.proofs.Choosing.{choice-none, choice-some, in-list, refused-6, passes-6, status-of}
 use Rattle.store.proofs.State.choose_settle.Statement.{statement}
 use Rattle.store.proofs.State.choose_settle.Tie as tie
 
 find-requires : tie.Need-find-requires
-find-requires c κs = image-count (c .args .t1) (c .pre)
+find-requires c κs = image-count (imageOf (c .args .t1)) (c .pre)
 
 cast-if1 : tie.Need-cast-if1
 cast-if1 c = search needs
@@ -33,12 +33,12 @@ returns c =
 mul-if2 : tie.Need-mul-if2
 mul-if2 c =
     let args = c .before .before .args in
-    let h = image-count (args .t1) (c .before .before .pre) in let l = in-list (args .t1) (args .id .0) (c .before .find .result) (c .before .find .ensures) (c .if1 .left) in omega arith
+    let h = image-count (imageOf (args .t1)) (c .before .before .pre) in let l = in-list (args .t1) (args .id .0) (c .before .find .result) (c .before .find .ensures) (c .if1 .left) in omega arith
 
 element-copy-out-if2 : tie.Need-element-copy-out-if2
 element-copy-out-if2 c =
     let args = c .before .before .args in
-    let h = image-count (args .t1) (c .before .before .pre) in let l = in-list (args .t1) (args .id .0) (c .before .find .result) (c .before .find .ensures) (c .if1 .left) in omega arith
+    let h = image-count (imageOf (args .t1)) (c .before .before .pre) in let l = in-list (args .t1) (args .id .0) (c .before .find .result) (c .before .find .ensures) (c .if1 .left) in omega arith
 
 refuse-requires-2 : tie.Need-refuse-requires-2
 refuse-requires-2 c κs = search needs
@@ -56,12 +56,12 @@ returns-2 c =
 mul-if3 : tie.Need-mul-if3
 mul-if3 c =
     let args = c .before .before .before .args in
-    let h = image-count (args .t1) (c .before .before .before .pre) in let l = in-list (args .t1) (args .id .0) (c .before .before .find .result) (c .before .before .find .ensures) (c .before .if1 .left) in omega arith
+    let h = image-count (imageOf (args .t1)) (c .before .before .before .pre) in let l = in-list (args .t1) (args .id .0) (c .before .before .find .result) (c .before .before .find .ensures) (c .before .if1 .left) in omega arith
 
 element-copy-out-if3 : tie.Need-element-copy-out-if3
 element-copy-out-if3 c =
     let args = c .before .before .before .args in
-    let h = image-count (args .t1) (c .before .before .before .pre) in let l = in-list (args .t1) (args .id .0) (c .before .before .find .result) (c .before .before .find .ensures) (c .before .if1 .left) in omega arith
+    let h = image-count (imageOf (args .t1)) (c .before .before .before .pre) in let l = in-list (args .t1) (args .id .0) (c .before .before .find .result) (c .before .before .find .ensures) (c .before .if1 .left) in omega arith
 
 refuse-requires-3 : tie.Need-refuse-requires-3
 refuse-requires-3 c κs = search needs

@@ -5,10 +5,10 @@ use mathlib.Core.List.{[], _∷_}
 use mathlib.Core.Path.{_≡_, sym, ap, _∙_}
 use lib.Dec.{ltb}
 use borrow.Author.Tests.{eq-eqb, ne-eqb, lt-ltb, le-ltb}
+use Rattle.image.proofs.Rules.{image-count}
 use Rattle.store.specs.declared.choose.Choice.{Choice}
-use Rattle.store.specs.State.{txAt, slotOf}
+use Rattle.store.specs.State.{txAt, slotOf, imageOf}
 use Rattle.store.specs.Numbers.{check, txOf, check8, check9, check10, readChecks}
-use Rattle.store.proofs.Fits.{image-count}
 use Rattle.store.proofs.Choosing.{choice-stops, choice-refuses, choice-goes, choice-passed, choice-slot, running, ranged-by-8}
 use Rattle.store.proofs.State.choose_write.Statement.{statement}
 use Rattle.store.proofs.State.choose_write.Tie as tie
@@ -51,10 +51,10 @@ short c =
     ranged-by-8 (args .addr) (args .len) more (running s id (check8 (args .addr) (args .len) ∷ more) z .1) .1
 
 mul-if2 : tie.Need-mul-if2
-mul-if2 c = let h = slotted c in let k = image-count (c .before .before .before .args .t1) (c .before .before .before .pre .0) in omega arith
+mul-if2 c = let h = slotted c in let k = image-count (imageOf (c .before .before .before .args .t1)) (c .before .before .before .pre .0) in omega arith
 
 element-copy-out-if2 : tie.Need-element-copy-out-if2
-element-copy-out-if2 c = let h = slotted c in let k = image-count (c .before .before .before .args .t1) (c .before .before .before .pre .0) in omega arith
+element-copy-out-if2 c = let h = slotted c in let k = image-count (imageOf (c .before .before .before .args .t1)) (c .before .before .before .pre .0) in omega arith
 
 refuse-requires : tie.Need-refuse-requires
 refuse-requires c κs = search needs

@@ -18,7 +18,7 @@ same-length c = search needs
 returns : tie.Need-returns
 returns c =
     let a = c .before .before .before .before .before .before .args in
-    leaves (flush-refused (a .self) (a .disk .now) (a .memory .now) (a .tail .now) (a .k) (a .allowed) _ (sym (c .before .admit-disk .ensures)) (c .if1 .taken)) refl refl refl
+    leaves (flush-refused (a .self) (a .disk .now) (a .memory .now) (a .tail .now) (a .k) (a .allowed) _ (sym (c .before .admit-disk .ensures)) (c .if1 .taken)) refl refl refl refl
 
 -- nothing refuses
 passed : (c : tie.Else1) → let a = c .before .before .before .before .before .before .args in diskNumber (a .self) (a .disk .now) (a .memory .now) (a .tail .now) ≡ 0
@@ -76,7 +76,7 @@ returns-2 c =
     let off = c .before .before .before .before .cut-off in
     leaves
     (flush-cut (a .self) (a .disk .now) (a .memory .now) (a .tail .now) (a .k) (a .allowed) (passed (c .before .before .before .before .before .before .before .before .before .before .before .before .before .before .before .before)) (read .result) (read .ensures) (up .result) (up .last .0) (up .ensures .0) (up .ensures .1) (c .before .before .before .before .before .before .before .if2 .taken))
-    (off .ensures .0) (off .ensures .1 .0) (off .ensures .1 .1)
+    (off .ensures .0) refl (off .ensures .1 .0) (off .ensures .1 .1)
 
 shift-down-requires : tie.Need-shift-down-requires
 shift-down-requires c κs = search needs
@@ -97,7 +97,7 @@ returns-3 c =
     let up = c .before .before .before .before .before .before .before .before .copy-up in
     leaves
     (flush-done (a .self) (a .disk .now) (a .memory .now) (a .tail .now) (a .k) (a .allowed) (passed (c .before .before .before .before .before .before .before .before .before .before .before .before .before .before)) (read .result) (read .ensures) (up .result) (up .last .0) (up .ensures .0) (up .ensures .1) (c .before .before .before .before .before .if2 .left))
-    (ap (stored done (up .result)) (c .flush-step .ensures)) refl (c .before .before .before .shift-down .ensures)
+    (ap (stored done (up .result)) (c .flush-step .ensures)) refl refl (c .before .before .before .shift-down .ensures)
 
 pub flush-spec : {M : Type 1} → statement M
 flush-spec =

@@ -8,8 +8,8 @@ use Rattle.transaction.specs.Lists.{upFrom}
 use Rattle.transaction.specs.Rules.{heldAgainst}
 use Rattle.transaction.proofs.Lists.{up-done, any-hit, any-miss}
 use Rattle.transaction.proofs.Ranges.{counted}
-use Rattle.store.specs.State.{txAt, txsOf}
-use Rattle.store.proofs.Fits.{image-count, undo-at}
+use Rattle.image.proofs.Rules.{image-count, undo-at}
+use Rattle.store.specs.State.{txAt, txsOf, imageOf}
 use Rattle.store.proofs.State.held.Statement.{statement}
 use Rattle.store.proofs.State.held.Tie as tie
 
@@ -27,15 +27,15 @@ loop-holds : tie.Need-loop-holds Inv-loop μ-loop
 loop-holds c = (omega arith, rw (sub-zero (c .args .t1 .count)))
 
 mul-t : tie.Need-mul-t Inv-loop μ-loop
-mul-t c = let h = image-count (c .before .before .args .t1) (c .before .before .pre .0) in omega arith
+mul-t c = let h = image-count (imageOf (c .before .before .args .t1)) (c .before .before .pre .0) in omega arith
 
 element-copy-out-t : tie.Need-element-copy-out-t Inv-loop μ-loop
-element-copy-out-t c = let h = image-count (c .before .before .args .t1) (c .before .before .pre .0) in omega arith
+element-copy-out-t c = let h = image-count (imageOf (c .before .before .args .t1)) (c .before .before .pre .0) in omega arith
 
 holds-against-requires : tie.Need-holds-against-requires Inv-loop μ-loop
 holds-against-requires c κs =
     let args = c .before .before .before .args in
-    (counted (txAt (args .t1) (c .before .before .loop .i) .undo) (undo-at (args .t1) (c .before .before .before .pre .0) (c .before .before .loop .i) (c .before .loop-test .taken)), c .before .before .before .pre .1, c .before .before .before .pre .2)
+    (counted (txAt (args .t1) (c .before .before .loop .i) .undo) (undo-at (imageOf (args .t1)) (c .before .before .before .pre .0) (c .before .before .loop .i) (c .before .loop-test .taken)), c .before .before .before .pre .1, c .before .before .before .pre .2)
 
 returns : tie.Need-returns Inv-loop μ-loop
 returns c = sym (c .before .before .before .before .loop .inv .1 ∙ any-hit (txAt (c .before .before .before .before .before .args .t1)) _ _ (c .before .before .before .loop-test .taken) (heldAgainst _ _ _) (sym (c .before .holds-against .ensures) ∙ c .if1 .taken))

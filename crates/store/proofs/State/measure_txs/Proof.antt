@@ -6,10 +6,11 @@ use mathlib.Core.Path.{_≡_, sym, ap, _∙_}
 use mathlib.Core.Bool.{true}
 use borrow.Author.Tests.{not-true, not-false}
 use Rattle.recovery.specs.Lists.{any}
+use Rattle.log.proofs.Basics.{and-right}
 use Rattle.transaction.specs.Lists.{upFrom, every, sumOf}
 use Rattle.transaction.specs.View.{rangesOf}
 use Rattle.transaction.specs.Rules.{recordsOk, headOk, outlineOk, alike, redoOk, roomOf}
-use Rattle.transaction.proofs.Lists.{and-right, up-done, every-bad, every-good, sum-turn}
+use Rattle.transaction.proofs.Lists.{up-done, every-bad, every-good, sum-turn}
 use Rattle.transaction.proofs.Ranges.{counted}
 use Rattle.store.specs.State.{txAt, txsOf, outlineAt, outlinesOf}
 use Rattle.image.specs.Rules.{distinct}

@@ -3,7 +3,8 @@ use native.Mathlib.Omega.{arith}
 use mathlib.Core.List.{[], _∷_}
 use mathlib.Core.Path.{_≡_, sym, ap, _∙_}
 use lib.ListN.{length}
-use Rattle.store.specs.State.{slotOf}
+use Rattle.image.proofs.Rules.{image-count}
+use Rattle.store.specs.State.{slotOf, imageOf}
 use mathlib.Core.Bool.{_||_}
 use lib.Dec.{eqb, ltb}
 use Rattle.store.specs.declared.State.{State}
@@ -12,7 +13,6 @@ use Rattle.store.specs.Answer.{done, answer}
 use Rattle.store.specs.Numbers.{check, txOf, settleChecks}
 use Rattle.store.specs.Steps.{droppedState}
 use Rattle.store.specs.Calls.{settleNumber}
-use Rattle.store.proofs.Fits.{image-count}
 use Rattle.store.proofs.Admitting.{Admitted, admitted, shared-stops, shared-passes}
 use Rattle.store.proofs.Choosing.{choice-slot, listed-slot}
 use Rattle.store.proofs.Calling.{settle-refused, settle-done}
@@ -65,7 +65,7 @@ drop-step-requires c κs =
     let id = args .id .0 in
     let z = sym (ap (λ (y : Choice). y .number) (c .before .before .choose-settle .ensures)) ∙ c .if2 .left in
     let last = check 14 (eqb (txOf s id .status) 1 || ltb (s .ondisk .0) (txOf s id .csn .0)) ∷ [] in
-    (omega (arith, chosen (c), listed-slot s id last z .0), image-count s (admission-of (c .before .before .before) .fits .image))
+    (omega (arith, chosen (c), listed-slot s id last z .0), image-count (imageOf s) (admission-of (c .before .before .before) .fits .image))
 
 returns-3 : tie.Need-returns-3
 returns-3 c =

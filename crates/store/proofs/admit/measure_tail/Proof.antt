@@ -1,14 +1,14 @@
 use borrow.Author.Needs.{needs}
 use Prim.Native.Nat.{ℕ}
 use native.Mathlib.Omega.{arith}
-use mathlib.Core.Path.{_≡_, sym, ap, _∙_}
+use mathlib.Core.Path.{_≡_, refl, sym, ap, _∙_}
 use mathlib.Core.Bool.{true}
 use lib.ListN.{drop}
 use borrow.Author.Tests.{not-true, not-false}
 use Rattle.log.specs.declared.scan.LogEnd.{LogEnd}
 use Rattle.log.proofs.Basics.{from}
+use Rattle.log.proofs.LogLaws.{log-within}
 use Rattle.store.specs.Rules.{allZero, tailLength}
-use Rattle.store.proofs.Zeros.{log-within}
 use Rattle.store.proofs.Admitting.{other-csn, other-rest, tail-right}
 use Rattle.store.proofs.admit.measure_tail.Statement.{statement}
 use Rattle.store.proofs.admit.measure_tail.Tie as tie
@@ -27,12 +27,12 @@ ended c = ap (λ (l : LogEnd). l .end) (c .read-log .ensures) ∙ omega arith
 sub-all-zero : tie.Need-sub-all-zero
 sub-all-zero c =
     let args = c .before .before .before .before .before .args in
-    omega (arith, ended (c .before .before .before), log-within (args .ondisk .0) (args .tail .now))
+    omega (arith, ended (c .before .before .before), log-within (args .ondisk .0) _ (args .tail .now) refl)
 
 part-all-zero-start : tie.Need-part-all-zero-start
 part-all-zero-start c =
     let args = c .before .before .before .before .before .args in
-    omega (arith, ended (c .before .before .before), log-within (args .ondisk .0) (args .tail .now))
+    omega (arith, ended (c .before .before .before), log-within (args .ondisk .0) _ (args .tail .now) refl)
 
 part-all-zero-end : tie.Need-part-all-zero-end
 part-all-zero-end c = search needs
