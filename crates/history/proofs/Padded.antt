@@ -64,7 +64,7 @@ module _ (s : State) (m bs : List ℕ) (cs : List Check) (lm : length m ≡ 4096
 
 -- ---- a group more, groups less
 
-drop-zeros : (n k : ℕ) → drop {A = ℕ} n (replicate k 0) ≡ replicate (k - n) 0
+pub drop-zeros : (n k : ℕ) → drop {A = ℕ} n (replicate k 0) ≡ replicate (k - n) 0
 drop-zeros zero k = let e : k ≡ k - 0 = omega arith in ap (λ (j : ℕ). replicate j 0) e
 drop-zeros (suc n) zero = let e : 0 ≡ 0 - suc n = omega arith in ap (λ (j : ℕ). replicate j 0) e
 drop-zeros (suc n) (suc k) = let e : k - n ≡ suc k - suc n = omega arith in drop-zeros n k ∙ ap (λ (j : ℕ). replicate j 0) e

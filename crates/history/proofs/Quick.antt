@@ -17,27 +17,27 @@ use Rattle.recovery.proofs.Byte.{undo-length}
 use Rattle.log.specs.Group.{encodeGroup}
 use Rattle.log.specs.Log.{readLog, encodeLog}
 use Rattle.log.specs.Stores.{Store, apply, copies}
+use Rattle.log.proofs.Basics.{and-left, and-right}
 use Rattle.log.proofs.StoreLaws.{length-apply, length-copies, length-clears, copies-cut}
 use Rattle.transaction.specs.Lists.{sumOf}
 use Rattle.transaction.specs.View.{writesOf}
 use Rattle.transaction.specs.Rules.{roomOf}
-use Rattle.transaction.proofs.Lists.{and-left, and-right}
 use Rattle.image.specs.Content.{contentOf}
 use Rattle.image.specs.Format.{encodeImage, imageSize}
+use Rattle.image.proofs.Rules.{image-count}
 use Rattle.image.proofs.Sizes.{length-content}
-use Rattle.restart.proofs.Rules.{image-few}
 use Rattle.restart.proofs.Undos.{aborts-length}
 use Rattle.restart.proofs.Recovery.{undoneBy, undone-few, tail-is}
 use Rattle.store.specs.declared.State.{State}
 use Rattle.store.specs.declared.Answer.the-variants.{Done, Cut, Refused}
-use Rattle.store.specs.State.{txsOf, slotOf, unrecovered}
+use Rattle.store.specs.State.{imageOf, txsOf, slotOf, unrecovered}
 use Rattle.store.specs.Rules.{tailLength, roomUsed}
 use Rattle.store.specs.Numbers.{txOf, beginChecks, writeChecks, readChecks, precommitChecks, abortChecks, settleChecks}
 use Rattle.store.specs.Steps.{begunState, writtenState, precommittedState, droppedState}
 use Rattle.store.specs.Calls.{decided, beginNumber, writeNumber, appended}
 use Rattle.store.specs.Stored.{Plan, storedBy}
 use Rattle.store.specs.Flush.{firstSize, flushedState, flushPlan, flushOf}
-use Rattle.store.specs.Checkpoint.{imageOf, slotAt, slotName, checkpointStores, checkpointPlan, checkpointOf}
+use Rattle.store.specs.Checkpoint.{slotAt, slotName, checkpointStores, checkpointPlan, checkpointOf}
 use Rattle.store.proofs.Calling.{begin-done, begin-refused, write-done, write-refused, read-done, read-refused, answer-done, answer-refused, precommit-done, precommit-refused, abort-done, abort-refused, settle-done, settle-refused}
 use Rattle.store.proofs.Storing.{diskNumber, stored-refused, stored-cut, stored-done}
 use Rattle.store.proofs.Flushing.{first-length}
@@ -416,7 +416,7 @@ module _ (d m bs : List ℕ) (s : State) (l : Lengths d m bs) where
 
     -- at most eight abort records
     undone-short : length undone ≤ 16384
-    undone-short = omega (arith, aborts-length (undoneBy (imageIn d) (logIn d)), undone-few (imageIn d) (logIn d), image-few (imageIn d) (accepted .rules))
+    undone-short = omega (arith, aborts-length (undoneBy (imageIn d) (logIn d)), undone-few (imageIn d) (logIn d), image-count (imageIn d) (accepted .rules))
 
     restart-tail : examineOf d .tail ≡ padded undone
     unfolding stepsOf
@@ -440,9 +440,10 @@ module _ (d m bs : List ℕ) (s : State) (l : Lengths d m bs) where
       tested (restarted x) (eqb (r .number) 0) _ (λ f.
       let number = eqb-true (r .number) 0 f in
       enough (restarted x) a need _ _
-      (λ h. (
+      (λ h.
+      let j : min a (length (clearing (r .end))) ≡ a = omega (arith, c, h) in (
         ap restarted (restart-cut d m t a (l .disk) (l .memory) (padded-length bs (l .tail)) number h)
-            ∙ ap (λ (y : List ℕ). record { reply = told Cut 0 a; world = record { disk = y; memory = replicate 4096 0; tail = replicate 16384 0; state = unrecovered } }) i,
+            ∙ ap₂ (λ (k : ℕ) (y : List ℕ). record { reply = told Cut 0 k; world = record { disk = y; memory = replicate 4096 0; tail = replicate 16384 0; state = unrecovered } }) j i,
         zero-lengths left ll,
       ))
       (λ h.

@@ -14,7 +14,7 @@ use Rattle.store.specs.Calls.{Outcome, beginOf, writeOf, readOf, readAnswerOf, 
 use Rattle.store.specs.Stored.{DiskOutcome}
 use Rattle.store.specs.Flush.{flushOf}
 use Rattle.store.specs.Checkpoint.{checkpointOf}
-use Rattle.disk.specs.Restart as restarts
+use Rattle.disk.specs.declared.call.Restarted.{Restarted}
 use Rattle.disk.specs.Restart.{restartOf}
 
 -- the nine calls and read's sister (`readAnswer`), with their arguments
@@ -79,7 +79,7 @@ stored o =
       world = record { disk = o .disk; memory = o .memory; tail = o .tail; state = o .result .state };
     }
 
-abbrev pub restarted : restarts.Outcome → Stepped
+abbrev pub restarted : DiskOutcome Restarted → Stepped
 restarted o =
     record {
       reply = told (o .result .answer) (o .result .undone) (o .result .stores);

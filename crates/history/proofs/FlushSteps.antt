@@ -1,0 +1,197 @@
+-- Flush: refused, or a step of `recovery`'s machine, done or cut.
+use Prim.Native.Nat.{ℕ, zero, suc, _+_, _-_, _≤_, _<_, min}
+use native.Mathlib.Decide.{decLe}
+use native.Mathlib.Omega.{arith}
+use mathlib.Core.Bool.{true}
+use mathlib.Core.List.{List, [], _∷_, _++_, append-assoc}
+use mathlib.Core.Path.{_≡_, refl, sym, ap, ap₂, _∙_, subst}
+use lib.ListN.{length, take, drop, replicate, length-take, length-append, length-replicate, take-append-drop}
+use lib.Seq.{sets, sets-eq, length-sets, length-take-le, take-all, take-at, drop-at, drop-drop}
+use Rattle.recovery.specs.Group.{Group, groupsSize, lastCsn, fitting}
+use Rattle.recovery.specs.Ledger as ledger
+use Rattle.recovery.specs.Machine.{Disk, Live, System, down, up, Step, flushes, flushIsCut, storing, afterFlush}
+use Rattle.recovery.proofs.Groups.{groupsSize-append, fitting-all}
+use Rattle.log.specs.Log.{readLog, encodeLog, wellFormedLog}
+use Rattle.log.specs.Stores.{apply, shifted}
+use Rattle.log.proofs.RoundTrip.{drop-take, length-log, log-same}
+use Rattle.log.proofs.Soundness.{log-formed}
+use Rattle.log.proofs.StoreLaws.{length-apply, copies-cut, length-shifted}
+use Rattle.log.proofs.Torn.{log-cut}
+use Rattle.store.specs.declared.State.{State}
+use Rattle.store.specs.declared.stored.Stored.{Stored}
+use Rattle.store.specs.State.{unrecovered}
+use Rattle.store.specs.Stored.{DiskOutcome}
+use Rattle.store.specs.Flush.{firstGroups, firstSize, flushedState, flushedTail, flushStores, flushPlan, flushOf}
+use Rattle.store.specs.View.{live}
+use Rattle.store.proofs.Fits.{Fit, fit, unfit-no}
+use Rattle.store.proofs.Storing.{diskNumber, stored-cut, stored-done}
+use Rattle.store.proofs.Flushing.{flush-length, flush-room, flush-tail, flush-keeps}
+use Rattle.store.proofs.Checkpointing.{sets-before, sets-behind}
+use Rattle.store.proofs.Stepping.{same-or-other}
+use Rattle.history.specs.Calls.{flush, stored, World, stepOf}
+use Rattle.history.proofs.Padded.{padded, padded-front, padded-shifted, drop-zeros}
+use Rattle.history.proofs.Parts.{encode-append, formed-first}
+use Rattle.history.proofs.OnDisk.{OnDisk, opens, same-front}
+use Rattle.history.proofs.Shows.{Neat, LiveOn, awake, rests, cut-rests, FollowsBy, refused-follows, flush-refuses}
+
+module _ (w : World) (d : Disk) (l : Live) (o : OnDisk (w .disk) d) (v : LiveOn w d l) (number : lastCsn 0 (d .before ++ d .after) ≡ w .state .ondisk .0) (k : ℕ) where
+  abbrev s : State
+  s = w .state
+
+  abbrev t : List ℕ
+  t = w .tail
+
+  abbrev groups : List Group
+  groups = readLog (s .ondisk .0) t
+
+  abbrev firsts : List Group
+  firsts = firstGroups s t k
+
+  abbrev size : ℕ
+  size = firstSize s t k
+
+  abbrev at : ℕ
+  at = 17307 + s .logend
+
+  fits : Fit s t
+  fits = fit s t (v .fits)
+
+  tail-same : groups ≡ l .tail
+  tail-same = ap (λ (x : Live). x .tail) (v .view)
+
+  -- ---- the bytes
+
+  parted : encodeLog groups ≡ encodeLog firsts ++ encodeLog (drop k groups)
+  parted = ap encodeLog (sym (take-append-drop k groups)) ∙ encode-append firsts (drop k groups)
+
+  size-within : size ≤ length (encodeLog groups)
+  size-within = omega (arith, ap length parted, length-append (encodeLog firsts) (encodeLog (drop k groups)), length-log firsts)
+
+  tail-short : length (encodeLog groups) ≤ 16384
+  tail-short = omega (arith, ap length (v .neat), length-append (encodeLog groups) (replicate (16384 - length (encodeLog groups)) 0), v .tail)
+
+  bytes : take size t ≡ encodeLog firsts
+  bytes =
+      ap (take size) (v .neat)
+      ∙ padded-front (encodeLog groups) size size-within
+      ∙ ap (take size) parted
+      ∙ take-at (encodeLog firsts) (encodeLog (drop k groups)) size (length-log firsts)
+
+  neat-after : Neat (lastCsn (s .ondisk .0) firsts) (flushedTail s t k)
+  neat-after =
+      ap (shifted size) (v .neat)
+      ∙ padded-shifted (encodeLog groups) size tail-short size-within
+      ∙ ap padded (ap (drop size) parted ∙ drop-at (encodeLog firsts) (encodeLog (drop k groups)) size (length-log firsts) ∙ ap encodeLog (sym (flush-tail s t k)))
+
+  -- ---- what n stores leave
+
+  module _ (n : ℕ) where
+    abbrev left : List ℕ
+    left = apply (take n (flushStores s t k)) (w .disk)
+
+    abbrev new : List ℕ
+    new = take n (encodeLog firsts)
+
+    room : at + size ≤ 33691
+    room = omega (arith, flush-room s t k fits)
+
+    new-length : length new ≤ size
+    new-length = omega (arith, length-take n (encodeLog firsts), length-log firsts)
+
+    left-is : left ≡ sets (w .disk) at new
+    left-is = copies-cut n at (take size t) (w .disk) ∙ ap (λ (x : List ℕ). sets (w .disk) at (take n x)) bytes
+
+    left-length : length left ≡ 33691
+    left-length = length-apply (take n (flushStores s t k)) (w .disk) ∙ o .long
+
+    kept : (j : ℕ) → j ≤ at → take j left ≡ take j (w .disk)
+    kept j h = ap (take j) left-is ∙ sets-before new (w .disk) at j h
+
+    -- what stands from the log's old end on
+    behind : drop at left ≡ new ++ replicate (16384 - s .logend - length new) 0
+    behind =
+        ap (drop at) (left-is ∙ sets-eq new (w .disk) at (omega (arith, o .long, new-length, room)) ∙ append-assoc (take at (w .disk)) new (drop (at + length new) (w .disk)))
+        ∙ drop-at (take at (w .disk)) (new ++ drop (at + length new) (w .disk)) at (length-take-le at (w .disk) (omega (arith, o .long, room)))
+        ∙ ap (λ (x : List ℕ). new ++ x) (sym (drop-drop (length new) at (w .disk)) ∙ ap (drop (length new)) (v .zeros) ∙ drop-zeros (length new) (16384 - s .logend))
+
+    -- the groups that were stored whole are read after those that stood there
+    log-left : readLog 0 (drop 17307 left) ≡ (d .before ++ d .after) ++ fitting n firsts
+    log-left =
+        let gs = d .before ++ d .after in
+        let same : take (groupsSize gs) (drop 17307 left) ≡ take (groupsSize gs) (drop 17307 (w .disk)) =
+        ap (λ (j : ℕ). take j (drop 17307 left)) (sym (v .end))
+        ∙ sym (drop-take 17307 (s .logend) left)
+        ∙ ap (drop 17307) (kept at (omega arith))
+        ∙ drop-take 17307 (s .logend) (w .disk)
+        ∙ ap (λ (j : ℕ). take j (drop 17307 (w .disk))) (v .end) in
+        log-same 0 gs (drop 17307 (w .disk)) (drop 17307 left) (o .log) same
+        ∙ ap (λ (hs : List Group). gs ++ hs)
+        (ap₂ readLog number (drop-drop (groupsSize gs) 17307 left ∙ ap (λ (j : ℕ). drop (17307 + j) left) (sym (v .end)) ∙ behind)
+        ∙ log-cut (s .ondisk .0) firsts n (16384 - s .logend - length new) (formed-first k (s .ondisk .0) groups (log-formed (s .ondisk .0) groups t refl)))
+
+    shows-left : (gs : List Group) → fitting n firsts ≡ gs → OnDisk left (storing gs d)
+    shows-left gs e =
+        same-front (w .disk) left d (storing gs d) o left-length (kept 17307 (omega arith)) refl refl
+        (log-left ∙ append-assoc (d .before) (d .after) (fitting n firsts) ∙ ap (λ (hs : List Group). d .before ++ (d .after ++ hs)) e)
+
+  -- ---- the call
+
+  firsts-same : firsts ≡ take k (l .tail)
+  firsts-same = ap (take k) tail-same
+
+  cut-follows : (a : ℕ) → diskNumber s (w .disk) (w .memory) t ≡ 0 → a < size → FollowsBy (up d l) (flush k a) (stepOf (flush k a) w)
+  unfolding stepOf flushOf
+  cut-follows a z h =
+      let e = stored-cut s (w .disk) (w .memory) t (flushPlan s (w .memory) t k) a z (omega (arith, flush-length s t k, h)) in
+      let few : a < groupsSize (take k (l .tail)) = omega (arith, h, ap groupsSize firsts-same) in
+      subst (FollowsBy (up d l) (flush k a)) (sym (ap stored e))
+      (record {
+        next = down (storing (fitting a (take k (l .tail))) d);
+        step = flushIsCut d l k a few;
+        shows = (
+          shows-left a (fitting a (take k (l .tail))) (ap (fitting a) firsts-same),
+          rests cut-rests,
+        );
+      })
+
+  done-follows : (a : ℕ) → diskNumber s (w .disk) (w .memory) t ≡ 0 → size ≤ a → FollowsBy (up d l) (flush k a) (stepOf (flush k a) w)
+  unfolding stepOf flushOf
+  done-follows a z h =
+      let e = stored-done s (w .disk) (w .memory) t (flushPlan s (w .memory) t k) a z (omega (arith, flush-length s t k, h)) in
+      let gs = take k (l .tail) in
+      let enough : groupsSize gs ≤ a = omega (arith, h, ap groupsSize firsts-same) in
+      let whole : new a ≡ encodeLog firsts = take-all a (encodeLog firsts) (omega (arith, length-log firsts, h)) in
+      let n : length (new a) ≡ size = ap length whole ∙ length-log firsts in
+      let place : 17307 + (s .logend + size) ≡ at + size = omega arith in
+      let rest : 16384 - s .logend - length (new a) ≡ 16384 - (s .logend + size) = omega (arith, n) in
+      let zeros : drop (17307 + (s .logend + size)) (left a) ≡ replicate (16384 - (s .logend + size)) 0 =
+      ap (λ (j : ℕ). drop j (left a)) place
+      ∙ sym (drop-drop size at (left a))
+      ∙ ap (drop size) (behind a)
+      ∙ drop-at (new a) (replicate (16384 - s .logend - length (new a)) 0) size n
+      ∙ ap (λ (j : ℕ). replicate j 0) rest in
+      subst (FollowsBy (up d l) (flush k a)) (sym (ap stored e))
+      (record {
+        next = up (storing gs d) (afterFlush k l);
+        step = flushes d l k a enough;
+        shows = (
+          shows-left a gs (fitting-all a firsts h ∙ firsts-same),
+          awake (record {
+            memory = v .memory;
+            tail = length-shifted size t ∙ v .tail;
+            fits = unfit-no (flushedState s t k) (flushedTail s t k) (flush-keeps s t k fits);
+            sizes = record { slots = v .sizes .slots; each = v .sizes .each };
+            view = ap (λ (hs : List Group). record { txs = live s (w .memory) t .txs; memory = w .memory; tail = hs; csn = lastCsn (s .ondisk .0) firsts; lastId = s .lastid .0 }) (flush-tail s t k)
+                ∙ ap (afterFlush k) (v .view);
+            end = omega (arith, v .end, groupsSize-append (d .before) (d .after), groupsSize-append (d .before) (d .after ++ gs), groupsSize-append (d .after) gs, ap groupsSize firsts-same);
+            zeros = zeros;
+            neat = neat-after;
+          }),
+        );
+      })
+
+  pub flush-follows : (a : ℕ) → FollowsBy (up d l) (flush k a) (stepOf (flush k a) w)
+  flush-follows a =
+      same-or-other (diskNumber s (w .disk) (w .memory) t) 0
+      (λ z. elim (decLe size a) [ | yes h ↦ done-follows a z h | no h ↦ cut-follows a z (omega (arith, h)) ])
+      (λ h. refused-follows (up d l) w (flush k a) (o, awake v) (flush-refuses w k a h))

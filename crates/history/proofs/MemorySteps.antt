@@ -1,0 +1,231 @@
+-- The calls that work in memory alone: each is refused, or a step of `recovery`'s machine.
+use Prim.Native.Nat.{ℕ, suc, _+_, _-_, _≤_, _<_}
+use native.Mathlib.Omega.{arith}
+use native.Mathlib.Numerals.{add-one}
+use mathlib.Core.Bool.{Bool, true, false, _||_}
+use mathlib.Core.List.{List, [], _∷_, _++_}
+use mathlib.Core.Path.{_≡_, refl, sym, ap, ap₂, _∙_, subst}
+use lib.ListN.{length, drop, replicate}
+use lib.Seq.{sets, length-sets}
+use lib.Dec.{eqb, ltb}
+use borrow.Author.Tests.{eq-eqb, ne-eqb, eqb-true, eqb-false, ltb-false}
+use Rattle.recovery.specs.Group.{Write, Group, aborted, groupsSize}
+use Rattle.recovery.specs.Lists.{any}
+use Rattle.recovery.specs.Transaction.{Tx as Transaction, running, lookup, heldByOther, reserved}
+use Rattle.recovery.specs.Ledger as ledger
+use Rattle.recovery.specs.Machine as machine
+use Rattle.recovery.specs.Machine.{Disk, Live, System, up, Listed, lastAssigned, Step, begins, writes, precommits, rollsBack, settles, afterBegin, afterWrite, afterPrecommit, afterAbort, afterSettle}
+use Rattle.recovery.proofs.Bool.{or-left, or-right}
+use Rattle.recovery.proofs.Byte.{undo-length}
+use Rattle.recovery.specs.Replay.{undoAll, layBytes}
+use Rattle.log.specs.declared.TxId.{TxId}
+use Rattle.log.specs.Group.{encodeGroup}
+use Rattle.transaction.specs.View.{writesOf, viewOf}
+use Rattle.transaction.specs.Rules.{heldAgainst}
+use Rattle.image.proofs.Rules.{image-count}
+use Rattle.store.specs.declared.State.{State}
+use Rattle.store.specs.declared.call.Begun.{Begun}
+use Rattle.store.specs.declared.call.Precommitted.{Precommitted}
+use Rattle.store.specs.declared.call.Returned.{Returned}
+use Rattle.store.specs.State.{imageOf, txsOf, slotOf}
+use Rattle.store.specs.Rules.{tailLength, roomUsed}
+use Rattle.store.specs.Numbers.{Check, check, firstNumber, txOf, check8, check9, check10, beginChecks, writeChecks, precommitChecks, abortChecks, settleChecks}
+use Rattle.store.specs.Steps.{begunState, writtenState, precommittedState, droppedState}
+use Rattle.store.specs.Calls.{Outcome, beginNumber, writeNumber, precommitNumber, abortNumber, settleNumber, appended}
+use Rattle.store.specs.View.{live}
+use Rattle.store.proofs.Checks.{passed}
+use Rattle.store.proofs.Fits.{Fit, fit, status-at}
+use Rattle.store.proofs.Choosing as choosing
+use Rattle.store.proofs.Choosing.{Running, listed-slot, ranged-by-8}
+use Rattle.store.proofs.Calling.{begin-done, write-done, precommit-done, abort-done, settle-done}
+use Rattle.store.proofs.Stepping.{same-or-other}
+use Rattle.store.proofs.Views.{accepted, begin-free, listed-view, tail-csn, commitOf, commit-appends, abort-appends, begin-live, write-live, precommit-live, abort-live, settle-live}
+use Rattle.store.proofs.Premises.{held-view, room-view}
+use Rattle.store.proofs.Keeping.{Kept, begin-keeps, write-keeps, precommit-keeps, abort-keeps, settle-keeps}
+use Rattle.history.specs.Calls.{Call, begin, write, precommit, abort, settle, World, Stepped, begun, returned, changed, precommitted, stepOf}
+use Rattle.history.specs.Demand.{eventOf}
+use Rattle.history.proofs.OnDisk.{OnDisk, opens}
+use Rattle.history.proofs.Shows.{Neat, LiveOn, awake, Follows, FollowsBy, refused-follows, begin-refuses, write-refuses, precommit-refuses, abort-refuses, settle-refuses, appended-neat}
+
+-- ---- the steps leave the log's end and the number on disk
+
+begun-same : (s : State) → (begunState s .logend ≡ s .logend) × (begunState s .ondisk .0 ≡ s .ondisk .0)
+unfolding begunState
+begun-same s = (refl, refl)
+
+written-same : (s : State) (j : ℕ) (m : List ℕ) (a : ℕ) (bs : List ℕ) → (writtenState s j m a bs .logend ≡ s .logend) × (writtenState s j m a bs .ondisk .0 ≡ s .ondisk .0)
+unfolding writtenState
+written-same s j m a bs = (refl, refl)
+
+precommitted-same : (s : State) (j : ℕ) → (precommittedState s j .logend ≡ s .logend) × (precommittedState s j .ondisk .0 ≡ s .ondisk .0)
+unfolding precommittedState
+precommitted-same s j = (refl, refl)
+
+dropped-same : (s : State) (j : ℕ) → (droppedState s j .logend ≡ s .logend) × (droppedState s j .ondisk .0 ≡ s .ondisk .0)
+unfolding droppedState
+dropped-same s j = (refl, refl)
+
+module _ (w : World) (d : Disk) (l : Live) (o : OnDisk (w .disk) d) (v : LiveOn w d l) where
+  abbrev s : State
+  s = w .state
+
+  abbrev m : List ℕ
+  m = w .memory
+
+  abbrev t : List ℕ
+  t = w .tail
+
+  fits : Fit s t
+  fits = fit s t (v .fits)
+
+  -- the same disk, and a state, memory and tail that go on
+  lives : (s' : State) (m' t' : List ℕ) (l' : Live) → (s' .logend ≡ s .logend) × (s' .ondisk .0 ≡ s .ondisk .0) → length m' ≡ 4096 → length t' ≡ 16384 → Kept s' t'
+      → live s' m' t' ≡ l' → Neat (s .ondisk .0) t' → LiveOn (record { disk = w .disk; memory = m'; tail = t'; state = s' }) d l'
+  lives s' m' t' l' same lm lt k view neat = record {
+    memory = lm;
+    tail = lt;
+    fits = k .fits;
+    sizes = k .sizes;
+    view = view;
+    end = same .0 ∙ v .end;
+    zeros = subst (λ (n : ℕ). drop (17307 + n) (w .disk) ≡ replicate (16384 - n) 0) (sym (same .0)) (v .zeros);
+    neat = subst (λ (n : ℕ). Neat n t') (sym (same .1)) neat;
+  }
+
+  follows : (c : Call) (x : Stepped) (e : ledger.Event) (l' : Live) → stepOf c w ≡ x → eventOf c (x .reply) ≡ e → Step opens (up d l) e (up d l')
+      → OnDisk (x .world .disk) d → LiveOn (x .world) d l' → FollowsBy (up d l) c (stepOf c w)
+  follows c x e l' is event step disk lv =
+      subst (FollowsBy (up d l) c) (sym is)
+      (record { next = up d l'; step = subst (λ (y : ledger.Event). Step opens (up d l) y (up d l')) (sym event) step; shows = (disk, awake lv) })
+
+  room : roomUsed s t ≡ machine.roomUsed d l
+  room = room-view s m t (v .sizes) fits ∙ ap₂ (λ (n : ℕ) (x : Live). n + groupsSize (x .tail) + reserved (running (x .txs))) (v .end) (v .view)
+
+  last-id : s .lastid .0 ≡ l .lastId
+  last-id = ap (λ (x : Live). x .lastId) (v .view)
+
+  appended-length : (g : Group) → length (appended s t g) ≡ 16384
+  appended-length g = length-sets t (tailLength (s .ondisk .0) t) (encodeGroup g) ∙ v .tail
+
+  -- ---- begin
+
+  pub begin-follows : FollowsBy (up d l) begin (stepOf begin w)
+  unfolding stepOf
+  begin-follows =
+      same-or-other (beginNumber s m t) 0
+      (λ z.
+        let x = accepted s m t (beginChecks (s .count) (s .lastid .0) (roomUsed s t)) z in
+        let b = begin-free s (roomUsed s t) (image-count (imageOf s) (x .fits .image)) (x .own) in
+        let e = begin-done s m t z in
+        follows begin (begun w _) (ledger.begun (suc (l .lastId))) (afterBegin l) (ap (begun w) e) (ap ledger.begun (add-one (s .lastid .0) ∙ ap suc last-id))
+        (begins d l (omega (arith, b .1, room))) o
+        (lives (begunState s) m t (afterBegin l) (begun-same s) (v .memory) (v .tail) (subst (λ (r : Begun). Kept (r .state) t) e (begin-keeps s m t (v .sizes) z))
+        (ap (λ (r : Begun). live (r .state) m t) (sym e) ∙ begin-live s m t (v .sizes) z ∙ ap afterBegin (v .view)) (v .neat)))
+      (λ h. refused-follows (up d l) w begin (o, awake v) (begin-refuses w h))
+
+  -- ---- a call of a transaction
+
+  module _ (id : ℕ) where
+    abbrev tx : Transaction
+    tx = viewOf (txOf s id)
+
+    abbrev tid : TxId
+    tid = record { 0 = id }
+
+    listed : slotOf s id < s .count → txOf s id .id .0 ≡ id → Listed tx (l .txs)
+    listed h n = ap₂ (λ (i : ℕ) (x : Live). lookup i (x .txs)) n (sym (v .view)) ∙ listed-view s m t id h
+
+    isRunning : Running s id → tx .committing ≡ false
+    isRunning r = ne-eqb (txOf s id .status) 2 (r .notCommitting)
+
+    pub write-follows : (a : ℕ) (bs : List ℕ) → FollowsBy (up d l) (write id a bs) (stepOf (write id a bs) w)
+    unfolding stepOf
+    write-follows a bs =
+        same-or-other (writeNumber s m t tid a (length bs)) 0
+        (λ z.
+          let n = length bs in
+          let new : Write = record { addr = a; bytes = bs } in
+          let x = accepted s m t (writeChecks s (roomUsed s t) id a n) z in
+          let last = check10 s id ∷ check 13 (ltb 16384 (roomUsed s t + (7 + n))) ∷ [] in
+          let p = choosing.running s id (check8 a n ∷ check9 s id a n ∷ last) (x .own) in
+          let r = p .0 in
+          let g = ranged-by-8 a n (check9 s id a n ∷ last) (p .1) in
+          let q = passed 9 (any (heldAgainst id a n) (txsOf s)) last (omega arith) (g .3) in
+          let q' = passed 10 (eqb (txOf s id .undo .count) 16) (check 13 (ltb 16384 (roomUsed s t + (7 + n))) ∷ []) (omega arith) (q .1) in
+          let q'' = passed 13 (ltb 16384 (roomUsed s t + (7 + n))) [] (omega arith) (q' .1) in
+          let free : heldByOther (tx .id) new (l .txs) ≡ false =
+          ap₂ (λ (i : ℕ) (y : Live). heldByOther i new (y .txs)) (r .named) (sym (v .view)) ∙ sym (held-view s m t (v .sizes) fits id a bs) ∙ q .0 in
+          let e = write-done s m t tid a bs z in
+          follows (write id a bs) (changed w _) (ledger.wrote (tx .id) new) (afterWrite tx new l) (ap (changed w) e) (ap (λ (i : ℕ). ledger.wrote i new) (sym (r .named)))
+          (writes d l tx new (listed (r .listed) (r .named)) (isRunning r) (g .2) free (omega (arith, ltb-false 16384 (roomUsed s t + (7 + n)) (q'' .0), room))) o
+          (lives (writtenState s (slotOf s id) m a bs) (sets m a bs) t (afterWrite tx new l) (written-same s (slotOf s id) m a bs) (length-sets m a bs ∙ v .memory) (v .tail)
+          (subst (λ (y : Outcome Returned). Kept (y .result .state) (y .tail)) e (write-keeps s m t (v .sizes) tid a bs z))
+          (ap (λ (y : Outcome Returned). live (y .result .state) (y .memory) (y .tail)) (sym e) ∙ write-live s m t (v .sizes) tid a bs z ∙ ap (afterWrite tx new) (v .view))
+          (v .neat)))
+        (λ h. refused-follows (up d l) w (write id a bs) (o, awake v) (write-refuses w id a bs h))
+
+    pub precommit-follows : FollowsBy (up d l) (precommit id) (stepOf (precommit id) w)
+    unfolding stepOf
+    precommit-follows =
+        same-or-other (precommitNumber s m t tid) 0
+        (λ z.
+          let x = accepted s m t (precommitChecks s id) z in
+          let r = choosing.running s id (check 12 (eqb (s .assigned .0) 4294967295) ∷ []) (x .own) .0 in
+          let y = commit-appends s t id (v .sizes) (v .tail) fits r in
+          let n : s .assigned .0 + 1 ≡ suc (lastAssigned l) =
+          add-one (s .assigned .0) ∙ ap suc (sym (tail-csn s t fits) ∙ ap (λ (k : Live). lastAssigned k) (v .view)) in
+          let e = precommit-done s m t tid z in
+          let t' = appended s t (commitOf s id) in
+          follows (precommit id) (precommitted w _) (ledger.precommitted (tx .id) (suc (lastAssigned l))) (afterPrecommit tx l) (ap (precommitted w) e) (ap₂ ledger.precommitted (sym (r .named)) n)
+          (precommits d l tx (listed (r .listed) (r .named)) (isRunning r)) o
+          (lives (precommittedState s (slotOf s id)) m t' (afterPrecommit tx l) (precommitted-same s (slotOf s id)) (v .memory) (appended-length (commitOf s id))
+          (subst (λ (k : Outcome Precommitted). Kept (k .result .state) (k .tail)) e (precommit-keeps s m t (v .sizes) tid z))
+          (ap (λ (k : Outcome Precommitted). live (k .result .state) (k .memory) (k .tail)) (sym e) ∙ precommit-live s m t (v .sizes) tid z ∙ ap (afterPrecommit tx) (v .view))
+          (appended-neat s t (commitOf s id) (v .tail) fits (v .neat) y)))
+        (λ h. refused-follows (up d l) w (precommit id) (o, awake v) (precommit-refuses w id h))
+
+    pub abort-follows : FollowsBy (up d l) (abort id) (stepOf (abort id) w)
+    unfolding stepOf
+    abort-follows =
+        same-or-other (abortNumber s m t tid) 0
+        (λ z.
+          let x = accepted s m t (abortChecks s id) z in
+          let r = choosing.running s id [] (x .own) .0 in
+          let y = abort-appends s t id (v .tail) fits r in
+          let e = abort-done s m t tid z in
+          let g = aborted id in
+          follows (abort id) (changed w _) (ledger.rolledBack (tx .id)) (afterAbort tx l) (ap (changed w) e) (ap ledger.rolledBack (sym (r .named)))
+          (rollsBack d l tx (listed (r .listed) (r .named)) (isRunning r)) o
+          (lives (droppedState s (slotOf s id)) (undoAll layBytes (writesOf (txOf s id .undo)) m) (appended s t g) (afterAbort tx l) (dropped-same s (slotOf s id)) (undo-length 4096 m (v .memory) (writesOf (txOf s id .undo))) (appended-length g)
+          (subst (λ (k : Outcome Returned). Kept (k .result .state) (k .tail)) e (abort-keeps s m t (v .sizes) tid z))
+          (ap (λ (k : Outcome Returned). live (k .result .state) (k .memory) (k .tail)) (sym e) ∙ abort-live s m t (v .sizes) tid z ∙ ap (afterAbort tx) (v .view))
+          (appended-neat s t g (v .tail) fits (v .neat) y)))
+        (λ h. refused-follows (up d l) w (abort id) (o, awake v) (abort-refuses w id h))
+
+    pub settle-follows : FollowsBy (up d l) (settle id) (stepOf (settle id) w)
+    unfolding stepOf
+    settle-follows =
+        same-or-other (settleNumber s m t tid) 0
+        (λ z.
+          let x = accepted s m t (settleChecks s id) z in
+          let one = eqb (txOf s id .status) 1 in
+          let late = ltb (s .ondisk .0) (txOf s id .csn .0) in
+          let p = listed-slot s id (check 14 (one || late) ∷ []) (x .own) in
+          let q = passed 14 (one || late) [] (omega arith) (p .2) in
+          let committing : tx .committing ≡ true = settling (txOf s id .status) (eqb-false _ _ (or-left one late (q .0))) (status-at s t fits (slotOf s id) (p .0)) in
+          let on-disk : tx .csn ≤ l .csn = omega (arith, ltb-false (s .ondisk .0) (txOf s id .csn .0) (or-right one late (q .0)), ap (λ (k : Live). k .csn) (v .view)) in
+          let e = settle-done s m t tid z in
+          follows (settle id) (returned w _) (ledger.settled (tx .id)) (afterSettle tx l) (ap (returned w) e) (ap ledger.settled (sym (p .1)))
+          (settles d l tx (listed (p .0) (p .1)) committing on-disk) o
+          (lives (droppedState s (slotOf s id)) m t (afterSettle tx l) (dropped-same s (slotOf s id)) (v .memory) (v .tail)
+          (subst (λ (r : Returned). Kept (r .state) t) e (settle-keeps s m t (v .sizes) tid z))
+          (ap (λ (r : Returned). live (r .state) m t) (sym e) ∙ settle-live s m t (v .sizes) tid z ∙ ap (afterSettle tx) (v .view))
+          (v .neat)))
+        (λ h. refused-follows (up d l) w (settle id) (o, awake v) (settle-refuses w id h))
+      where
+        settling : (n : ℕ) → (n ≡ 1 → ⊥) → ((n ≡ 2 → ⊥) → n ≡ 1) → eqb n 2 ≡ true
+        settling n h k = go (eqb n 2) refl
+          where
+            go : (b : Bool) → eqb n 2 ≡ b → b ≡ true
+            go true e = refl
+            go false e = absurd (h (k (eqb-false n 2 e)))

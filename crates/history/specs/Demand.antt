@@ -1,0 +1,96 @@
+-- Demand 3, "a single claim about the whole list": what may happen to a store, the ledger that is fed the calls, and what is then claimed.
+use Prim.Native.Nat.{ℕ, _≤_}
+use mathlib.Core.List.{List, [], _∷_, _++_, List·Memᴰ}
+use mathlib.Core.Path.{_≡_}
+use lib.ListN.{length, replicate}
+use Rattle.recovery.specs.Lists.{All}
+use Rattle.recovery.specs.Ledger.{Event, unchanged, begun, wrote, precommitted, rolledBack, flushed, settled, restarted, cut, Commit, Ledger, noLedger, enter}
+use Rattle.recovery.specs.Claim.{commits, layCommits, Numbered}
+use Rattle.log.specs.Log.{readLog}
+use Rattle.store.specs.declared.Answer.the-variants.{Done, Cut, Refused}
+use Rattle.store.specs.State.{unrecovered}
+use Rattle.disk.specs.Layout.{logFrom}
+use Rattle.disk.specs.Restart.{restartOf}
+use Rattle.history.specs.Calls.{Call, begin, write, read, readAnswer, precommit, abort, flush, settle, checkpoint, restart, Reply, told, part, World, stepOf}
+
+-- ---- what the ledger is fed of a call
+
+-- a call that was done, with the value that it told
+abbrev pub doneEvent : Call → ℕ → Event
+doneEvent begin id = begun id
+doneEvent (write id addr bytes) value = wrote id (record { addr = addr; bytes = bytes })
+doneEvent (read id addr len) value = unchanged
+doneEvent (readAnswer id addr len) value = unchanged
+doneEvent (precommit id) csn = precommitted id csn
+doneEvent (abort id) value = rolledBack id
+doneEvent (flush groups allowed) value = flushed groups allowed
+doneEvent (settle id) value = settled id
+doneEvent (checkpoint allowed) value = unchanged
+doneEvent (restart allowed) undone = restarted undone
+
+-- "Cut, whatever the call: sheets and queue are emptied after its step": of the calls that can be cut, flush alone has a step that lasts
+abbrev pub cutEvent : Call → Event
+cutEvent begin = unchanged
+cutEvent (write id addr bytes) = unchanged
+cutEvent (read id addr len) = unchanged
+cutEvent (readAnswer id addr len) = unchanged
+cutEvent (precommit id) = unchanged
+cutEvent (abort id) = unchanged
+cutEvent (flush groups allowed) = flushed groups allowed
+cutEvent (settle id) = unchanged
+cutEvent (checkpoint allowed) = unchanged
+cutEvent (restart allowed) = unchanged
+
+abbrev pub eventOf : Call → Reply → Event
+eventOf c (told Done value stores) = doneEvent c value
+eventOf c (told Cut value stores) = cut (cutEvent c)
+eventOf c (told (Refused n) value stores) = unchanged
+eventOf c (part bytes) = unchanged
+
+-- ---- what may happen
+
+-- a call; or the current fails between two calls: "only the disk lasts then", and memory and tail hold anything
+pub data Happening : Type 0 where
+  called : Call → Happening
+  powerFails : (memory tail : List ℕ) → length memory ≡ 4096 → length tail ≡ 16384 → Happening
+
+-- the store and its ledger
+pub record Kept : Type 0 where
+  pub world : World
+  pub ledger : Ledger
+
+abbrev pub happen : Happening → Kept → Kept
+happen (called c) k = record { world = stepOf c (k .world) .world; ledger = enter (eventOf c (stepOf c (k .world) .reply)) (k .ledger) }
+happen (powerFails memory tail lm lt) k =
+    record { world = record { disk = k .world .disk; memory = memory; tail = tail; state = unrecovered }; ledger = k .ledger }
+
+-- a list of them, in order
+abbrev pub happenAll : List Happening → Kept → Kept
+happenAll [] k = k
+happenAll (h ∷ hs) k = happenAll hs (happen h k)
+
+-- "an all-zero disk"; memory and tail hold anything, the ledger is empty. Until a restart is done, number 2 refuses every other call.
+abbrev pub opening : List ℕ → List ℕ → Kept
+opening memory tail = record { world = record { disk = replicate 33691 0; memory = memory; tail = tail; state = unrecovered }; ledger = noLedger }
+
+-- ---- what is claimed
+
+-- of one more restart with stores enough, whatever memory and tail hold
+pub record Restarts (disk : List ℕ) (durable : List Commit) (memory tail : List ℕ) (allowed : ℕ) : Type 0 where
+  -- it isn't refused
+  pub done : restartOf disk memory tail allowed .result .answer ≡ Done
+  -- it leaves "4,096 zeros with the writes of the kept bookings laid over them, booking after booking, each one's writes in order"
+  pub restores : restartOf disk memory tail allowed .memory ≡ layCommits durable (replicate 4096 0)
+  -- after it the log, read from its first byte, has as its commits exactly the durable ones
+  pub logged : commits (readLog 0 (logFrom 0 (restartOf disk memory tail allowed .disk))) ≡ durable
+
+pub record Demand3 (disk : List ℕ) (k : Ledger) : Type 0 where
+  pub restarts : (memory tail : List ℕ) (allowed : ℕ) → length memory ≡ 4096 → length tail ≡ 16384 → 16384 ≤ allowed → Restarts disk (k .durable) memory tail allowed
+  -- before it, too, the log's commits are exactly the durable ones (the kept), in order, with their ids, writes and numbers
+  pub logged : commits (readLog 0 (logFrom 0 disk)) ≡ k .durable
+  -- "these being 1, 2, 3 and on"
+  pub numbered : Numbered 0 (k .durable)
+  -- "The kept are the first so many in force"
+  pub first : (rest : List Commit) × (k .assigned ≡ k .durable ++ rest)
+  -- "each settled one is among them"
+  pub settled : All (λ c. List·Memᴰ c (k .durable)) (k .settled)
