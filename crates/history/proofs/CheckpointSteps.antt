@@ -80,13 +80,13 @@ module _ (w : World) (d : Disk) (l : Live) (o : OnDisk (w .disk) d) (v : LiveOn 
     load-kept q b e =
         same-or-other q 0 (λ k. subst (λ (j : ℕ). loadOf j left ≡ loadOf j (w .disk)) (sym k) (load-none left (w .disk)))
         (λ n.
-          same-or-other q 1
-          (λ k. subst (λ (j : ℕ). loadOf j left ≡ loadOf j (w .disk)) (sym k)
-            (load-named 1 left (w .disk) (λ y. omega (arith, y)) (part-a (kept-a s (w .disk) m t a z h (e ∙ k)))))
-          (λ i.
-            let k : q ≡ 2 = omega (arith, b, n, i) in
-            subst (λ (j : ℕ). loadOf j left ≡ loadOf j (w .disk)) (sym k)
-            (load-named 2 left (w .disk) (λ y. omega (arith, y)) (ap (take 8653) (kept-b s (w .disk) m t a z h (e ∙ k))))))
+        same-or-other q 1
+        (λ k. subst (λ (j : ℕ). loadOf j left ≡ loadOf j (w .disk)) (sym k)
+        (load-named 1 left (w .disk) (λ y. omega (arith, y)) (part-a (kept-a s (w .disk) m t a z h (e ∙ k)))))
+        (λ i.
+        let k : q ≡ 2 = omega (arith, b, n, i) in
+        subst (λ (j : ℕ). loadOf j left ≡ loadOf j (w .disk)) (sym k)
+        (load-named 2 left (w .disk) (λ y. omega (arith, y)) (ap (take 8653) (kept-b s (w .disk) m t a z h (e ∙ k))))))
 
     shows-cut : OnDisk left d
     shows-cut =
@@ -193,5 +193,5 @@ module _ (w : World) (d : Disk) (l : Live) (o : OnDisk (w .disk) d) (v : LiveOn 
 pub checkpoint-follows : (w : World) (d : Disk) (l : Live) → OnDisk (w .disk) d → LiveOn w d l → (a : ℕ) → FollowsBy (up d l) (checkpoint a) (stepOf (checkpoint a) w)
 checkpoint-follows w d l o v a =
     same-or-other (diskNumber (w .state) (w .disk) (w .memory) (w .tail)) 0
-    (λ z. elim (decLe a (imageSize (imageOf (w .state)))) [ | yes h ↦ cut-follows w d l o v a z h | no h ↦ done-follows w d l o v a z (omega (arith, h)) ])
+    (λ z. elim (decLe a (imageSize (imageOf (w .state)))) [ yes h ↦ cut-follows w d l o v a z h | no h ↦ done-follows w d l o v a z (omega (arith, h)) ])
     (λ h. refused-follows (up d l) w (checkpoint a) (o, awake v) (checkpoint-refuses w a h))

@@ -193,5 +193,5 @@ module _ (w : World) (d : Disk) (l : Live) (o : OnDisk (w .disk) d) (v : LiveOn 
   pub flush-follows : (a : ℕ) → FollowsBy (up d l) (flush k a) (stepOf (flush k a) w)
   flush-follows a =
       same-or-other (diskNumber s (w .disk) (w .memory) t) 0
-      (λ z. elim (decLe size a) [ | yes h ↦ done-follows a z h | no h ↦ cut-follows a z (omega (arith, h)) ])
+      (λ z. elim (decLe size a) [ yes h ↦ done-follows a z h | no h ↦ cut-follows a z (omega (arith, h)) ])
       (λ h. refused-follows (up d l) w (flush k a) (o, awake v) (flush-refuses w k a h))

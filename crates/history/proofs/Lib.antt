@@ -9,3 +9,5 @@ pub mod Shows
 pub mod MemorySteps
 pub mod FlushSteps
 pub mod CheckpointSteps
+pub mod RestartSteps
+pub mod Theorem

@@ -114,13 +114,13 @@ module _ (w : World) (d : Disk) (l : Live) (o : OnDisk (w .disk) d) (v : LiveOn 
   begin-follows =
       same-or-other (beginNumber s m t) 0
       (λ z.
-        let x = accepted s m t (beginChecks (s .count) (s .lastid .0) (roomUsed s t)) z in
-        let b = begin-free s (roomUsed s t) (image-count (imageOf s) (x .fits .image)) (x .own) in
-        let e = begin-done s m t z in
-        follows begin (begun w _) (ledger.begun (suc (l .lastId))) (afterBegin l) (ap (begun w) e) (ap ledger.begun (add-one (s .lastid .0) ∙ ap suc last-id))
-        (begins d l (omega (arith, b .1, room))) o
-        (lives (begunState s) m t (afterBegin l) (begun-same s) (v .memory) (v .tail) (subst (λ (r : Begun). Kept (r .state) t) e (begin-keeps s m t (v .sizes) z))
-        (ap (λ (r : Begun). live (r .state) m t) (sym e) ∙ begin-live s m t (v .sizes) z ∙ ap afterBegin (v .view)) (v .neat)))
+      let x = accepted s m t (beginChecks (s .count) (s .lastid .0) (roomUsed s t)) z in
+      let b = begin-free s (roomUsed s t) (image-count (imageOf s) (x .fits .image)) (x .own) in
+      let e = begin-done s m t z in
+      follows begin (begun w _) (ledger.begun (suc (l .lastId))) (afterBegin l) (ap (begun w) e) (ap ledger.begun (add-one (s .lastid .0) ∙ ap suc last-id))
+      (begins d l (omega (arith, b .1, room))) o
+      (lives (begunState s) m t (afterBegin l) (begun-same s) (v .memory) (v .tail) (subst (λ (r : Begun). Kept (r .state) t) e (begin-keeps s m t (v .sizes) z))
+      (ap (λ (r : Begun). live (r .state) m t) (sym e) ∙ begin-live s m t (v .sizes) z ∙ ap afterBegin (v .view)) (v .neat)))
       (λ h. refused-follows (up d l) w begin (o, awake v) (begin-refuses w h))
 
   -- ---- a call of a transaction
@@ -143,25 +143,25 @@ module _ (w : World) (d : Disk) (l : Live) (o : OnDisk (w .disk) d) (v : LiveOn 
     write-follows a bs =
         same-or-other (writeNumber s m t tid a (length bs)) 0
         (λ z.
-          let n = length bs in
-          let new : Write = record { addr = a; bytes = bs } in
-          let x = accepted s m t (writeChecks s (roomUsed s t) id a n) z in
-          let last = check10 s id ∷ check 13 (ltb 16384 (roomUsed s t + (7 + n))) ∷ [] in
-          let p = choosing.running s id (check8 a n ∷ check9 s id a n ∷ last) (x .own) in
-          let r = p .0 in
-          let g = ranged-by-8 a n (check9 s id a n ∷ last) (p .1) in
-          let q = passed 9 (any (heldAgainst id a n) (txsOf s)) last (omega arith) (g .3) in
-          let q' = passed 10 (eqb (txOf s id .undo .count) 16) (check 13 (ltb 16384 (roomUsed s t + (7 + n))) ∷ []) (omega arith) (q .1) in
-          let q'' = passed 13 (ltb 16384 (roomUsed s t + (7 + n))) [] (omega arith) (q' .1) in
-          let free : heldByOther (tx .id) new (l .txs) ≡ false =
-          ap₂ (λ (i : ℕ) (y : Live). heldByOther i new (y .txs)) (r .named) (sym (v .view)) ∙ sym (held-view s m t (v .sizes) fits id a bs) ∙ q .0 in
-          let e = write-done s m t tid a bs z in
-          follows (write id a bs) (changed w _) (ledger.wrote (tx .id) new) (afterWrite tx new l) (ap (changed w) e) (ap (λ (i : ℕ). ledger.wrote i new) (sym (r .named)))
-          (writes d l tx new (listed (r .listed) (r .named)) (isRunning r) (g .2) free (omega (arith, ltb-false 16384 (roomUsed s t + (7 + n)) (q'' .0), room))) o
-          (lives (writtenState s (slotOf s id) m a bs) (sets m a bs) t (afterWrite tx new l) (written-same s (slotOf s id) m a bs) (length-sets m a bs ∙ v .memory) (v .tail)
-          (subst (λ (y : Outcome Returned). Kept (y .result .state) (y .tail)) e (write-keeps s m t (v .sizes) tid a bs z))
-          (ap (λ (y : Outcome Returned). live (y .result .state) (y .memory) (y .tail)) (sym e) ∙ write-live s m t (v .sizes) tid a bs z ∙ ap (afterWrite tx new) (v .view))
-          (v .neat)))
+        let n = length bs in
+        let new : Write = record { addr = a; bytes = bs } in
+        let x = accepted s m t (writeChecks s (roomUsed s t) id a n) z in
+        let last = check10 s id ∷ check 13 (ltb 16384 (roomUsed s t + (7 + n))) ∷ [] in
+        let p = choosing.running s id (check8 a n ∷ check9 s id a n ∷ last) (x .own) in
+        let r = p .0 in
+        let g = ranged-by-8 a n (check9 s id a n ∷ last) (p .1) in
+        let q = passed 9 (any (heldAgainst id a n) (txsOf s)) last (omega arith) (g .3) in
+        let q' = passed 10 (eqb (txOf s id .undo .count) 16) (check 13 (ltb 16384 (roomUsed s t + (7 + n))) ∷ []) (omega arith) (q .1) in
+        let q'' = passed 13 (ltb 16384 (roomUsed s t + (7 + n))) [] (omega arith) (q' .1) in
+        let free : heldByOther (tx .id) new (l .txs) ≡ false =
+        ap₂ (λ (i : ℕ) (y : Live). heldByOther i new (y .txs)) (r .named) (sym (v .view)) ∙ sym (held-view s m t (v .sizes) fits id a bs) ∙ q .0 in
+        let e = write-done s m t tid a bs z in
+        follows (write id a bs) (changed w _) (ledger.wrote (tx .id) new) (afterWrite tx new l) (ap (changed w) e) (ap (λ (i : ℕ). ledger.wrote i new) (sym (r .named)))
+        (writes d l tx new (listed (r .listed) (r .named)) (isRunning r) (g .2) free (omega (arith, ltb-false 16384 (roomUsed s t + (7 + n)) (q'' .0), room))) o
+        (lives (writtenState s (slotOf s id) m a bs) (sets m a bs) t (afterWrite tx new l) (written-same s (slotOf s id) m a bs) (length-sets m a bs ∙ v .memory) (v .tail)
+        (subst (λ (y : Outcome Returned). Kept (y .result .state) (y .tail)) e (write-keeps s m t (v .sizes) tid a bs z))
+        (ap (λ (y : Outcome Returned). live (y .result .state) (y .memory) (y .tail)) (sym e) ∙ write-live s m t (v .sizes) tid a bs z ∙ ap (afterWrite tx new) (v .view))
+        (v .neat)))
         (λ h. refused-follows (up d l) w (write id a bs) (o, awake v) (write-refuses w id a bs h))
 
     pub precommit-follows : FollowsBy (up d l) (precommit id) (stepOf (precommit id) w)
@@ -169,19 +169,19 @@ module _ (w : World) (d : Disk) (l : Live) (o : OnDisk (w .disk) d) (v : LiveOn 
     precommit-follows =
         same-or-other (precommitNumber s m t tid) 0
         (λ z.
-          let x = accepted s m t (precommitChecks s id) z in
-          let r = choosing.running s id (check 12 (eqb (s .assigned .0) 4294967295) ∷ []) (x .own) .0 in
-          let y = commit-appends s t id (v .sizes) (v .tail) fits r in
-          let n : s .assigned .0 + 1 ≡ suc (lastAssigned l) =
-          add-one (s .assigned .0) ∙ ap suc (sym (tail-csn s t fits) ∙ ap (λ (k : Live). lastAssigned k) (v .view)) in
-          let e = precommit-done s m t tid z in
-          let t' = appended s t (commitOf s id) in
-          follows (precommit id) (precommitted w _) (ledger.precommitted (tx .id) (suc (lastAssigned l))) (afterPrecommit tx l) (ap (precommitted w) e) (ap₂ ledger.precommitted (sym (r .named)) n)
-          (precommits d l tx (listed (r .listed) (r .named)) (isRunning r)) o
-          (lives (precommittedState s (slotOf s id)) m t' (afterPrecommit tx l) (precommitted-same s (slotOf s id)) (v .memory) (appended-length (commitOf s id))
-          (subst (λ (k : Outcome Precommitted). Kept (k .result .state) (k .tail)) e (precommit-keeps s m t (v .sizes) tid z))
-          (ap (λ (k : Outcome Precommitted). live (k .result .state) (k .memory) (k .tail)) (sym e) ∙ precommit-live s m t (v .sizes) tid z ∙ ap (afterPrecommit tx) (v .view))
-          (appended-neat s t (commitOf s id) (v .tail) fits (v .neat) y)))
+        let x = accepted s m t (precommitChecks s id) z in
+        let r = choosing.running s id (check 12 (eqb (s .assigned .0) 4294967295) ∷ []) (x .own) .0 in
+        let y = commit-appends s t id (v .sizes) (v .tail) fits r in
+        let n : s .assigned .0 + 1 ≡ suc (lastAssigned l) =
+        add-one (s .assigned .0) ∙ ap suc (sym (tail-csn s t fits) ∙ ap (λ (k : Live). lastAssigned k) (v .view)) in
+        let e = precommit-done s m t tid z in
+        let t' = appended s t (commitOf s id) in
+        follows (precommit id) (precommitted w _) (ledger.precommitted (tx .id) (suc (lastAssigned l))) (afterPrecommit tx l) (ap (precommitted w) e) (ap₂ ledger.precommitted (sym (r .named)) n)
+        (precommits d l tx (listed (r .listed) (r .named)) (isRunning r)) o
+        (lives (precommittedState s (slotOf s id)) m t' (afterPrecommit tx l) (precommitted-same s (slotOf s id)) (v .memory) (appended-length (commitOf s id))
+        (subst (λ (k : Outcome Precommitted). Kept (k .result .state) (k .tail)) e (precommit-keeps s m t (v .sizes) tid z))
+        (ap (λ (k : Outcome Precommitted). live (k .result .state) (k .memory) (k .tail)) (sym e) ∙ precommit-live s m t (v .sizes) tid z ∙ ap (afterPrecommit tx) (v .view))
+        (appended-neat s t (commitOf s id) (v .tail) fits (v .neat) y)))
         (λ h. refused-follows (up d l) w (precommit id) (o, awake v) (precommit-refuses w id h))
 
     pub abort-follows : FollowsBy (up d l) (abort id) (stepOf (abort id) w)
@@ -189,17 +189,17 @@ module _ (w : World) (d : Disk) (l : Live) (o : OnDisk (w .disk) d) (v : LiveOn 
     abort-follows =
         same-or-other (abortNumber s m t tid) 0
         (λ z.
-          let x = accepted s m t (abortChecks s id) z in
-          let r = choosing.running s id [] (x .own) .0 in
-          let y = abort-appends s t id (v .tail) fits r in
-          let e = abort-done s m t tid z in
-          let g = aborted id in
-          follows (abort id) (changed w _) (ledger.rolledBack (tx .id)) (afterAbort tx l) (ap (changed w) e) (ap ledger.rolledBack (sym (r .named)))
-          (rollsBack d l tx (listed (r .listed) (r .named)) (isRunning r)) o
-          (lives (droppedState s (slotOf s id)) (undoAll layBytes (writesOf (txOf s id .undo)) m) (appended s t g) (afterAbort tx l) (dropped-same s (slotOf s id)) (undo-length 4096 m (v .memory) (writesOf (txOf s id .undo))) (appended-length g)
-          (subst (λ (k : Outcome Returned). Kept (k .result .state) (k .tail)) e (abort-keeps s m t (v .sizes) tid z))
-          (ap (λ (k : Outcome Returned). live (k .result .state) (k .memory) (k .tail)) (sym e) ∙ abort-live s m t (v .sizes) tid z ∙ ap (afterAbort tx) (v .view))
-          (appended-neat s t g (v .tail) fits (v .neat) y)))
+        let x = accepted s m t (abortChecks s id) z in
+        let r = choosing.running s id [] (x .own) .0 in
+        let y = abort-appends s t id (v .tail) fits r in
+        let e = abort-done s m t tid z in
+        let g = aborted id in
+        follows (abort id) (changed w _) (ledger.rolledBack (tx .id)) (afterAbort tx l) (ap (changed w) e) (ap ledger.rolledBack (sym (r .named)))
+        (rollsBack d l tx (listed (r .listed) (r .named)) (isRunning r)) o
+        (lives (droppedState s (slotOf s id)) (undoAll layBytes (writesOf (txOf s id .undo)) m) (appended s t g) (afterAbort tx l) (dropped-same s (slotOf s id)) (undo-length 4096 m (v .memory) (writesOf (txOf s id .undo))) (appended-length g)
+        (subst (λ (k : Outcome Returned). Kept (k .result .state) (k .tail)) e (abort-keeps s m t (v .sizes) tid z))
+        (ap (λ (k : Outcome Returned). live (k .result .state) (k .memory) (k .tail)) (sym e) ∙ abort-live s m t (v .sizes) tid z ∙ ap (afterAbort tx) (v .view))
+        (appended-neat s t g (v .tail) fits (v .neat) y)))
         (λ h. refused-follows (up d l) w (abort id) (o, awake v) (abort-refuses w id h))
 
     pub settle-follows : FollowsBy (up d l) (settle id) (stepOf (settle id) w)
@@ -207,20 +207,20 @@ module _ (w : World) (d : Disk) (l : Live) (o : OnDisk (w .disk) d) (v : LiveOn 
     settle-follows =
         same-or-other (settleNumber s m t tid) 0
         (λ z.
-          let x = accepted s m t (settleChecks s id) z in
-          let one = eqb (txOf s id .status) 1 in
-          let late = ltb (s .ondisk .0) (txOf s id .csn .0) in
-          let p = listed-slot s id (check 14 (one || late) ∷ []) (x .own) in
-          let q = passed 14 (one || late) [] (omega arith) (p .2) in
-          let committing : tx .committing ≡ true = settling (txOf s id .status) (eqb-false _ _ (or-left one late (q .0))) (status-at s t fits (slotOf s id) (p .0)) in
-          let on-disk : tx .csn ≤ l .csn = omega (arith, ltb-false (s .ondisk .0) (txOf s id .csn .0) (or-right one late (q .0)), ap (λ (k : Live). k .csn) (v .view)) in
-          let e = settle-done s m t tid z in
-          follows (settle id) (returned w _) (ledger.settled (tx .id)) (afterSettle tx l) (ap (returned w) e) (ap ledger.settled (sym (p .1)))
-          (settles d l tx (listed (p .0) (p .1)) committing on-disk) o
-          (lives (droppedState s (slotOf s id)) m t (afterSettle tx l) (dropped-same s (slotOf s id)) (v .memory) (v .tail)
-          (subst (λ (r : Returned). Kept (r .state) t) e (settle-keeps s m t (v .sizes) tid z))
-          (ap (λ (r : Returned). live (r .state) m t) (sym e) ∙ settle-live s m t (v .sizes) tid z ∙ ap (afterSettle tx) (v .view))
-          (v .neat)))
+        let x = accepted s m t (settleChecks s id) z in
+        let one = eqb (txOf s id .status) 1 in
+        let late = ltb (s .ondisk .0) (txOf s id .csn .0) in
+        let p = listed-slot s id (check 14 (one || late) ∷ []) (x .own) in
+        let q = passed 14 (one || late) [] (omega arith) (p .2) in
+        let committing : tx .committing ≡ true = settling (txOf s id .status) (eqb-false _ _ (or-left one late (q .0))) (status-at s t fits (slotOf s id) (p .0)) in
+        let on-disk : tx .csn ≤ l .csn = omega (arith, ltb-false (s .ondisk .0) (txOf s id .csn .0) (or-right one late (q .0)), ap (λ (k : Live). k .csn) (v .view)) in
+        let e = settle-done s m t tid z in
+        follows (settle id) (returned w _) (ledger.settled (tx .id)) (afterSettle tx l) (ap (returned w) e) (ap ledger.settled (sym (p .1)))
+        (settles d l tx (listed (p .0) (p .1)) committing on-disk) o
+        (lives (droppedState s (slotOf s id)) m t (afterSettle tx l) (dropped-same s (slotOf s id)) (v .memory) (v .tail)
+        (subst (λ (r : Returned). Kept (r .state) t) e (settle-keeps s m t (v .sizes) tid z))
+        (ap (λ (r : Returned). live (r .state) m t) (sym e) ∙ settle-live s m t (v .sizes) tid z ∙ ap (afterSettle tx) (v .view))
+        (v .neat)))
         (λ h. refused-follows (up d l) w (settle id) (o, awake v) (settle-refuses w id h))
       where
         settling : (n : ℕ) → (n ≡ 1 → ⊥) → ((n ≡ 2 → ⊥) → n ≡ 1) → eqb n 2 ≡ true

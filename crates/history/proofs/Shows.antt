@@ -115,11 +115,11 @@ module _ (w : World) where
       let n = readNumber (w .state) (w .memory) (w .tail) (record { 0 = id }) a k in
       same-or-other n 0
       (λ z.
-        let e = answer-done (w .state) (w .memory) (w .tail) (record { 0 = id }) a k z in
-        record { event = ap (λ (r : Returned). eventOf (readAnswer id a k) (returned w r .reply)) e; world = ap (λ (r : Returned). returned w r .world) e })
+      let e = answer-done (w .state) (w .memory) (w .tail) (record { 0 = id }) a k z in
+      record { event = ap (λ (r : Returned). eventOf (readAnswer id a k) (returned w r .reply)) e; world = ap (λ (r : Returned). returned w r .world) e })
       (λ h.
-        let e = answer-refused (w .state) (w .memory) (w .tail) (record { 0 = id }) a k n refl h in
-        record { event = ap (λ (r : Returned). eventOf (readAnswer id a k) (returned w r .reply)) e; world = ap (λ (r : Returned). returned w r .world) e })
+      let e = answer-refused (w .state) (w .memory) (w .tail) (record { 0 = id }) a k n refl h in
+      record { event = ap (λ (r : Returned). eventOf (readAnswer id a k) (returned w r .reply)) e; world = ap (λ (r : Returned). returned w r .world) e })
 
   pub precommit-refuses : (id : ℕ) → (precommitNumber (w .state) (w .memory) (w .tail) (record { 0 = id }) ≡ 0 → ⊥) → Refuses w (precommit id)
   unfolding stepOf

@@ -1,8 +1,9 @@
 -- Demand 3, "a single claim about the whole list": what may happen to a store, the ledger that is fed the calls, and what is then claimed.
-use Prim.Native.Nat.{ℕ, _≤_}
+use Prim.Native.Nat.{ℕ, _-_, _≤_}
 use mathlib.Core.List.{List, [], _∷_, _++_, List·Memᴰ}
 use mathlib.Core.Path.{_≡_}
 use lib.ListN.{length, replicate}
+use Rattle.recovery.specs.Group.{groupsSize}
 use Rattle.recovery.specs.Lists.{All}
 use Rattle.recovery.specs.Ledger.{Event, unchanged, begun, wrote, precommitted, rolledBack, flushed, settled, restarted, cut, Commit, Ledger, noLedger, enter}
 use Rattle.recovery.specs.Claim.{commits, layCommits, Numbered}
@@ -54,28 +55,32 @@ pub data Happening : Type 0 where
   called : Call → Happening
   powerFails : (memory tail : List ℕ) → length memory ≡ 4096 → length tail ≡ 16384 → Happening
 
--- the store and its ledger
-pub record Kept : Type 0 where
+-- a store and its ledger
+pub record Watched : Type 0 where
   pub world : World
   pub ledger : Ledger
 
-abbrev pub happen : Happening → Kept → Kept
+abbrev pub happen : Happening → Watched → Watched
 happen (called c) k = record { world = stepOf c (k .world) .world; ledger = enter (eventOf c (stepOf c (k .world) .reply)) (k .ledger) }
 happen (powerFails memory tail lm lt) k =
     record { world = record { disk = k .world .disk; memory = memory; tail = tail; state = unrecovered }; ledger = k .ledger }
 
 -- a list of them, in order
-abbrev pub happenAll : List Happening → Kept → Kept
+abbrev pub happenAll : List Happening → Watched → Watched
 happenAll [] k = k
 happenAll (h ∷ hs) k = happenAll hs (happen h k)
 
 -- "an all-zero disk"; memory and tail hold anything, the ledger is empty. Until a restart is done, number 2 refuses every other call.
-abbrev pub opening : List ℕ → List ℕ → Kept
+abbrev pub opening : List ℕ → List ℕ → Watched
 opening memory tail = record { world = record { disk = replicate 33691 0; memory = memory; tail = tail; state = unrecovered }; ledger = noLedger }
 
 -- ---- what is claimed
 
--- of one more restart with stores enough, whatever memory and tail hold
+-- "stores enough": restart clears the log from its end on, byte by byte
+abbrev pub Enough : ℕ → List ℕ → Type 0
+Enough allowed disk = 16384 - groupsSize (readLog 0 (logFrom 0 disk)) ≤ allowed
+
+-- of one more restart
 pub record Restarts (disk : List ℕ) (durable : List Commit) (memory tail : List ℕ) (allowed : ℕ) : Type 0 where
   -- it isn't refused
   pub done : restartOf disk memory tail allowed .result .answer ≡ Done
@@ -85,7 +90,9 @@ pub record Restarts (disk : List ℕ) (durable : List Commit) (memory tail : Lis
   pub logged : commits (readLog 0 (logFrom 0 (restartOf disk memory tail allowed .disk))) ≡ durable
 
 pub record Demand3 (disk : List ℕ) (k : Ledger) : Type 0 where
-  pub restarts : (memory tail : List ℕ) (allowed : ℕ) → length memory ≡ 4096 → length tail ≡ 16384 → 16384 ≤ allowed → Restarts disk (k .durable) memory tail allowed
+  -- whatever memory and tail hold
+  pub restarts : (memory tail : List ℕ) (allowed : ℕ) → length memory ≡ 4096 → length tail ≡ 16384 → Enough allowed disk
+      → Restarts disk (k .durable) memory tail allowed
   -- before it, too, the log's commits are exactly the durable ones (the kept), in order, with their ids, writes and numbers
   pub logged : commits (readLog 0 (logFrom 0 disk)) ≡ k .durable
   -- "these being 1, 2, 3 and on"

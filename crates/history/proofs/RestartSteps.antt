@@ -1,0 +1,171 @@
+-- Restart: never refused, and a step of `recovery`'s machine, done or cut.
+use Prim.Native.Nat.{ℕ, _+_, _-_, _*_, _≤_, _<_, min}
+use native.Mathlib.Decide.{decLe}
+use native.Mathlib.Omega.{arith}
+use mathlib.Core.List.{List, [], _++_}
+use mathlib.Core.Path.{_≡_, refl, sym, ap, ap₂, _∙_, subst}
+use lib.ListN.{length, take, drop, replicate, length-take, length-replicate}
+use lib.Seq.{length-take-le, take-append-le, drop-append-le, take-take, drop-at}
+use Rattle.recovery.specs.Group.{Group, groupsSize, lastCsn}
+use Rattle.recovery.specs.Lists.{All}
+use Rattle.recovery.specs.Transaction.{Tx}
+use Rattle.recovery.specs.Restart.{groupId, aborts}
+use Rattle.recovery.specs.Ledger as ledger
+use Rattle.recovery.specs.Machine.{Disk, System, down, up, diskOf, Step, restarts, restartIsCut, undoneBy, recovered, afterRestart}
+use Rattle.recovery.proofs.Groups.{fitting-all}
+use Rattle.log.specs.Log.{readLog, encodeLog}
+use Rattle.log.specs.Stores.{apply}
+use Rattle.log.proofs.RoundTrip.{drop-take}
+use Rattle.log.proofs.StoreLaws.{length-apply}
+use Rattle.log.proofs.Torn.{log-torn}
+use Rattle.transaction.specs.declared.Tx.{Tx as Slot}
+use Rattle.transaction.specs.Flat.{emptyTx}
+use Rattle.restart.specs.Slots.{txsOf}
+use Rattle.restart.specs.Forward.{groupsOf}
+use Rattle.restart.proofs.Recovery.{last-above-image, last-above-groups}
+use Rattle.store.specs.declared.State.{State}
+use Rattle.store.specs.View.{live}
+use Rattle.store.proofs.Stepping.{SizedState}
+use Rattle.disk.specs.Examine.{Meaning, stepsOf, examineOf}
+use Rattle.disk.specs.Restart.{recoveredState, clearing, restartOf}
+use Rattle.disk.proofs.Accepted.{imageIn, memoryIn, logIn, stepsIn, Accepted, memory-length, tail-length}
+use Rattle.disk.proofs.Restarting.{cutFrom, doneFrom, restart-cut, restart-done}
+use Rattle.disk.proofs.Usable.{tail-reads, usable}
+use Rattle.disk.proofs.Again.{cleared}
+use Rattle.history.specs.Calls.{restart, restarted, World, stepOf}
+use Rattle.history.proofs.Padded.{padded}
+use Rattle.history.proofs.OnDisk.{OnDisk, opens, same-front, groups-after, undone-shown, accepts, number-none, end-shown, count-shown, csn-shown, memory-shown, tail-shown}
+use Rattle.history.proofs.Shows.{Neat, LiveOn, awake, rests, cut-rests, FollowsBy}
+
+-- a state without transactions
+recovered-sized : (s : State) → s .txs ≡ replicate 8 emptyTx → s .count ≡ 0 → SizedState s
+recovered-sized s e c = record { slots = ap length e ∙ length-replicate {A = Slot} 8 emptyTx; each = λ i h. absurd (omega (arith, h, c)) }
+
+module _ (disk : List ℕ) (d : Disk) (o : OnDisk disk d) (n : lastCsn 0 (d .before) ≡ d .image .csn) (room : groupsSize (d .before ++ d .after) + 4 * length (undoneBy d) ≤ 16384) where
+  abbrev end : ℕ
+  end = examineOf disk .result .end
+
+  ends : end ≡ groupsSize (d .before ++ d .after)
+  ends = end-shown disk d o n room
+
+  ok : Accepted disk
+  ok = accepts disk d o n room
+
+  -- ---- what k of step 6's stores leave
+
+  module _ (k : ℕ) where
+    abbrev pub left : List ℕ
+    left = apply (take k (clearing end)) disk
+
+    abbrev front : ℕ
+    front = 17307 + end + (16384 - end - k)
+
+    abbrev zeros : List ℕ
+    zeros = replicate (16384 - end - (16384 - end - k)) 0
+
+    left-is : left ≡ take front disk ++ zeros
+    left-is = cleared k end disk (o .long) (omega (arith, ends, room))
+
+    front-length : length (take front disk) ≡ front
+    front-length = length-take-le front disk (omega (arith, o .long, ends, room))
+
+    same : take 17307 left ≡ take 17307 disk
+    same =
+        ap (take 17307) left-is
+        ∙ take-append-le 17307 (take front disk) zeros (omega (arith, front-length))
+        ∙ take-take 17307 front disk (omega arith)
+
+    pub log-left : readLog 0 (drop 17307 left) ≡ d .before ++ d .after
+    log-left =
+        let j = end + (16384 - end - k) in
+        let e : front ≡ 17307 + j = omega arith in
+        ap (λ (x : List ℕ). readLog 0 (drop 17307 x)) left-is
+        ∙ ap (readLog 0) (drop-append-le 17307 (take front disk) zeros (omega (arith, front-length)))
+        ∙ ap (λ (x : List ℕ). readLog 0 (x ++ zeros)) (ap (λ (i : ℕ). drop 17307 (take i disk)) e ∙ drop-take 17307 j disk)
+        ∙ log-torn 0 (d .before ++ d .after) (drop 17307 disk) j (16384 - end - (16384 - end - k)) (o .log)
+        ∙ fitting-all j (d .before ++ d .after) (omega (arith, ends))
+
+    shows-left : OnDisk left d
+    shows-left = same-front disk left d d o (length-apply (take k (clearing end)) disk ∙ o .long) same refl refl log-left
+
+  -- ---- the state, memory and tail of a restart that is done
+
+  abbrev last : ℕ
+  last = examineOf disk .result .last .0
+
+  -- it is at least each id in the image and in the groups after it
+  last-is : stepsIn disk .answer .last .0 ≡ last
+  last-is = ap (λ (m : Meaning). m .result .last .0) (sym (ok .is))
+
+  ids-image : All (λ t. t .id ≤ last) (d .image .txs)
+  unfolding stepsOf
+  ids-image =
+      subst (λ (ts : List Tx). All (λ t. t .id ≤ last) ts) (o .txs)
+      (subst (λ (i : ℕ). All (λ t. t .id ≤ i) (txsOf (imageIn disk))) last-is (last-above-image (imageIn disk) (ok .rules) (logIn disk) (memoryIn disk) (replicate 16384 0)))
+
+  ids-groups : All (λ g. groupId g ≤ last) (d .after)
+  unfolding stepsOf
+  ids-groups =
+      subst (λ (gs : List Group). All (λ g. groupId g ≤ last) gs) (groups-after disk d o n)
+      (subst (λ (i : ℕ). All (λ g. groupId g ≤ i) (groupsOf (imageIn disk) (logIn disk))) last-is (last-above-groups (imageIn disk) (ok .rules) (logIn disk) (memoryIn disk) (replicate 16384 0)))
+
+  abbrev state : State
+  state = recoveredState end (examineOf disk .result .csn) (examineOf disk .result .last)
+
+  tail-groups : (csn : ℕ) → readLog csn (examineOf disk .tail) ≡ aborts (undoneBy d)
+  tail-groups csn = tail-reads disk ok csn ∙ ap aborts (undone-shown disk d o n)
+
+  view : live state (examineOf disk .memory) (examineOf disk .tail) ≡ afterRestart d last
+  unfolding recoveredState
+  view =
+      ap₂ (λ (m : List ℕ) (gs : List Group). record { txs = []; memory = m; tail = gs; csn = examineOf disk .result .csn .0; lastId = last })
+      (memory-shown disk d o n room) (tail-groups (examineOf disk .result .csn .0))
+      ∙ ap (λ (c : ℕ). record { txs = []; memory = recovered d; tail = aborts (undoneBy d); csn = c; lastId = last }) (csn-shown disk d o n room)
+
+  neat : (csn : ℕ) → Neat csn (examineOf disk .tail)
+  neat csn = tail-shown disk d o n room ∙ ap (λ (gs : List Group). padded (encodeLog gs)) (sym (tail-groups csn))
+
+  lives : (k : ℕ) → 16384 - end ≤ k → LiveOn (record { disk = left k; memory = examineOf disk .memory; tail = examineOf disk .tail; state = state }) d (afterRestart d last)
+  unfolding recoveredState
+  lives k h =
+      let e : 17307 + end + (16384 - end - k) ≡ 17307 + end = omega arith in
+      let z : 16384 - end - (16384 - end - k) ≡ 16384 - end = omega arith in
+      record {
+        memory = memory-length disk (o .long) ok;
+        tail = tail-length disk (o .long) ok;
+        fits = usable disk ok (examineOf disk .result .csn) (examineOf disk .result .last);
+        sizes = recovered-sized state refl refl;
+        view = view;
+        end = ends;
+        zeros = ap (drop (17307 + end)) (left-is k) ∙ drop-at (take (front k) disk) (zeros k) (17307 + end) (front-length k ∙ e) ∙ ap (λ (j : ℕ). replicate j 0) z;
+        neat = neat (examineOf disk .result .csn .0);
+      }
+
+  -- ---- the call
+
+  module _ (m t : List ℕ) (lm : length m ≡ 4096) (lt : length t ≡ 16384) (a : ℕ) where
+    pub restart-made : 16384 - end ≤ a → restartOf disk m t a ≡ doneFrom (examineOf disk) disk a
+    restart-made h = restart-done disk m t a (o .long) lm lt (number-none disk d o n room) h
+
+    restart-broken : a < 16384 - end → restartOf disk m t a ≡ cutFrom (examineOf disk) disk a
+    restart-broken h = restart-cut disk m t a (o .long) lm lt (number-none disk d o n room) h
+
+pub restart-follows : (w : World) (s : System) → OnDisk (w .disk) (diskOf s) → length (w .memory) ≡ 4096 → length (w .tail) ≡ 16384
+    → lastCsn 0 (diskOf s .before) ≡ diskOf s .image .csn → groupsSize (diskOf s .before ++ diskOf s .after) + 4 * length (undoneBy (diskOf s)) ≤ 16384
+    → (a : ℕ) → FollowsBy s (restart a) (stepOf (restart a) w)
+unfolding stepOf
+restart-follows w s o lm lt n room a =
+    let d = diskOf s in
+    elim (decLe (16384 - end (w .disk) d o n room) a) [
+      | yes h ↦
+          subst (FollowsBy s (restart a)) (sym (ap restarted (restart-made (w .disk) d o n room (w .memory) (w .tail) lm lt a h)))
+          (record {
+            next = up d (afterRestart d (last (w .disk) d o n room));
+            step = subst (λ (e : ledger.Event). Step opens s e (up d (afterRestart d (last (w .disk) d o n room)))) (ap ledger.restarted (sym (count-shown (w .disk) d o n room)))
+                (restarts s (last (w .disk) d o n room) (ids-image (w .disk) d o n room) (ids-groups (w .disk) d o n room));
+            shows = (shows-left (w .disk) d o n room a, awake (lives (w .disk) d o n room a h));
+          })
+      | no h ↦
+          subst (FollowsBy s (restart a)) (sym (ap restarted (restart-broken (w .disk) d o n room (w .memory) (w .tail) lm lt a (omega (arith, h)))))
+          (record { next = down d; step = restartIsCut s; shows = (shows-left (w .disk) d o n room a, rests cut-rests) })
+    ]

@@ -1,0 +1,125 @@
+-- Demand 3 for the calls themselves. A call added later adds a constructor of Call, a lemma that it is a step of the machine, and a line of
+-- `follows`.
+use Prim.Native.Nat.{ℕ, _+_, _-_, _*_, _≤_}
+use native.Mathlib.Omega.{arith}
+use mathlib.Core.List.{List, [], _∷_, _++_}
+use mathlib.Core.Path.{_≡_, refl, sym, ap, _∙_}
+use lib.ListN.{length}
+use Rattle.recovery.specs.Group.{Group, groupsSize, lastCsn}
+use Rattle.recovery.specs.Ledger.{Ledger}
+use Rattle.recovery.specs.Machine.{Disk, Live, System, down, up, diskOf, openingDisk, undoneBy, Run, opened, next}
+use Rattle.recovery.specs.Claim.{commits, Claim}
+use Rattle.recovery.proofs.Numbers.{Numbers, last-on-disk}
+use Rattle.recovery.proofs.Invariant.{Inv}
+use Rattle.recovery.proofs.Theorem.{holds, theorem}
+use Rattle.log.specs.Log.{readLog}
+use Rattle.store.specs.Stored.{DiskOutcome}
+use Rattle.disk.specs.declared.call.Restarted.{Restarted}
+use Rattle.disk.specs.Layout.{logFrom}
+use Rattle.history.specs.Calls.{Call, begin, write, read, readAnswer, precommit, abort, flush, settle, checkpoint, restart, World, stepOf}
+use Rattle.history.specs.Demand.{Happening, called, powerFails, Watched, happen, happenAll, opening, Restarts, Demand3}
+use Rattle.history.proofs.OnDisk.{OnDisk, opens, fresh-shows, end-shown, memory-shown}
+use Rattle.history.proofs.Shows.{LiveOn, Resting, Beside, awake, rests, Shows, FollowsBy, Refuses, refused-follows, read-refuses, answer-refuses, begin-idle, write-idle, precommit-idle, abort-idle, settle-idle, flush-idle, checkpoint-idle}
+use Rattle.history.proofs.MemorySteps.{begin-follows, write-follows, precommit-follows, abort-follows, settle-follows}
+use Rattle.history.proofs.FlushSteps.{flush-follows}
+use Rattle.history.proofs.CheckpointSteps.{checkpoint-follows}
+use Rattle.history.proofs.RestartSteps.{log-left, restart-made, restart-follows}
+
+-- ---- what the machine's invariant says of a disk
+
+numbersIn : (s : System) (k : Ledger) → Inv opens s k → Numbers opens (diskOf s)
+numbersIn (down d) k v = v .numbers
+numbersIn (up d l) k v = v .numbers
+
+module _ (s : System) (k : Ledger) (r : Run opens s k) where
+  numbers : Numbers opens (diskOf s)
+  numbers = numbersIn s k (holds opens r)
+
+  image-number : lastCsn 0 (diskOf s .before) ≡ diskOf s .image .csn
+  image-number = sym (numbers .image)
+
+  room : groupsSize (diskOf s .before ++ diskOf s .after) + 4 * length (undoneBy (diskOf s)) ≤ 16384
+  room = theorem opens r .fits
+
+-- the last number in the log is the state's number on disk
+last-number : (w : World) (d : Disk) (l : Live) (k : Ledger) → Run opens (up d l) k → LiveOn w d l → lastCsn 0 (d .before ++ d .after) ≡ w .state .ondisk .0
+last-number w d l k r v = last-on-disk opens d (numbers (up d l) k r) ∙ sym (holds opens r .standing .onDisk) ∙ ap (λ (x : Live). x .csn) (sym (v .view))
+
+-- ---- each call is a step
+
+lengths : (w : World) (s : System) → Beside w s → (length (w .memory) ≡ 4096) × (length (w .tail) ≡ 16384)
+lengths w s (awake v) = (v .memory, v .tail)
+lengths w s (rests r) = (r .memory, r .tail)
+
+restart-step : (w : World) (s : System) (k : Ledger) → Run opens s k → Shows w s → (a : ℕ) → FollowsBy s (restart a) (stepOf (restart a) w)
+restart-step w s k r h = let l = lengths w s (h .1) in restart-follows w s (h .0) (l .0) (l .1) (image-number s k r) (room s k r)
+
+follows : (c : Call) (w : World) (s : System) (k : Ledger) → Run opens s k → OnDisk (w .disk) (diskOf s) → Beside w s → FollowsBy s c (stepOf c w)
+follows (restart a) w s k r o b = restart-step w s k r (o, b) a
+follows (read id a n) w s k r o b = refused-follows s w (read id a n) (o, b) (read-refuses w id a n)
+follows (readAnswer id a n) w s k r o b = refused-follows s w (readAnswer id a n) (o, b) (answer-refuses w id a n)
+follows begin w s k r o (rests x) = refused-follows s w begin (o, rests x) (begin-idle w x)
+follows (write id a bs) w s k r o (rests x) = refused-follows s w (write id a bs) (o, rests x) (write-idle w x id a bs)
+follows (precommit id) w s k r o (rests x) = refused-follows s w (precommit id) (o, rests x) (precommit-idle w x id)
+follows (abort id) w s k r o (rests x) = refused-follows s w (abort id) (o, rests x) (abort-idle w x id)
+follows (settle id) w s k r o (rests x) = refused-follows s w (settle id) (o, rests x) (settle-idle w x id)
+follows (flush n a) w s k r o (rests x) = refused-follows s w (flush n a) (o, rests x) (flush-idle w x (o .long) n a)
+follows (checkpoint a) w s k r o (rests x) = refused-follows s w (checkpoint a) (o, rests x) (checkpoint-idle w x (o .long) a)
+follows begin w s k r o (awake {d} {l} v) = begin-follows w d l o v
+follows (write id a bs) w s k r o (awake {d} {l} v) = write-follows w d l o v id a bs
+follows (precommit id) w s k r o (awake {d} {l} v) = precommit-follows w d l o v id
+follows (abort id) w s k r o (awake {d} {l} v) = abort-follows w d l o v id
+follows (settle id) w s k r o (awake {d} {l} v) = settle-follows w d l o v id
+follows (flush n a) w s k r o (awake {d} {l} v) = flush-follows w d l o v (last-number w d l k r v) n a
+follows (checkpoint a) w s k r o (awake {d} {l} v) = checkpoint-follows w d l o v a
+
+-- ---- lists of them
+
+-- a store and its ledger are those of a run of the machine
+record Reached (k : Watched) : Type 0 where
+  system : System
+  run : Run opens system (k .ledger)
+  shows : Shows (k .world) system
+
+happens : (h : Happening) (k : Watched) → Reached k → Reached (happen h k)
+happens (called c) k r =
+    let f = follows c (k .world) (r .system) (k .ledger) (r .run) (r .shows .0) (r .shows .1) in
+    record { system = f .next; run = next (r .run) (f .step); shows = f .shows }
+happens (powerFails m t lm lt) k r =
+    record { system = r .system; run = r .run; shows = (r .shows .0, rests (record { memory = lm; tail = lt; state = refl })) }
+
+all-happen : (hs : List Happening) (k : Watched) → Reached k → Reached (happenAll hs k)
+all-happen [] k r = r
+all-happen (h ∷ hs) k r = all-happen hs (happen h k) (happens h k r)
+
+-- ---- the claim
+
+claimed : (k : Watched) → Reached k → Demand3 (k .world .disk) (k .ledger)
+claimed k r =
+    let s = r .system in
+    let disk = k .world .disk in
+    let o = r .shows .0 in
+    let c = theorem opens (r .run) in
+    let n = image-number s (k .ledger) (r .run) in
+    let fits = room s (k .ledger) (r .run) in
+    record {
+      restarts = λ m t a lm lt h.
+          let e = restart-made disk (diskOf s) o n fits m t lm lt a (omega (arith, h, end-shown disk (diskOf s) o n fits, ap groupsSize (o .log))) in
+          record {
+            done = ap (λ (x : DiskOutcome Restarted). x .result .answer) e;
+            restores = ap (λ (x : DiskOutcome Restarted). x .memory) e ∙ memory-shown disk (diskOf s) o n fits ∙ c .restores;
+            logged = ap (λ (x : DiskOutcome Restarted). commits (readLog 0 (logFrom 0 (x .disk)))) e ∙ ap commits (log-left disk (diskOf s) o n fits a) ∙ c .logged;
+          };
+      logged = ap commits (o .log) ∙ c .logged;
+      numbered = c .numbered;
+      first = c .first;
+      settled = c .settled;
+    }
+
+-- Demand 3: whatever happens to a store that opens with an all-zero disk, its disk and its ledger keep the claim.
+pub demand-3 : (hs : List Happening) (memory tail : List ℕ) → length memory ≡ 4096 → length tail ≡ 16384
+    → Demand3 (happenAll hs (opening memory tail) .world .disk) (happenAll hs (opening memory tail) .ledger)
+demand-3 hs memory tail lm lt =
+    claimed (happenAll hs (opening memory tail))
+    (all-happen hs (opening memory tail)
+    (record { system = down (openingDisk opens); run = opened; shows = (fresh-shows, rests (record { memory = lm; tail = lt; state = refl })) }))
