@@ -3,12 +3,12 @@ use Prim.Native.Nat.{ℕ, zero, suc, _+_, _-_, _*_, _≤_, _<_}
 use native.Mathlib.Decide.{decLt}
 use native.Mathlib.Omega.{arith}
 use mathlib.Core.Bool.{Bool, true, false, cond, not, _&&_, _||_, or-true, and-false}
-use mathlib.Core.List.{List, _++_}
+use mathlib.Core.List.{List, [], _∷_}
 use mathlib.Core.Path.{_≡_, refl, sym, ap, ap₂, _∙_, subst}
 use lib.ListN.{length, getD, drop, set}
 use lib.Seq.{getD-set-same, getD-set-other}
 use lib.Dec.{eqb, leb, ltb}
-use borrow.Author.Tests.{eq-eqb, ne-eqb, lt-ltb, leb-true, eqb-true}
+use borrow.Author.Tests.{eq-eqb, ne-eqb, lt-ltb, leb-true, eqb-true, not-false}
 use Rattle.recovery.specs.Group.{lastCsn}
 use Rattle.recovery.specs.Lists.{any}
 use Rattle.log.specs.Log.{readLog}
@@ -26,10 +26,10 @@ use Rattle.store.specs.declared.admit.Admission.{Admission}
 use Rattle.store.specs.State.{txAt, txsOf, outlineAt, outlinesOf}
 use Rattle.image.specs.Rules.{distinct, outlinesOk}
 use Rattle.store.specs.Rules.{allZero, tailLength, tailOk, roomUsed, unfit}
-use Rattle.store.specs.Numbers.{Check, firstNumber, sharedChecks}
+use Rattle.store.specs.Numbers.{Check, check, firstNumber, sharedChecks, numberBy}
 use Rattle.store.specs.Admission.{headOk, keyAt, measuredIf, measuredTxs, measuredTail, admission}
 use Rattle.store.proofs.Fits.{Fit, fit, unfit-no, running-redo}
-use Rattle.store.proofs.Checks.{stops, passes}
+use Rattle.store.proofs.Checks.{stops, passes, passed}
 
 abbrev pub refusedBy : ℕ → Admission
 refusedBy n = record { number = n; end = 0; room = 0 }
@@ -245,39 +245,44 @@ module _ (s : State) (m : ℕ) (t : List ℕ) where
     unfolding admission
     admit-fit h = rw (eq-eqb m 4096 e, eq-eqb (length t) 16384 f, h)
 
-  -- what a call learns of an admission that did not refuse
-  pub record Admitted (x : Admission) : Type 0 where
+  -- what a call has passed whose own checks are cs
+  pub record Accepted (cs : List Check) : Type 0 where
     pub memory : m ≡ 4096
     pub tail : length t ≡ 16384
     pub fits : Fit s t
-    pub passed : firstNumber (sharedChecks s m t) ≡ 0
-    pub end : x .end ≡ tailLength (s .ondisk .0) t
-    pub room : x .room ≡ roomUsed s t
+    pub own : firstNumber cs ≡ 0
 
-  pub number-of : (x : Admission) → x ≡ admission s m t → x .number ≡ firstNumber (sharedChecks s m t)
-  unfolding admission
-  number-of x e = ap (λ (y : Admission). y .number) e
+  pub accepted : (cs : List Check) → numberBy s m t cs ≡ 0 → Accepted cs
+  accepted cs e =
+      let a = passed 1 (not (eqb m 4096 && eqb (length t) 16384)) (check 2 (unfit s t) ∷ cs) (omega arith) e in
+      let b = passed 2 (unfit s t) cs (omega arith) (a .1) in
+      let l : eqb m 4096 && eqb (length t) 16384 ≡ true = not-false _ (a .0) in
+      record { memory = eqb-true _ _ (and-left (eqb m 4096) _ l); tail = eqb-true _ _ (and-right (eqb m 4096) _ l); fits = fit s t (b .0); own = b .1 }
 
-  pub admitted : (x : Admission) → x ≡ admission s m t → x .number ≡ 0 → Admitted x
-  unfolding admission
-  admitted x e h =
-      let z : firstNumber (sharedChecks s m t) ≡ 0 = sym (number-of x e) ∙ h in
-      go (eqb m 4096) (eqb (length t) 16384) (unfit s t) refl refl refl z
-      (ap (λ (y : Admission). y .end) e ∙ rw (eq-eqb _ _ z)) (ap (λ (y : Admission). y .room) e ∙ rw (eq-eqb _ _ z))
-    where
-      go : (a b c : Bool) → eqb m 4096 ≡ a → eqb (length t) 16384 ≡ b → unfit s t ≡ c → _≡_ {A = ℕ} (cond (not (a && b)) 1 (cond c 2 0)) 0
-          → x .end ≡ tailLength (s .ondisk .0) t → x .room ≡ roomUsed s t → Admitted x
-      go true true false p q r z u v =
-          record { memory = eqb-true _ _ p; tail = eqb-true _ _ q; fits = fit s t r; passed = rw (p, q, r); end = u; room = v }
-      go true true true p q r z u v = absurd (omega arith)
-      go true false c p q r z u v = absurd (omega arith)
-      go false b c p q r z u v = absurd (omega arith)
+  -- x is the admission
+  module _ (x : Admission) (e : x ≡ admission s m t) where
+    pub number-is : x .number ≡ firstNumber (sharedChecks s m t)
+    unfolding admission
+    number-is = ap (λ (y : Admission). y .number) e
 
--- a refusal by 1 or 2 is the call's, whatever it would check besides
-pub shared-stops : (s : State) (m : ℕ) (t : List ℕ) (cs : List Check) (x : Admission) → x ≡ admission s m t → (x .number ≡ 0 → ⊥) → firstNumber (sharedChecks s m t ++ cs) ≡ x .number
-shared-stops s m t cs x e h =
-    let n = number-of s m t x e in
-    stops (sharedChecks s m t) cs (omega arith, (omega arith, Prim.tt)) (λ z. h (n ∙ z)) ∙ sym n
+    -- a refusal by 1 or 2 is the call's, whatever it would check besides
+    pub shared-stops : (cs : List Check) → (x .number ≡ 0 → ⊥) → numberBy s m t cs ≡ x .number
+    shared-stops cs h = stops (sharedChecks s m t) cs (λ z. h (number-is ∙ z)) ∙ sym number-is
 
-pub shared-passes : (s : State) (m : ℕ) (t : List ℕ) (cs : List Check) → firstNumber (sharedChecks s m t) ≡ 0 → firstNumber (sharedChecks s m t ++ cs) ≡ firstNumber cs
-shared-passes s m t cs z = passes (sharedChecks s m t) cs (omega arith, (omega arith, Prim.tt)) z
+    -- what a call learns of an admission that did not refuse
+    pub record Admitted : Type 0 where
+      pub fits : Fit s t
+      pub own : (cs : List Check) → numberBy s m t cs ≡ firstNumber cs
+      pub end : x .end ≡ tailLength (s .ondisk .0) t
+      pub room : x .room ≡ roomUsed s t
+
+    pub admitted : x .number ≡ 0 → Admitted
+    unfolding admission
+    admitted h =
+        let z : firstNumber (sharedChecks s m t) ≡ 0 = sym number-is ∙ h in
+        record {
+          fits = accepted [] z .fits;
+          own = λ cs. passes (sharedChecks s m t) cs refl z;
+          end = ap (λ (y : Admission). y .end) e ∙ rw z;
+          room = ap (λ (y : Admission). y .room) e ∙ rw z;
+        }

@@ -20,15 +20,16 @@ use Rattle.transaction.proofs.Lists.{length-up}
 use Rattle.transaction.proofs.Ranges.{counted}
 use Rattle.image.proofs.Rules.{image-count, undo-at}
 use Rattle.store.specs.declared.State.{State}
+use Rattle.store.specs.declared.choose.Choice.{Choice}
 use Rattle.store.specs.State.{txAt, txsOf, slotOf, imageOf}
 use Rattle.store.specs.Answer.{done, refused, answer}
 use Rattle.store.specs.Rules.{tailLength}
-use Rattle.store.specs.Numbers.{check, firstNumber, txOf, check8, check9, check10, writeChecks}
+use Rattle.store.specs.Numbers.{Check, check, firstNumber, txOf, check7, check8, check9, check10, writeChecks}
 use Rattle.store.specs.Steps.{begunState, writtenState, precommittedState, droppedState}
 use Rattle.store.specs.Calls.{refusedReturn, doneReturn, beginNumber, beginOf, writeNumber, writeOf, readNumber, readOf, readAnswerOf, appended, precommitNumber, precommitOf, abortNumber, abortOf, settleNumber, settleOf}
 use Rattle.store.proofs.Checks.{passed}
 use Rattle.store.proofs.Fits.{Fit, status-at, redo-at, room-at}
-use Rattle.store.proofs.Choosing.{Running, running, ranged-by-8}
+use Rattle.store.proofs.Choosing.{Slotted, Running, running, ranged-by-8}
 
 -- ---- outcomes, by the number
 
@@ -133,6 +134,9 @@ usable s t id f r =
       counts = same-count (txAt s k .undo) (txAt s k .redo) same;
       fits = omega (arith, room, f .room);
     }
+
+pub usable-at : (s : State) (m : ℕ) (t : List ℕ) (id : ℕ) (x : Choice) (cs : List Check) → Slotted s m t id x (check7 s id ∷ cs) → Usable s t (x .slot)
+usable-at s m t id x cs w = subst (Usable s t) (sym (w .slot)) (usable s t id (w .fits) (running s id cs (w .own) .0))
 
 -- what write may rely on
 pub record Writable (s : State) (k a n : ℕ) : Type 0 where

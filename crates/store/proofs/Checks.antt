@@ -1,24 +1,28 @@
 -- Laws of checks in order: a refusal of the first ones is the whole list's, and what holds where none refuses.
 use Prim.Native.Nat.{ℕ, _<_}
 use native.Mathlib.Omega.{arith}
-use mathlib.Core.Bool.{Bool, true, false}
+use mathlib.Core.Bool.{Bool, true, false, _&&_}
 use mathlib.Core.List.{List, [], _∷_, _++_}
 use mathlib.Core.Path.{_≡_, refl}
+use lib.Dec.{ltb}
+use borrow.Author.Tests.{ltb-true}
+use Rattle.log.proofs.Basics.{and-left, and-right}
 use Rattle.store.specs.Numbers.{Check, check, firstNumber}
 
-abbrev pub Positive : List Check → Type 0
-Positive [] = Unit {0}
-Positive (check n b ∷ cs) = (0 < n) × Positive cs
+-- each has a number
+abbrev pub positive : List Check → Bool
+positive [] = true
+positive (check n b ∷ cs) = ltb 0 n && positive cs
 
-pub stops : (cs ds : List Check) → Positive cs → (firstNumber cs ≡ 0 → ⊥) → firstNumber (cs ++ ds) ≡ firstNumber cs
-stops [] ds p h = absurd (h refl)
-stops (check n true ∷ cs) ds p h = refl
-stops (check n false ∷ cs) ds p h = stops cs ds (p .1) h
+pub stops : (cs ds : List Check) → (firstNumber cs ≡ 0 → ⊥) → firstNumber (cs ++ ds) ≡ firstNumber cs
+stops [] ds h = absurd (h refl)
+stops (check n true ∷ cs) ds h = refl
+stops (check n false ∷ cs) ds h = stops cs ds h
 
-pub passes : (cs ds : List Check) → Positive cs → firstNumber cs ≡ 0 → firstNumber (cs ++ ds) ≡ firstNumber ds
+pub passes : (cs ds : List Check) → positive cs ≡ true → firstNumber cs ≡ 0 → firstNumber (cs ++ ds) ≡ firstNumber ds
 passes [] ds p h = refl
-passes (check n true ∷ cs) ds p h = absurd (omega (arith, p .0, h))
-passes (check n false ∷ cs) ds p h = passes cs ds (p .1) h
+passes (check n true ∷ cs) ds p h = absurd (omega (arith, ltb-true 0 n (and-left (ltb 0 n) (positive cs) p), h))
+passes (check n false ∷ cs) ds p h = passes cs ds (and-right (ltb 0 n) (positive cs) p) h
 
 -- a check that did not refuse
 pub passed : (n : ℕ) (b : Bool) (cs : List Check) → 0 < n → firstNumber (check n b ∷ cs) ≡ 0 → (b ≡ false) × (firstNumber cs ≡ 0)

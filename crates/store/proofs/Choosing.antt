@@ -1,49 +1,73 @@
--- The cases of a call's own refusals, each from the tests that lead there.
+-- The cases of a call's refusals, each from the tests that lead there.
 use Prim.Native.Nat.{ℕ, _+_, _≤_, _<_}
 use native.Mathlib.Omega.{arith}
 use mathlib.Core.Bool.{Bool, true, false, cond, not, _&&_, _||_}
 use mathlib.Core.List.{List, _∷_, _++_}
 use mathlib.Core.Path.{_≡_, refl, sym, ap, _∙_}
+use lib.ListN.{length}
 use lib.Dec.{eqb, leb, ltb}
 use native.Mathlib.Decide.{decLe, decLt}
 use borrow.Author.Tests.{eq-eqb, ne-eqb, eqb-true, eqb-false, le-leb, lt-leb, le-ltb, lt-ltb, not-false}
 use Rattle.recovery.specs.Lists.{any}
 use Rattle.log.specs.Record.{inRange}
 use Rattle.transaction.proofs.Ranges.{in-range}
+use Rattle.image.proofs.Rules.{image-count}
 use Rattle.store.specs.declared.State.{State}
-use Rattle.store.specs.State.{txAt, txsOf, hasId, slotOf}
+use Rattle.store.specs.State.{imageOf, txAt, txsOf, hasId, slotOf}
 use Rattle.store.specs.declared.choose.Choice.{Choice}
-use Rattle.store.specs.Numbers.{Check, firstNumber, refusal, choice, txOf, check6, check7, check8}
-use Rattle.store.proofs.Checks.{Positive, stops, passes, passed}
+use Rattle.store.specs.Rules.{tailLength, roomUsed}
+use Rattle.store.specs.Numbers.{Check, firstNumber, txOf, sharedChecks, numberBy, refusal, chosen, choice, check6, check7, check8}
+use Rattle.store.proofs.Checks.{positive, stops, passes, passed}
+use Rattle.store.proofs.Fits.{Fit}
+use Rattle.store.proofs.Admitting.{accepted}
 use Rattle.store.proofs.Slots.{slot as find}
 
--- a choice by its number
-pub choice-none : (cs : List Check) (slot : ℕ) → firstNumber cs ≡ 0 → choice cs slot ≡ record { number = 0; slot = slot }
-choice-none cs slot e = rw e
+-- ---- a choice by its number
 
-pub choice-some : (cs : List Check) (slot n : ℕ) → firstNumber cs ≡ n → (n ≡ 0 → ⊥) → choice cs slot ≡ refusal n
-choice-some cs slot n e h = rw (e, ne-eqb n 0 h)
+module _ (s : State) (m : ℕ) (t : List ℕ) (id : ℕ) where
+  by-number : (n k : ℕ) → n ≡ k → cond (eqb n 0) (chosen s t id) (refusal n) ≡ cond (eqb k 0) (chosen s t id) (refusal k)
+  by-number n k e = ap (λ (j : ℕ). cond (eqb j 0) (chosen s t id) (refusal j)) e
 
--- more checks after those that were made
-pub choice-stops : (x : Choice) (cs ds : List Check) (slot : ℕ) → Positive cs → x ≡ choice cs slot → (x .number ≡ 0 → ⊥) → x ≡ choice (cs ++ ds) slot
-choice-stops x cs ds slot p e h =
-    let n : x .number ≡ firstNumber cs = ap (λ (y : Choice). y .number) e in
-    e ∙ ap (λ (k : ℕ). record { number = k; slot = cond (eqb k 0) slot 0 }) (sym (stops cs ds p (λ z. h (n ∙ z))))
+  pub choice-none : (cs : List Check) → numberBy s m t cs ≡ 0 → choice s m t id cs ≡ chosen s t id
+  unfolding choice
+  choice-none cs e = by-number (numberBy s m t cs) 0 e
 
-pub choice-passed : (x : Choice) (cs : List Check) (slot : ℕ) → x ≡ choice cs slot → x .number ≡ 0 → firstNumber cs ≡ 0
-choice-passed x cs slot e h = sym (ap (λ (y : Choice). y .number) e) ∙ h
+  pub choice-some : (cs : List Check) (n : ℕ) → numberBy s m t cs ≡ n → (n ≡ 0 → ⊥) → choice s m t id cs ≡ refusal n
+  unfolding choice
+  choice-some cs n e h = by-number (numberBy s m t cs) n e ∙ rw (ne-eqb n 0 h)
 
-pub choice-slot : (x : Choice) (cs : List Check) (slot : ℕ) → x ≡ choice cs slot → x .number ≡ 0 → x ≡ record { number = 0; slot = slot }
-choice-slot x cs slot e h = e ∙ choice-none cs slot (choice-passed x cs slot e h)
+  choice-number : (cs : List Check) → choice s m t id cs .number ≡ numberBy s m t cs
+  unfolding choice
+  choice-number cs = go (numberBy s m t cs) (eqb (numberBy s m t cs) 0) refl
+    where
+      go : (n : ℕ) (b : Bool) → eqb n 0 ≡ b → cond b (chosen s t id) (refusal n) .number ≡ n
+      go n true e = sym (eqb-true n 0 e)
+      go n false e = refl
 
-pub choice-goes : (x : Choice) (cs ds : List Check) (slot : ℕ) → Positive cs → x ≡ choice cs slot → x .number ≡ 0 → firstNumber ds ≡ 0 → x ≡ choice (cs ++ ds) slot
-choice-goes x cs ds slot p e h d =
-    choice-slot x cs slot e h ∙ sym (choice-none (cs ++ ds) slot (passes cs ds p (choice-passed x cs slot e h) ∙ d))
+  -- x is what was answered of the checks cs
+  module _ (x : Choice) (cs : List Check) (e : x ≡ choice s m t id cs) where
+    pub choice-own : numberBy s m t cs ≡ x .number
+    choice-own = sym (ap (λ (y : Choice). y .number) e ∙ choice-number cs)
 
-pub choice-refuses : (x y : Choice) (cs ds : List Check) (slot n : ℕ) → Positive cs → x ≡ choice cs slot → x .number ≡ 0 → firstNumber ds ≡ n → (n ≡ 0 → ⊥)
-    → y ≡ refusal n → y ≡ choice (cs ++ ds) slot
-choice-refuses x y cs ds slot n p e h d z r =
-    r ∙ sym (choice-some (cs ++ ds) slot n (passes cs ds p (choice-passed x cs slot e h) ∙ d) z)
+    pub choice-chosen : x .number ≡ 0 → x ≡ chosen s t id
+    choice-chosen h = e ∙ choice-none cs (choice-own ∙ h)
+
+    -- more checks after those that were made
+    module _ (p : positive cs ≡ true) (ds : List Check) where
+      pub choice-stops : (x .number ≡ 0 → ⊥) → x ≡ choice s m t id (cs ++ ds)
+      choice-stops h =
+          let z : numberBy s m t cs ≡ 0 → ⊥ = λ q. h (sym choice-own ∙ q) in
+          e ∙ choice-some cs (numberBy s m t cs) refl z ∙ sym (choice-some (cs ++ ds) (numberBy s m t cs) (stops (sharedChecks s m t ++ cs) ds z) z)
+
+      module _ (h : x .number ≡ 0) where
+        next : numberBy s m t (cs ++ ds) ≡ firstNumber ds
+        next = passes (sharedChecks s m t ++ cs) ds p (choice-own ∙ h)
+
+        pub choice-goes : firstNumber ds ≡ 0 → x ≡ choice s m t id (cs ++ ds)
+        choice-goes d = choice-chosen h ∙ sym (choice-none (cs ++ ds) (next ∙ d))
+
+        pub choice-refuses : (n : ℕ) → firstNumber ds ≡ n → (n ≡ 0 → ⊥) → {y : Choice} → y ≡ refusal n → y ≡ choice s m t id (cs ++ ds)
+        choice-refuses n d z r = r ∙ sym (choice-some (cs ++ ds) n (next ∙ d) z)
 
 -- ---- 6 and 7
 
@@ -71,6 +95,18 @@ module _ (s : State) (id slot : ℕ) (e : slot ≡ slotOf s id) where
   pub passes-7 : (cs : List Check) → (txAt s slot .status ≡ 2 → ⊥) → firstNumber (check7 s id ∷ cs) ≡ firstNumber cs
   passes-7 cs h = rw (ne-eqb _ _ (λ z. h (sym status-of ∙ z)))
 
+-- what a call may rely on that numbers 1, 2 and 6 do not refuse
+pub record Slotted (s : State) (m : ℕ) (t : List ℕ) (id : ℕ) (x : Choice) (cs : List Check) : Type 0 where
+  pub memory : m ≡ 4096
+  pub tail : length t ≡ 16384
+  pub fits : Fit s t
+  pub few : s .count ≤ 8
+  pub own : firstNumber (check6 s id ∷ cs) ≡ 0
+  pub listed : x .slot < s .count
+  pub slot : x .slot ≡ slotOf s id
+  pub end : x .end ≡ tailLength (s .ondisk .0) t
+  pub room : x .room ≡ roomUsed s t
+
 -- a listed transaction that is not committing: what passing 6 and 7 says
 pub record Running (s : State) (id : ℕ) : Type 0 where
   pub listed : slotOf s id < s .count
@@ -88,6 +124,23 @@ listed-slot s id cs z =
       | no q ↦ let f : any (hasId id) (txsOf s) ≡ false = x .unlisted (omega (arith, q, x .high)) in let z : _≡_ {A = ℕ} 0 1 = cc in absurd (omega arith)
     ] in
     (l, sym (eqb-true _ _ (x .there (omega arith))), p .1)
+
+pub slotted : (s : State) (m : ℕ) (t : List ℕ) (id : ℕ) (x : Choice) (cs : List Check) → x ≡ choice s m t id (check6 s id ∷ cs) → x .number ≡ 0 → Slotted s m t id x cs
+slotted s m t id x cs e h =
+    let a = accepted s m t (check6 s id ∷ cs) (choice-own s m t id x (check6 s id ∷ cs) e ∙ h) in
+    let c = choice-chosen s m t id x (check6 s id ∷ cs) e h in
+    let k : x .slot ≡ slotOf s id = ap (λ (y : Choice). y .slot) c in
+    record {
+      memory = a .memory;
+      tail = a .tail;
+      fits = a .fits;
+      few = image-count (imageOf s) (a .fits .image);
+      own = a .own;
+      listed = omega (arith, k, listed-slot s id cs (a .own) .0);
+      slot = k;
+      end = ap (λ (y : Choice). y .end) c;
+      room = ap (λ (y : Choice). y .room) c;
+    }
 
 pub running : (s : State) (id : ℕ) (cs : List Check) → firstNumber (check6 s id ∷ check7 s id ∷ cs) ≡ 0 → Running s id × (firstNumber cs ≡ 0)
 running s id cs z =

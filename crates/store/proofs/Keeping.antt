@@ -38,10 +38,11 @@ use Rattle.store.specs.Numbers.{check, txOf, check8, check9, check10, be
 use Rattle.store.specs.Calls.{Outcome, appended, beginNumber, beginOf, writeNumber, writeOf, precommitNumber, precommitOf, abortNumber, abortOf, settleNumber, settleOf}
 use Rattle.store.proofs.Checks.{passed}
 use Rattle.store.proofs.Fits.{Fit, unfit-no, status-at, redo-at}
+use Rattle.store.proofs.Admitting.{accepted}
 use Rattle.store.proofs.Choosing.{Running, running, listed-slot, ranged-by-8}
 use Rattle.store.proofs.Calling.{usable, Writable, writable, begin-done, write-done, precommit-done, abort-done, settle-done}
 use Rattle.store.proofs.Appending.{appended-size, appended-csn, appended-zeros}
-use Rattle.store.proofs.Views.{accepted, begin-free, commitOf, commit-size, commit-appends, abort-appends, tail-csn, tail-zeros}
+use Rattle.store.proofs.Views.{begin-free, commitOf, commit-size, commit-appends, abort-appends, tail-csn, tail-zeros}
 use Rattle.store.proofs.Positions.{Changed, Dropped, every-intro, sum-changed, sum-dropped}
 use Rattle.store.proofs.Stepping.{SizedTx, SizedState, same-or-other, begun-slot, begun-sized, written-slot, written-sized, precommitted-slot, precommitted-sized, dropped-slot, dropped-sized}
 use Rattle.store.specs.Steps.{begunState, writtenState, precommittedState, droppedState}
@@ -396,7 +397,7 @@ pub record Kept (s : State) (t : List ℕ) : Type 0 where
 module _ (s : State) (m t : List ℕ) (z : SizedState s) where
   pub begin-keeps : beginNumber s m t ≡ 0 → Kept (beginOf s m t .state) t
   begin-keeps e =
-      let a = accepted s m t (beginChecks (s .count) (s .lastid .0) (roomUsed s t)) e in
+      let a = accepted s (length m) t (beginChecks (s .count) (s .lastid .0) (roomUsed s t)) e in
       let b = begin-free s (roomUsed s t) (image-count (imageOf s) (a .fits .image)) (a .own) in
       subst (λ (o : Begun). Kept (o .state) t) (sym (begin-done s m t e))
       (record { fits = unfit-no (begunState s) t (begun-fits s t z (a .fits) (b .0) (b .1)); sizes = begun-sized s z (b .0) })
@@ -408,7 +409,7 @@ module _ (s : State) (m t : List ℕ) (z : SizedState s) where
     pub write-keeps : (a : ℕ) (bs : List ℕ) → writeNumber s m t id a (length bs) ≡ 0 → Kept (writeOf s m t id a bs .result .state) (writeOf s m t id a bs .tail)
     write-keeps a bs e =
         let n = length bs in
-        let x = accepted s m t (writeChecks s (roomUsed s t) (id .0) a n) e in
+        let x = accepted s (length m) t (writeChecks s (roomUsed s t) (id .0) a n) e in
         let last = check10 s (id .0) ∷ check 13 (ltb 16384 (roomUsed s t + (7 + n))) ∷ [] in
         let p = running s (id .0) (check8 a n ∷ check9 s (id .0) a n ∷ last) (x .own) in
         let r = p .0 in
@@ -424,7 +425,7 @@ module _ (s : State) (m t : List ℕ) (z : SizedState s) where
 
     pub precommit-keeps : precommitNumber s m t id ≡ 0 → Kept (precommitOf s m t id .result .state) (precommitOf s m t id .tail)
     precommit-keeps e =
-        let x = accepted s m t (precommitChecks s (id .0)) e in
+        let x = accepted s (length m) t (precommitChecks s (id .0)) e in
         let r = running s (id .0) (check 12 (eqb (s .assigned .0) 4294967295) ∷ []) (x .own) .0 in
         subst (λ (o : Outcome Precommitted). Kept (o .result .state) (o .tail)) (sym (precommit-done s m t id e))
         (record {
@@ -434,7 +435,7 @@ module _ (s : State) (m t : List ℕ) (z : SizedState s) where
 
     pub abort-keeps : abortNumber s m t id ≡ 0 → Kept (abortOf s m t id .result .state) (abortOf s m t id .tail)
     abort-keeps e =
-        let x = accepted s m t (abortChecks s (id .0)) e in
+        let x = accepted s (length m) t (abortChecks s (id .0)) e in
         let r = running s (id .0) [] (x .own) .0 in
         subst (λ (o : Outcome Returned). Kept (o .result .state) (o .tail)) (sym (abort-done s m t id e))
         (record {
@@ -444,7 +445,7 @@ module _ (s : State) (m t : List ℕ) (z : SizedState s) where
 
     pub settle-keeps : settleNumber s m t id ≡ 0 → Kept (settleOf s m t id .state) t
     settle-keeps e =
-        let x = accepted s m t (settleChecks s (id .0)) e in
+        let x = accepted s (length m) t (settleChecks s (id .0)) e in
         let l = listed-slot s (id .0) (check 14 (eqb (txOf s (id .0) .status) 1 || ltb (s .ondisk .0) (txOf s (id .0) .csn .0)) ∷ []) (x .own) in
         subst (λ (o : Returned). Kept (o .state) t) (sym (settle-done s m t id e))
         (record { fits = unfit-no (droppedState s at) t (settled-fits s t at z (x .fits) (l .0)); sizes = dropped-sized s z at (l .0) (image-count (imageOf s) (x .fits .image)) })

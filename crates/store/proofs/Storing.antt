@@ -13,11 +13,10 @@ use Rattle.log.specs.Stores.{Store, store, apply, copies, clears}
 use Rattle.store.specs.declared.State.{State}
 use Rattle.store.specs.Answer.{Word, refused}
 use Rattle.store.specs.Numbers.{firstNumber, sharedChecks}
-use Rattle.store.specs.Admission.{admission}
 use Rattle.store.specs.Stored.{diskChecks, DiskOutcome, Plan, cutShort, madeWhole, carriedOut, stored, storedBy}
 use Rattle.store.proofs.Fits.{Fit, unfit-no}
 use Rattle.store.proofs.Checks.{passed}
-use Rattle.store.proofs.Admitting.{Admitted, admitted}
+use Rattle.store.proofs.Admitting.{accepted}
 
 -- ---- stores into the part of a disk from an offset on
 
@@ -82,10 +81,9 @@ module _ (s : State) (d m t : List ℕ) where
   diskNumber = firstNumber (diskChecks s (length d) (length m) t)
 
   pub disk-admitted : diskNumber ≡ 0 → DiskAdmitted s d m t
-  unfolding admission
   disk-admitted z =
       let p = passed 1 (not (eqb (length d) 33691)) (sharedChecks s (length m) t) (omega arith) z in
-      let x : Admitted s (length m) t (admission s (length m) t) = admitted s (length m) t (admission s (length m) t) refl (p .1) in
+      let x = accepted s (length m) t [] (p .1) in
       record { disk = eqb-true _ _ (not-false _ (p .0)); memory = x .memory; tail = x .tail; fits = x .fits }
 
   pub disk-passes : DiskAdmitted s d m t → diskNumber ≡ 0

@@ -3,14 +3,14 @@ use Prim.Native.Nat.{ℕ, zero, suc, _+_, _-_, _≤_, _<_}
 use native.Mathlib.Nat.{zero-add}
 use native.Mathlib.Numerals.{add-one}
 use native.Mathlib.Omega.{arith}
-use mathlib.Core.Bool.{Bool, true, false, cond, not, _&&_, _||_}
+use mathlib.Core.Bool.{Bool, true, false, cond, _||_}
 use mathlib.Core.List.{List, [], _∷_, _++_}
 use mathlib.Core.Option.{some}
 use mathlib.Core.Path.{_≡_, refl, sym, ap, ap₂, _∙_}
 use lib.ListN.{length, take, drop, length-take}
 use lib.Seq.{sets}
 use lib.Dec.{eqb, ltb}
-use borrow.Author.Tests.{eqb-true, eqb-false, eq-eqb, ne-eqb, le-leb, ltb-false, not-false}
+use borrow.Author.Tests.{eqb-true, eqb-false, eq-eqb, ne-eqb, le-leb, ltb-false}
 use Rattle.recovery.specs.Group.{Write, Group, committed, aborted, groupSize, lastCsn}
 use Rattle.recovery.specs.Transaction.{Tx as Transaction, lookup, edit, remove}
 use Rattle.recovery.specs.Machine.{Live, newTx, withWrite, inCommit, afterBegin, afterWrite, afterPrecommit, afterAbort, afterSettle}
@@ -37,39 +37,22 @@ use Rattle.store.specs.declared.call.Begun.{Begun}
 use Rattle.store.specs.declared.call.Precommitted.{Precommitted}
 use Rattle.store.specs.declared.call.Returned.{Returned}
 use Rattle.store.specs.State.{txAt, slotOf, imageOf}
-use Rattle.store.specs.Rules.{tailLength, allZero, roomUsed, unfit}
-use Rattle.store.specs.Numbers.{Check, check, firstNumber, txOf, sharedChecks, beginChecks, writeChecks, precommitChecks, abortChecks, settleChecks, check8, check9, check10}
+use Rattle.store.specs.Rules.{tailLength, allZero, roomUsed}
+use Rattle.store.specs.Numbers.{check, firstNumber, txOf, beginChecks, writeChecks, precommitChecks, abortChecks, settleChecks, check8, check9, check10}
 use Rattle.store.specs.Steps.{begunState, writtenState, precommittedState, droppedState}
 use Rattle.store.specs.Calls.{Outcome, beginNumber, beginOf, writeNumber, writeOf, doneReturn, refusedReturn, readNumber, readAnswerOf, appended, precommitNumber, precommitOf, abortNumber, abortOf, settleNumber, settleOf}
 use Rattle.store.specs.View.{viewAt, live}
 use Rattle.store.proofs.Slots.{slot}
 use Rattle.store.proofs.Checks.{passed}
-use Rattle.store.proofs.Fits.{Fit, fit}
+use Rattle.store.proofs.Fits.{Fit}
+use Rattle.store.proofs.Admitting.{accepted}
 use Rattle.store.proofs.Choosing.{Running, running, listed-slot}
 use Rattle.store.proofs.Calling.{usable, writable, begin-done, write-done, precommit-done, abort-done, settle-done}
 use Rattle.store.proofs.Positions.{Changed, Dropped, First, found, edited, removed}
 use Rattle.store.proofs.Appending.{appended-log}
 use Rattle.store.proofs.Stepping.{SizedTx, SizedState, begun-slot, written-slot, precommitted-slot, dropped-slot}
 
--- ---- what a call that is not refused has passed
-
-pub record Accepted (s : State) (m t : List ℕ) (cs : List Check) : Type 0 where
-  pub memory : length m ≡ 4096
-  pub tail : length t ≡ 16384
-  pub fits : Fit s t
-  pub own : firstNumber cs ≡ 0
-
-pub accepted : (s : State) (m t : List ℕ) (cs : List Check) → firstNumber (sharedChecks s (length m) t ++ cs) ≡ 0 → Accepted s m t cs
-accepted s m t cs e =
-    let a = passed 1 (not (eqb (length m) 4096 && eqb (length t) 16384)) (check 2 (unfit s t) ∷ cs) (omega arith) e in
-    let b = passed 2 (unfit s t) cs (omega arith) (a .1) in
-    let l : eqb (length m) 4096 && eqb (length t) 16384 ≡ true = not-false _ (a .0) in
-    record {
-      memory = eqb-true _ _ (and-left (eqb (length m) 4096) _ l);
-      tail = eqb-true _ _ (and-right (eqb (length m) 4096) _ l);
-      fits = fit s t (b .0);
-      own = b .1;
-    }
+-- ---- what a begin that is not refused has passed
 
 pub begin-free : (s : State) (room : ℕ) → s .count ≤ 8 → firstNumber (beginChecks (s .count) (s .lastid .0) room) ≡ 0 → (s .count < 8) × (room + 8 ≤ 16384)
 begin-free s room h e =
@@ -201,7 +184,7 @@ module _ (s : State) (m t : List ℕ) (z : SizedState s) where
   -- Begin adds a running transaction without records, of the next id.
   pub begin-live : beginNumber s m t ≡ 0 → live (beginOf s m t .state) m t ≡ afterBegin (live s m t)
   begin-live e =
-      let a = accepted s m t (beginChecks (s .count) (s .lastid .0) (roomUsed s t)) e in
+      let a = accepted s (length m) t (beginChecks (s .count) (s .lastid .0) (roomUsed s t)) e in
       ap (λ (r : State). live r m t) (ap (λ (b : Begun). b .state) (begin-done s m t e)) ∙ begun-live (begin-free s (roomUsed s t) (image-count (imageOf s) (a .fits .image)) (a .own) .0)
 
   module _ (id : TxId) where
@@ -215,7 +198,7 @@ module _ (s : State) (m t : List ℕ) (z : SizedState s) where
     pub write-live : (a : ℕ) (bs : List ℕ) → writeNumber s m t id a (length bs) ≡ 0
         → live (writeOf s m t id a bs .result .state) (writeOf s m t id a bs .memory) (writeOf s m t id a bs .tail) ≡ afterWrite tx (record { addr = a; bytes = bs }) (live s m t)
     write-live a bs e =
-        let x = accepted s m t (writeChecks s (roomUsed s t) (id .0) a (length bs)) e in
+        let x = accepted s (length m) t (writeChecks s (roomUsed s t) (id .0) a (length bs)) e in
         let last = check9 s (id .0) a (length bs) ∷ check10 s (id .0) ∷ check 13 (ltb 16384 (roomUsed s t + (7 + length bs))) ∷ [] in
         let r = running s (id .0) (check8 a (length bs) ∷ last) (x .own) .0 in
         let u = usable s t (id .0) (x .fits) r in
@@ -245,7 +228,7 @@ module _ (s : State) (m t : List ℕ) (z : SizedState s) where
     pub precommit-live : precommitNumber s m t id ≡ 0
         → live (precommitOf s m t id .result .state) (precommitOf s m t id .memory) (precommitOf s m t id .tail) ≡ afterPrecommit tx (live s m t)
     precommit-live e =
-        let x = accepted s m t (precommitChecks s (id .0)) e in
+        let x = accepted s (length m) t (precommitChecks s (id .0)) e in
         let r = running s (id .0) (check 12 (eqb (s .assigned .0) 4294967295) ∷ []) (x .own) .0 in
         let u = usable s t (id .0) (x .fits) r in
         let y = commit-appends s t (id .0) z (x .tail) (x .fits) r in
@@ -265,7 +248,7 @@ module _ (s : State) (m t : List ℕ) (z : SizedState s) where
     pub abort-live : abortNumber s m t id ≡ 0
         → live (abortOf s m t id .result .state) (abortOf s m t id .memory) (abortOf s m t id .tail) ≡ afterAbort tx (live s m t)
     abort-live e =
-        let x = accepted s m t (abortChecks s (id .0)) e in
+        let x = accepted s (length m) t (abortChecks s (id .0)) e in
         let r = running s (id .0) [] (x .own) .0 in
         let u = usable s t (id .0) (x .fits) r in
         let y = abort-appends s t (id .0) (x .tail) (x .fits) r in
@@ -280,7 +263,7 @@ module _ (s : State) (m t : List ℕ) (z : SizedState s) where
     -- Settle drops the transaction.
     pub settle-live : settleNumber s m t id ≡ 0 → live (settleOf s m t id .state) m t ≡ afterSettle tx (live s m t)
     settle-live e =
-        let x = accepted s m t (settleChecks s (id .0)) e in
+        let x = accepted s (length m) t (settleChecks s (id .0)) e in
         let l = listed-slot s (id .0) (check 14 (eqb (txOf s (id .0) .status) 1 || ltb (s .ondisk .0) (txOf s (id .0) .csn .0)) ∷ []) (x .own) in
         ap (λ (o : Returned). live (o .state) m t) (settle-done s m t id e)
         ∙ dropped-numbers s m t j

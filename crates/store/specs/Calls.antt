@@ -1,7 +1,7 @@
 -- What each call leaves, for every input: its result, and memory and tail where it may change them.
 use Prim.Native.Nat.{ℕ, _+_}
 use mathlib.Core.Bool.{cond}
-use mathlib.Core.List.{List, [], _++_}
+use mathlib.Core.List.{List, []}
 use lib.ListN.{length, take, drop}
 use lib.Seq.{sets}
 use lib.Dec.{eqb}
@@ -17,7 +17,7 @@ use Rattle.store.specs.declared.call.Returned.{Returned}
 use Rattle.store.specs.State.{slotOf}
 use Rattle.store.specs.Answer.{done, refused, answer}
 use Rattle.store.specs.Rules.{tailLength, roomUsed}
-use Rattle.store.specs.Numbers.{firstNumber, txOf, sharedChecks, beginChecks, readChecks, writeChecks, precommitChecks, abortChecks, settleChecks}
+use Rattle.store.specs.Numbers.{txOf, numberBy, beginChecks, readChecks, writeChecks, precommitChecks, abortChecks, settleChecks}
 use Rattle.store.specs.Steps.{begunState, writtenState, precommittedState, droppedState}
 
 pub record Outcome (R : Type 0) : Type 0 where
@@ -38,7 +38,7 @@ doneReturn s = record { answer = answer done; state = s }
 -- ---- begin
 
 abbrev pub beginNumber : State → List ℕ → List ℕ → ℕ
-beginNumber s m t = firstNumber (sharedChecks s (length m) t ++ beginChecks (s .count) (s .lastid .0) (roomUsed s t))
+beginNumber s m t = numberBy s (length m) t (beginChecks (s .count) (s .lastid .0) (roomUsed s t))
 
 unfoldable pub beginOf : State → List ℕ → List ℕ → Begun
 beginOf s m t =
@@ -49,7 +49,7 @@ beginOf s m t =
 -- ---- write
 
 abbrev pub writeNumber : State → List ℕ → List ℕ → TxId → ℕ → ℕ → ℕ
-writeNumber s m t id a n = firstNumber (sharedChecks s (length m) t ++ writeChecks s (roomUsed s t) (id .0) a n)
+writeNumber s m t id a n = numberBy s (length m) t (writeChecks s (roomUsed s t) (id .0) a n)
 
 unfoldable pub writeOf : State → List ℕ → List ℕ → TxId → ℕ → List ℕ → Outcome Returned
 writeOf s m t id a bs =
@@ -60,7 +60,7 @@ writeOf s m t id a bs =
 -- ---- read and its sister
 
 abbrev pub readNumber : State → List ℕ → List ℕ → TxId → ℕ → ℕ → ℕ
-readNumber s m t id a n = firstNumber (sharedChecks s (length m) t ++ readChecks s (id .0) a n)
+readNumber s m t id a n = numberBy s (length m) t (readChecks s (id .0) a n)
 
 -- "hands back the part of memory itself; a refused read hands back an empty part"
 unfoldable pub readOf : State → List ℕ → List ℕ → TxId → ℕ → ℕ → List ℕ
@@ -73,7 +73,7 @@ readAnswerOf s m t id a n = decided (readNumber s m t id a n) (doneReturn s) (re
 -- ---- precommit
 
 abbrev pub precommitNumber : State → List ℕ → List ℕ → TxId → ℕ
-precommitNumber s m t id = firstNumber (sharedChecks s (length m) t ++ precommitChecks s (id .0))
+precommitNumber s m t id = numberBy s (length m) t (precommitChecks s (id .0))
 
 -- a group appended to the tail
 abbrev pub appended : State → List ℕ → Group → List ℕ
@@ -94,7 +94,7 @@ precommitOf s m t id =
 -- ---- abort
 
 abbrev pub abortNumber : State → List ℕ → List ℕ → TxId → ℕ
-abortNumber s m t id = firstNumber (sharedChecks s (length m) t ++ abortChecks s (id .0))
+abortNumber s m t id = numberBy s (length m) t (abortChecks s (id .0))
 
 -- "undoes newest first, appends the abort record, drops the transaction"
 unfoldable pub abortOf : State → List ℕ → List ℕ → TxId → Outcome Returned
@@ -111,7 +111,7 @@ abortOf s m t id =
 -- ---- settle
 
 abbrev pub settleNumber : State → List ℕ → List ℕ → TxId → ℕ
-settleNumber s m t id = firstNumber (sharedChecks s (length m) t ++ settleChecks s (id .0))
+settleNumber s m t id = numberBy s (length m) t (settleChecks s (id .0))
 
 unfoldable pub settleOf : State → List ℕ → List ℕ → TxId → Returned
 settleOf s m t id =

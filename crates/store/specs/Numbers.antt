@@ -1,7 +1,7 @@
 -- The numbers that refuse a call, in checking order, each under its stated condition alone.
 use Prim.Native.Nat.{ℕ, _+_}
 use mathlib.Core.Bool.{Bool, not, cond, _&&_, _||_}
-use mathlib.Core.List.{List, [], _∷_}
+use mathlib.Core.List.{List, [], _∷_, _++_}
 use lib.ListN.{length}
 use lib.Dec.{eqb, ltb}
 use Rattle.recovery.specs.Lists.{any}
@@ -10,7 +10,7 @@ use Rattle.transaction.specs.Rules.{heldAgainst}
 use Rattle.store.specs.declared.State.{State}
 use Rattle.store.specs.declared.choose.Choice.{Choice}
 use Rattle.store.specs.State.{txAt, txsOf, hasId, slotOf}
-use Rattle.store.specs.Rules.{unfit}
+use Rattle.store.specs.Rules.{tailLength, roomUsed, unfit}
 
 -- a number and the condition under which it refuses
 pub data Check : Type 0 where
@@ -21,13 +21,6 @@ abbrev pub firstNumber : List Check → ℕ
 firstNumber [] = 0
 firstNumber (check n b ∷ cs) = cond b n (firstNumber cs)
 
--- what the code answers of checks: the number, and the slot of the transaction if there is none
-abbrev pub refusal : ℕ → Choice
-refusal n = record { number = n; slot = 0 }
-
-abbrev pub choice : List Check → ℕ → Choice
-choice cs slot = record { number = firstNumber cs; slot = cond (eqb (firstNumber cs) 0) slot 0 }
-
 -- the transaction of an id that is listed
 abbrev pub txOf : State → ℕ → Tx
 txOf s id = txAt s (slotOf s id)
@@ -35,6 +28,21 @@ txOf s id = txAt s (slotOf s id)
 -- "1. All calls: a lent buffer hasn't its length." "2. Calls handed a state: .." (m: the length of the lent memory)
 abbrev pub sharedChecks : State → ℕ → List ℕ → List Check
 sharedChecks s m tail = check 1 (not (eqb m 4096 && eqb (length tail) 16384)) ∷ check 2 (unfit s tail) ∷ []
+
+-- the number that refuses a call whose own checks these are
+abbrev pub numberBy : State → ℕ → List ℕ → List Check → ℕ
+numberBy s m tail cs = firstNumber (sharedChecks s m tail ++ cs)
+
+-- what the code answers of a call about the transaction of an id: the number; if there is none, the transaction's slot, where the tail's
+-- groups end and the log room used
+abbrev pub refusal : ℕ → Choice
+refusal n = record { number = n; slot = 0; end = 0; room = 0 }
+
+abbrev pub chosen : State → List ℕ → ℕ → Choice
+chosen s tail id = record { number = 0; slot = slotOf s id; end = tailLength (s .ondisk .0) tail; room = roomUsed s tail }
+
+unfoldable pub choice : State → ℕ → List ℕ → ℕ → List Check → Choice
+choice s m tail id cs = cond (eqb (numberBy s m tail cs) 0) (chosen s tail id) (refusal (numberBy s m tail cs))
 
 -- "6. .. the id isn't in the list."
 abbrev pub check6 : State → ℕ → Check
@@ -60,20 +68,32 @@ check10 s id = check 10 (eqb (txOf s id .undo .count) 16)
 abbrev pub beginChecks : ℕ → ℕ → ℕ → List Check
 beginChecks count last room = check 11 (eqb count 8) ∷ check 12 (eqb last 65535) ∷ check 13 (ltb 16384 (room + 8)) ∷ []
 
+abbrev pub listedChecks : State → ℕ → List Check
+listedChecks s id = check6 s id ∷ []
+
 abbrev pub readChecks : State → ℕ → ℕ → ℕ → List Check
 readChecks s id a n = check6 s id ∷ check7 s id ∷ check8 a n ∷ check9 s id a n ∷ []
 
 -- "13. .. Write: room used + 7 + length above it."
+abbrev pub check13 : ℕ → ℕ → Check
+check13 room n = check 13 (ltb 16384 (room + (7 + n)))
+
 abbrev pub writeChecks : State → ℕ → ℕ → ℕ → ℕ → List Check
-writeChecks s room id a n = check6 s id ∷ check7 s id ∷ check8 a n ∷ check9 s id a n ∷ check10 s id ∷ check 13 (ltb 16384 (room + (7 + n))) ∷ []
+writeChecks s room id a n = check6 s id ∷ check7 s id ∷ check8 a n ∷ check9 s id a n ∷ check10 s id ∷ check13 room n ∷ []
 
 -- "12. .. Precommit: last commit number 4,294,967,295."
+abbrev pub check12 : State → Check
+check12 s = check 12 (eqb (s .assigned .0) 4294967295)
+
 abbrev pub precommitChecks : State → ℕ → List Check
-precommitChecks s id = check6 s id ∷ check7 s id ∷ check 12 (eqb (s .assigned .0) 4294967295) ∷ []
+precommitChecks s id = check6 s id ∷ check7 s id ∷ check12 s ∷ []
 
 abbrev pub abortChecks : State → ℕ → List Check
 abortChecks s id = check6 s id ∷ check7 s id ∷ []
 
 -- "14. Settle: running, or its commit number isn't on disk."
+abbrev pub check14 : State → ℕ → Check
+check14 s id = check 14 (eqb (txOf s id .status) 1 || ltb (s .ondisk .0) (txOf s id .csn .0))
+
 abbrev pub settleChecks : State → ℕ → List Check
-settleChecks s id = check6 s id ∷ check 14 (eqb (txOf s id .status) 1 || ltb (s .ondisk .0) (txOf s id .csn .0)) ∷ []
+settleChecks s id = check6 s id ∷ check14 s id ∷ []

@@ -64,14 +64,7 @@ impl State {
         ensures { λ r. ⌜ r ≡ writeOf self (now (memory .entry)) (now (tail .entry)) id addr (now (bytes .entry)) .result ⌝ }
         ensures { λ _. ⌜ now (memory .exit) ≡ writeOf self (now (memory .entry)) (now (tail .entry)) id addr (now (bytes .entry)) .memory ⌝ }
     {
-        let admitted = self.admit(memory.len(), tail);
-        if admitted.number != 0 {
-            return Returned {
-                answer: Answer::Refused(admitted.number),
-                state: self,
-            };
-        }
-        let chosen = self.choose_write(admitted.room, id, addr, bytes.len());
+        let chosen = self.choose_write(memory.len(), tail, id, addr, bytes.len());
         if chosen.number != 0 {
             return Returned {
                 answer: Answer::Refused(chosen.number),
@@ -96,11 +89,7 @@ impl State {
     ) -> &'a [u8]
         ensures { λ r. ⌜ now r ≡ readOf self (now (memory .entry)) (now (tail .entry)) id addr len ⌝ }
     {
-        let admitted = self.admit(memory.len(), tail);
-        if admitted.number != 0 {
-            return &memory[0..0];
-        }
-        let chosen = self.choose_read(id, addr, len);
+        let chosen = self.choose_read(memory.len(), tail, id, addr, len);
         if chosen.number != 0 {
             return &memory[0..0];
         }
@@ -118,14 +107,7 @@ impl State {
     ) -> Returned
         ensures { λ r. ⌜ r ≡ readAnswerOf self (now (memory .entry)) (now (tail .entry)) id addr len ⌝ }
     {
-        let admitted = self.admit(memory.len(), tail);
-        if admitted.number != 0 {
-            return Returned {
-                answer: Answer::Refused(admitted.number),
-                state: self,
-            };
-        }
-        let chosen = self.choose_read(id, addr, len);
+        let chosen = self.choose_read(memory.len(), tail, id, addr, len);
         if chosen.number != 0 {
             return Returned {
                 answer: Answer::Refused(chosen.number),
@@ -142,15 +124,7 @@ impl State {
         ensures { λ r. ⌜ r ≡ precommitOf self (now (memory .entry)) (now (tail .entry)) id .result ⌝ }
         ensures { λ _. ⌜ now (tail .exit) ≡ precommitOf self (now (memory .entry)) (now (tail .entry)) id .tail ⌝ }
     {
-        let admitted = self.admit(memory.len(), &*tail);
-        if admitted.number != 0 {
-            return Precommitted {
-                answer: Answer::Refused(admitted.number),
-                csn: Csn(0),
-                state: self,
-            };
-        }
-        let chosen = self.choose_precommit(id);
+        let chosen = self.choose_precommit(memory.len(), &*tail, id);
         if chosen.number != 0 {
             return Precommitted {
                 answer: Answer::Refused(chosen.number),
@@ -158,7 +132,7 @@ impl State {
                 state: self,
             };
         }
-        let s = self.precommit_step(tail, admitted.end, chosen.slot);
+        let s = self.precommit_step(tail, chosen.end, chosen.slot);
         let csn = s.assigned;
         Precommitted {
             answer: Answer::Done,
@@ -172,21 +146,14 @@ impl State {
         ensures { λ _. ⌜ now (memory .exit) ≡ abortOf self (now (memory .entry)) (now (tail .entry)) id .memory ⌝ }
         ensures { λ _. ⌜ now (tail .exit) ≡ abortOf self (now (memory .entry)) (now (tail .entry)) id .tail ⌝ }
     {
-        let admitted = self.admit(memory.len(), &*tail);
-        if admitted.number != 0 {
-            return Returned {
-                answer: Answer::Refused(admitted.number),
-                state: self,
-            };
-        }
-        let chosen = self.choose_running(id);
+        let chosen = self.choose_running(memory.len(), &*tail, id);
         if chosen.number != 0 {
             return Returned {
                 answer: Answer::Refused(chosen.number),
                 state: self,
             };
         }
-        let s = self.abort_step(memory, tail, admitted.end, chosen.slot);
+        let s = self.abort_step(memory, tail, chosen.end, chosen.slot);
         Returned {
             answer: Answer::Done,
             state: s,
@@ -196,14 +163,7 @@ impl State {
     pub fn settle(mut self, memory: &[u8], tail: &[u8], id: TxId) -> Returned
         ensures { λ r. ⌜ r ≡ settleOf self (now (memory .entry)) (now (tail .entry)) id ⌝ }
     {
-        let admitted = self.admit(memory.len(), tail);
-        if admitted.number != 0 {
-            return Returned {
-                answer: Answer::Refused(admitted.number),
-                state: self,
-            };
-        }
-        let chosen = self.choose_settle(id);
+        let chosen = self.choose_settle(memory.len(), tail, id);
         if chosen.number != 0 {
             return Returned {
                 answer: Answer::Refused(chosen.number),

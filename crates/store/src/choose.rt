@@ -1,4 +1,4 @@
-// Numbers 6 to 14: a call's own refusals, and the slot of the transaction that it is about.
+// The numbers that refuse a call, and the slot of the transaction that it is about.
 use crate::State;
 use log::TxId;
 use log::record::in_range;
@@ -8,13 +8,15 @@ ghost use Prim.Native.Nat.{_≤_};
 ghost use Rattle.recovery.specs.Lists.{any};
 ghost use Rattle.transaction.specs.Rules.{heldAgainst};
 ghost use Rattle.store.specs.State.{txsOf, slotOf};
-ghost use Rattle.store.specs.Rules.{keepsImageRules};
-ghost use Rattle.store.specs.Numbers.{firstNumber, refusal, choice, beginChecks, readChecks, writeChecks, precommitChecks, abortChecks, settleChecks};
+ghost use Rattle.store.specs.Rules.{keepsImageRules, roomUsed};
+ghost use Rattle.store.specs.Numbers.{firstNumber, refusal, choice, beginChecks, listedChecks, readChecks, writeChecks, precommitChecks, abortChecks, settleChecks};
 
-// The number that refuses, 0 for none; if none, the slot.
+// The number that refuses, 0 for none; if none, the slot, where the tail's groups end and the log room used.
 pub struct Choice {
     pub number: u8,
     pub slot: usize,
+    pub end: usize,
+    pub room: usize,
 }
 
 fn refuse(number: u8) -> Choice
@@ -23,6 +25,8 @@ fn refuse(number: u8) -> Choice
     Choice {
         number: number,
         slot: 0,
+        end: 0,
+        room: 0,
     }
 }
 
@@ -77,30 +81,53 @@ impl State {
         false
     }
 
-    // Numbers 6 and 7.
-    pub(crate) fn choose_running(self, id: TxId) -> Choice
-        requires { ⌜ keepsImageRules self ≡ true ⌝ }
-        ensures { λ r. ⌜ r ≡ choice (abortChecks self (id .0)) (slotOf self (id .0)) ⌝ }
+    // Numbers 1, 2 and 6.
+    fn choose_listed(self, memory: usize, tail: &[u8], id: TxId) -> Choice
+        ensures { λ r. ⌜ r ≡ choice self memory (now (tail .entry)) (id .0) (listedChecks self (id .0)) ⌝ }
     {
+        let admitted = self.admit(memory, tail);
+        if admitted.number != 0 {
+            return refuse(admitted.number);
+        }
         let slot = self.find(id);
         if slot == self.count as usize {
             return refuse(6);
         }
-        if self.txs[slot].status == 2 {
-            return refuse(7);
-        }
         Choice {
             number: 0,
             slot: slot,
+            end: admitted.end,
+            room: admitted.room,
         }
     }
 
-    // Numbers 6, 7, 8 and 9.
-    pub(crate) fn choose_read(self, id: TxId, addr: usize, len: usize) -> Choice
-        requires { ⌜ keepsImageRules self ≡ true ⌝ }
-        ensures { λ r. ⌜ r ≡ choice (readChecks self (id .0) addr len) (slotOf self (id .0)) ⌝ }
+    // Numbers 1, 2, 6 and 7.
+    pub(crate) fn choose_running(self, memory: usize, tail: &[u8], id: TxId) -> Choice
+        ensures { λ r. ⌜ r ≡ choice self memory (now (tail .entry)) (id .0) (abortChecks self (id .0)) ⌝ }
     {
-        let running = self.choose_running(id);
+        let listed = self.choose_listed(memory, tail, id);
+        if listed.number != 0 {
+            return listed;
+        }
+        let slot = listed.slot;
+        if self.txs[slot].status == 2 {
+            return refuse(7);
+        }
+        listed
+    }
+
+    // Numbers 1, 2, 6, 7, 8 and 9.
+    pub(crate) fn choose_read(
+        self,
+        memory: usize,
+        tail: &[u8],
+        id: TxId,
+        addr: usize,
+        len: usize,
+    ) -> Choice
+        ensures { λ r. ⌜ r ≡ choice self memory (now (tail .entry)) (id .0) (readChecks self (id .0) addr len) ⌝ }
+    {
+        let running = self.choose_running(memory, tail, id);
         if running.number != 0 {
             return running;
         }
@@ -113,12 +140,18 @@ impl State {
         running
     }
 
-    // Numbers 6 to 10 and 13.
-    pub(crate) fn choose_write(self, room: usize, id: TxId, addr: usize, len: usize) -> Choice
-        requires { ⌜ (keepsImageRules self ≡ true) × (room ≤ 16384) ⌝ }
-        ensures { λ r. ⌜ r ≡ choice (writeChecks self room (id .0) addr len) (slotOf self (id .0)) ⌝ }
+    // Numbers 1, 2, 6 to 10 and 13.
+    pub(crate) fn choose_write(
+        self,
+        memory: usize,
+        tail: &[u8],
+        id: TxId,
+        addr: usize,
+        len: usize,
+    ) -> Choice
+        ensures { λ r. ⌜ r ≡ choice self memory (now (tail .entry)) (id .0) (writeChecks self (roomUsed self (now (tail .entry))) (id .0) addr len) ⌝ }
     {
-        let free = self.choose_read(id, addr, len);
+        let free = self.choose_read(memory, tail, id, addr, len);
         if free.number != 0 {
             return free;
         }
@@ -126,18 +159,17 @@ impl State {
         if self.txs[slot].undo.count == 16 {
             return refuse(10);
         }
-        if 16384 < room + (7 + len) {
+        if 16384 < free.room + (7 + len) {
             return refuse(13);
         }
         free
     }
 
-    // Numbers 6, 7 and 12.
-    pub(crate) fn choose_precommit(self, id: TxId) -> Choice
-        requires { ⌜ keepsImageRules self ≡ true ⌝ }
-        ensures { λ r. ⌜ r ≡ choice (precommitChecks self (id .0)) (slotOf self (id .0)) ⌝ }
+    // Numbers 1, 2, 6, 7 and 12.
+    pub(crate) fn choose_precommit(self, memory: usize, tail: &[u8], id: TxId) -> Choice
+        ensures { λ r. ⌜ r ≡ choice self memory (now (tail .entry)) (id .0) (precommitChecks self (id .0)) ⌝ }
     {
-        let running = self.choose_running(id);
+        let running = self.choose_running(memory, tail, id);
         if running.number != 0 {
             return running;
         }
@@ -147,24 +179,21 @@ impl State {
         running
     }
 
-    // Numbers 6 and 14.
-    pub(crate) fn choose_settle(self, id: TxId) -> Choice
-        requires { ⌜ keepsImageRules self ≡ true ⌝ }
-        ensures { λ r. ⌜ r ≡ choice (settleChecks self (id .0)) (slotOf self (id .0)) ⌝ }
+    // Numbers 1, 2, 6 and 14.
+    pub(crate) fn choose_settle(self, memory: usize, tail: &[u8], id: TxId) -> Choice
+        ensures { λ r. ⌜ r ≡ choice self memory (now (tail .entry)) (id .0) (settleChecks self (id .0)) ⌝ }
     {
-        let slot = self.find(id);
-        if slot == self.count as usize {
-            return refuse(6);
+        let listed = self.choose_listed(memory, tail, id);
+        if listed.number != 0 {
+            return listed;
         }
+        let slot = listed.slot;
         if self.txs[slot].status == 1 {
             return refuse(14);
         }
         if self.ondisk.0 < self.txs[slot].csn.0 {
             return refuse(14);
         }
-        Choice {
-            number: 0,
-            slot: slot,
-        }
+        listed
     }
 }

@@ -17,7 +17,7 @@ use Rattle.store.specs.Numbers.{check, firstNumber, beginChecks}
 use Rattle.store.specs.Steps.{begunState}
 use Rattle.store.specs.Calls.{beginNumber}
 use Rattle.store.proofs.Checks.{passed}
-use Rattle.store.proofs.Admitting.{Admitted, admitted, shared-stops, shared-passes}
+use Rattle.store.proofs.Admitting.{shared-stops, Admitted, admitted}
 use Rattle.store.proofs.Calling.{begin-refused, begin-done}
 use Rattle.store.proofs.State.begin.Statement.{statement}
 use Rattle.store.proofs.State.begin.Tie as tie
@@ -27,17 +27,13 @@ admit-requires c κs = search needs
 
 returns : tie.Need-returns
 returns c =
-    let args = c .before .before .before .before .before .args in
-    let s = args .self in
-    let m = args .memory .now in
-    let t = args .tail .now in
-    sym (begin-refused s m t (c .before .before .admit .result .number) (shared-stops s (length m) t (beginChecks (s .count) (s .lastid .0) (roomUsed s t)) _ (c .before .before .admit .ensures) (c .if1 .taken)) (c .if1 .taken))
+    let a = c .before .before .before .before .before .args in
+    let cs = beginChecks (a .self .count) (a .self .lastid .0) (roomUsed (a .self) (a .tail .now)) in
+    sym (begin-refused (a .self) (a .memory .now) (a .tail .now) _ (shared-stops _ _ _ _ (c .before .before .admit .ensures) cs (c .if1 .taken)) (c .if1 .taken))
 
-admission-of : (c : tie.Else1) → let args = c .before .before .before .before .before .args in
-    Admitted (args .self) (length (args .memory .now)) (args .tail .now) (c .before .before .admit .result)
-admission-of c =
-    let args = c .before .before .before .before .before .args in
-    admitted (args .self) (length (args .memory .now)) (args .tail .now) (c .before .before .admit .result) (c .before .before .admit .ensures) (c .if1 .left)
+admission-of : (c : tie.Else1) → let a = c .before .before .before .before .before .args in
+    Admitted (a .self) (length (a .memory .now)) (a .tail .now) (c .before .before .admit .result) (c .before .before .admit .ensures)
+admission-of c = admitted _ _ _ _ _ (c .if1 .left)
 
 begin-number-requires : tie.Need-begin-number-requires
 begin-number-requires c κs = let x = admission-of c in omega (arith, x .room, x .fits .room)
@@ -49,7 +45,7 @@ own c =
     let args = c .before .before .before .before .before .before .args in
     let s = args .self in
     let x = admission-of (c .before) in
-    shared-passes s (length (args .memory .now)) (args .tail .now) (beginChecks (s .count) (s .lastid .0) (roomUsed s (args .tail .now))) (x .passed)
+    x .own (beginChecks (s .count) (s .lastid .0) (roomUsed s (args .tail .now)))
     ∙ sym (c .begin-number .ensures ∙ ap (λ (r : ℕ). firstNumber (beginChecks (s .count) (s .lastid .0) r)) (x .room))
 
 returns-2 : tie.Need-returns-2

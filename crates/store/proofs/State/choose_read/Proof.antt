@@ -1,7 +1,7 @@
 use borrow.Author.Needs.{needs}
 use native.Mathlib.Omega.{arith}
 use mathlib.Core.List.{[], _∷_}
-use mathlib.Core.Path.{_≡_, sym, _∙_}
+use mathlib.Core.Path.{_≡_, refl, sym, _∙_}
 use mathlib.Core.Bool.{true, false}
 use borrow.Author.Tests.{not-true, not-false}
 use Rattle.recovery.specs.Lists.{any}
@@ -9,7 +9,7 @@ use Rattle.transaction.specs.Rules.{heldAgainst}
 use Rattle.transaction.proofs.Ranges.{in-range}
 use Rattle.store.specs.State.{txsOf}
 use Rattle.store.specs.Numbers.{abortChecks, check8, check9}
-use Rattle.store.proofs.Choosing.{choice-stops, choice-refuses, choice-goes, refused-8, passes-8}
+use Rattle.store.proofs.Choosing.{choice-stops, choice-refuses, choice-goes, slotted, refused-8, passes-8}
 use Rattle.store.proofs.State.choose_read.Statement.{statement}
 use Rattle.store.proofs.State.choose_read.Tie as tie
 
@@ -18,8 +18,10 @@ choose-running-requires c κs = search needs
 
 returns : tie.Need-returns
 returns c =
-    let args = c .before .before .before .args in
-    choice-stops _ (abortChecks (args .self) (args .id .0)) (check8 (args .addr) (args .len) ∷ check9 (args .self) (args .id .0) (args .addr) (args .len) ∷ []) _ (omega arith, (omega arith, Prim.tt)) (c .before .before .choose-running .ensures) (c .if1 .taken)
+    let a = c .before .before .before .before .args in
+    let s = a .self in
+    let id = a .id .0 in
+    choice-stops _ _ _ _ _ (abortChecks s id) (c .before .before .choose-running .ensures) refl (check8 (a .addr) (a .len) ∷ check9 s id (a .addr) (a .len) ∷ []) (c .if1 .taken)
 
 in-range-requires : tie.Need-in-range-requires
 in-range-requires c κs = search needs
@@ -29,41 +31,41 @@ refuse-requires c κs = search needs
 
 returns-2 : tie.Need-returns-2
 returns-2 c =
-    let args = c .before .before .before .before .before .before .args in
-    let s = args .self in
-    let id = args .id .0 in
-    let more = check9 s id (args .addr) (args .len) ∷ [] in
-    choice-refuses _ _ (abortChecks s id) (check8 (args .addr) (args .len) ∷ more) _ 8 (omega arith, (omega arith, Prim.tt)) (c .before .before .before .before .before .choose-running .ensures) (c .before .before .before .if1 .left)
-    (refused-8 (args .addr) (args .len) more (sym (c .before .before .in-range .ensures) ∙ not-true _ (c .before .if2 .taken))) (λ e. omega (arith, e)) (c .refuse .ensures)
+    let a = c .before .before .before .before .before .before .before .args in
+    let s = a .self in
+    let id = a .id .0 in
+    let more = check9 s id (a .addr) (a .len) ∷ [] in
+    choice-refuses _ _ _ _ _ (abortChecks s id) (c .before .before .before .before .before .choose-running .ensures) refl (check8 (a .addr) (a .len) ∷ more) (c .before .before .before .if1 .left) 8
+    (refused-8 (a .addr) (a .len) more (sym (c .before .before .in-range .ensures) ∙ not-true _ (c .before .if2 .taken))) (λ e. omega (arith, e)) (c .refuse .ensures)
 
 held-requires : tie.Need-held-requires
 held-requires c κs =
-    let args = c .before .before .before .before .before .args in
-    let g = in-range (args .addr) (args .len) (sym (c .before .in-range .ensures) ∙ not-false _ (c .if2 .left)) in
-    (c .before .before .before .before .before .pre, omega (arith, g .2), g .1)
+    let a = c .before .before .before .before .before .before .args in
+    let g = in-range (a .addr) (a .len) (sym (c .before .in-range .ensures) ∙ not-false _ (c .if2 .left)) in
+    (slotted _ _ _ _ _ _ (c .before .before .before .before .choose-running .ensures) (c .before .before .if1 .left) .fits .image, omega (arith, g .2), g .1)
 
 refuse-requires-2 : tie.Need-refuse-requires-2
 refuse-requires-2 c κs = search needs
 
 returns-3 : tie.Need-returns-3
 returns-3 c =
-    let args = c .before .before .before .before .before .before .before .before .args in
-    let s = args .self in
-    let id = args .id .0 in
-    let more = check9 s id (args .addr) (args .len) ∷ [] in
-    let held : any (heldAgainst id (args .addr) (args .len)) (txsOf s) ≡ true = sym (c .before .before .held .ensures) ∙ c .before .if3 .taken in
-    choice-refuses _ _ (abortChecks s id) (check8 (args .addr) (args .len) ∷ more) _ 9 (omega arith, (omega arith, Prim.tt)) (c .before .before .before .before .before .before .before .choose-running .ensures) (c .before .before .before .before .before .if1 .left)
-    (passes-8 (args .addr) (args .len) more (sym (c .before .before .before .before .in-range .ensures) ∙ not-false _ (c .before .before .before .if2 .left)) ∙ rw held) (λ e. omega (arith, e)) (c .refuse2 .ensures)
+    let a = c .before .before .before .before .before .before .before .before .before .args in
+    let s = a .self in
+    let id = a .id .0 in
+    let more = check9 s id (a .addr) (a .len) ∷ [] in
+    let held : any (heldAgainst id (a .addr) (a .len)) (txsOf s) ≡ true = sym (c .before .before .held .ensures) ∙ c .before .if3 .taken in
+    choice-refuses _ _ _ _ _ (abortChecks s id) (c .before .before .before .before .before .before .before .choose-running .ensures) refl (check8 (a .addr) (a .len) ∷ more) (c .before .before .before .before .before .if1 .left) 9
+    (passes-8 (a .addr) (a .len) more (sym (c .before .before .before .before .in-range .ensures) ∙ not-false _ (c .before .before .before .if2 .left)) ∙ rw held) (λ e. omega (arith, e)) (c .refuse2 .ensures)
 
 returns-4 : tie.Need-returns-4
 returns-4 c =
-    let args = c .before .before .before .before .before .before .before .args in
-    let s = args .self in
-    let id = args .id .0 in
-    let more = check9 s id (args .addr) (args .len) ∷ [] in
-    let held : any (heldAgainst id (args .addr) (args .len)) (txsOf s) ≡ false = sym (c .before .held .ensures) ∙ c .if3 .left in
-    choice-goes _ (abortChecks s id) (check8 (args .addr) (args .len) ∷ more) _ (omega arith, (omega arith, Prim.tt)) (c .before .before .before .before .before .before .choose-running .ensures) (c .before .before .before .before .if1 .left)
-    (passes-8 (args .addr) (args .len) more (sym (c .before .before .before .in-range .ensures) ∙ not-false _ (c .before .before .if2 .left)) ∙ rw held)
+    let a = c .before .before .before .before .before .before .before .before .args in
+    let s = a .self in
+    let id = a .id .0 in
+    let more = check9 s id (a .addr) (a .len) ∷ [] in
+    let held : any (heldAgainst id (a .addr) (a .len)) (txsOf s) ≡ false = sym (c .before .held .ensures) ∙ c .if3 .left in
+    choice-goes _ _ _ _ _ (abortChecks s id) (c .before .before .before .before .before .before .choose-running .ensures) refl (check8 (a .addr) (a .len) ∷ more) (c .before .before .before .before .if1 .left)
+    (passes-8 (a .addr) (a .len) more (sym (c .before .before .before .in-range .ensures) ∙ not-false _ (c .before .before .if2 .left)) ∙ rw held)
 
 pub choose-read-spec : {M : Type 1} → statement M
 choose-read-spec =
