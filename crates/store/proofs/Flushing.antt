@@ -152,7 +152,7 @@ formed-first (suc k) prev (g ∷ gs) h =
     rw (and-left (wellFormedGroup prev g) (wellFormedLog (csnAfter prev g) gs) h)
     (formed-first k (csnAfter prev g) gs (and-right (wellFormedGroup prev g) (wellFormedLog (csnAfter prev g) gs) h))
 
-drop-zeros : (n r : ℕ) → _≡_ {A = List ℕ} (drop n (replicate r 0)) (replicate (r - n) 0)
+pub drop-zeros : (n r : ℕ) → _≡_ {A = List ℕ} (drop n (replicate r 0)) (replicate (r - n) 0)
 drop-zeros zero r = let e : r ≡ r - 0 = omega arith in ap (λ (j : ℕ). replicate j 0) e
 drop-zeros (suc n) zero = let e : 0 ≡ 0 - suc n = omega arith in ap (λ (j : ℕ). replicate j 0) e
 drop-zeros (suc n) (suc r) = let e : r - n ≡ suc r - suc n = omega arith in drop-zeros n r ∙ ap (λ (j : ℕ). replicate j 0) e
