@@ -20,16 +20,13 @@ use Rattle.restart.specs.Restart.{restartOf}
 use Rattle.restart.proofs.Recovery.{undoneBy, count-is, tail-is, tail-read}
 use Rattle.store.specs.Rules.{allZero, tailLength, tailOk, unfit}
 use Rattle.store.specs.Stored.{DiskOutcome}
+use Rattle.store.proofs.Zeros.{zeros-pass}
 use Rattle.disk.specs.declared.call.Restarted.{Restarted}
 use Rattle.disk.specs.Examine.{Meaning, stepsOf, examineOf}
 use Rattle.disk.specs.Restart.{recoveredState, clearing}
 use Rattle.disk.specs.Restart as left
 use Rattle.disk.proofs.Accepted.{imageIn, memoryIn, logIn, Accepted, accepted-is, memory-length, tail-length}
 use Rattle.disk.proofs.Restarting.{Done?, done-inv, done-with}
-
-zeros-pass : (n : ℕ) → allZero (replicate n 0) ≡ true
-zeros-pass zero = refl
-zeros-pass (suc n) = zeros-pass n
 
 -- a state without transactions is fit if the tail is
 fit-empty : (end : ℕ) (csn : Csn) (last : TxId) (tail : List ℕ) → end + tailLength (csn .0) tail ≤ 16384 → tailOk (csn .0) (csn .0) tail ≡ true

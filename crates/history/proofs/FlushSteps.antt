@@ -13,9 +13,10 @@ use Rattle.recovery.specs.Machine.{Disk, Live, System, down, up, Step, flushes,
 use Rattle.recovery.proofs.Groups.{groupsSize-append, fitting-all}
 use Rattle.log.specs.Log.{readLog, encodeLog, wellFormedLog}
 use Rattle.log.specs.Stores.{apply, shifted}
+use Rattle.log.proofs.Parts.{encode-append, formed-first}
 use Rattle.log.proofs.RoundTrip.{drop-take, length-log, log-same}
 use Rattle.log.proofs.Soundness.{log-formed}
-use Rattle.log.proofs.StoreLaws.{length-apply, copies-cut, length-shifted}
+use Rattle.log.proofs.StoreLaws.{drop-zeros, length-apply, copies-cut, length-shifted}
 use Rattle.log.proofs.Torn.{log-cut}
 use Rattle.store.specs.declared.State.{State}
 use Rattle.store.specs.declared.stored.Stored.{Stored}
@@ -29,8 +30,7 @@ use Rattle.store.proofs.Flushing.{flush-length, flush-room, flush-tail, flush-k
 use Rattle.store.proofs.Checkpointing.{sets-before, sets-behind}
 use Rattle.store.proofs.Stepping.{same-or-other}
 use Rattle.history.specs.Calls.{flush, stored, World, stepOf}
-use Rattle.history.proofs.Padded.{padded, padded-front, padded-shifted, drop-zeros}
-use Rattle.history.proofs.Parts.{encode-append, formed-first}
+use Rattle.history.proofs.Padded.{padded, padded-front, padded-shifted}
 use Rattle.history.proofs.OnDisk.{OnDisk, opens, same-front}
 use Rattle.history.proofs.Shows.{Neat, LiveOn, awake, rests, cut-rests, FollowsBy, refused-follows, flush-refuses}
 

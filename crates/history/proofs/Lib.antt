@@ -3,7 +3,6 @@
 pub mod Padded
 pub mod Quick
 pub mod Cases
-pub mod Parts
 pub mod OnDisk
 pub mod Shows
 pub mod MemorySteps

@@ -14,7 +14,9 @@ use Rattle.recovery.specs.Restart.{undone, aborts, recover}
 use Rattle.recovery.specs.Machine.{Opening, fresh, Disk, openingDisk, undoneBy, recovered}
 use Rattle.recovery.proofs.Groups.{groupsSize-append}
 use Rattle.log.specs.Log.{readLog, encodeLog}
+use Rattle.log.proofs.Parts.{log-split}
 use Rattle.log.proofs.RoundTrip.{drop-take}
+use Rattle.log.proofs.StoreLaws.{drop-zeros}
 use Rattle.log.proofs.Torn.{log-zeros}
 use Rattle.image.specs.Pack.{emptyImage}
 use Rattle.image.specs.Rules.{keepsRules}
@@ -28,8 +30,7 @@ use Rattle.disk.specs.Examine.{Loaded, loadOf, Meaning, stepsOf, examineOf}
 use Rattle.disk.proofs.Loading.{slot-within}
 use Rattle.disk.proofs.Examining.{keeps, means}
 use Rattle.disk.proofs.Accepted.{imageIn, memoryIn, logIn, stepsIn, Accepted}
-use Rattle.history.proofs.Padded.{padded, drop-zeros}
-use Rattle.history.proofs.Parts.{log-split}
+use Rattle.history.proofs.Padded.{padded}
 
 pub record OnDisk (disk : List ℕ) (d : Disk) : Type 0 where
   pub long : length disk ≡ 33691

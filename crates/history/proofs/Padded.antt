@@ -9,15 +9,16 @@ use lib.Seq.{sets, sets-eq, take-length, take-append-le, take-append-seam, drop-
 use lib.Dec.{eqb}
 use borrow.Author.Tests.{eq-eqb}
 use Rattle.recovery.specs.Group.{groupsSize}
-use Rattle.recovery.proofs.Groups.{fitting-all}
 use Rattle.log.specs.Log.{readLog}
 use Rattle.log.specs.Stores.{shifted}
 use Rattle.log.proofs.LogLaws.{log-within}
-use Rattle.log.proofs.Torn.{log-torn}
+use Rattle.log.proofs.Parts.{log-padding}
+use Rattle.log.proofs.StoreLaws.{drop-zeros}
 use Rattle.store.specs.declared.State.{State}
 use Rattle.store.specs.Rules.{allZero, tailLength, roomUsed, unfit}
 use Rattle.store.specs.Numbers.{Check, firstNumber, sharedChecks}
 use Rattle.store.specs.Stored.{diskChecks}
+use Rattle.store.proofs.Zeros.{zeros-behind}
 
 -- zeros up to the length of a tail
 abbrev pub padded : List ℕ → List ℕ
@@ -27,24 +28,12 @@ pub padded-length : (bs : List ℕ) → length bs ≤ 16384 → length (padded b
 padded-length bs h = omega (arith, length-append bs (replicate (16384 - length bs) 0), length-replicate {A = ℕ} (16384 - length bs) 0)
 
 pub padded-log : (prev : ℕ) (bs : List ℕ) → readLog prev (padded bs) ≡ readLog prev bs
-padded-log prev bs =
-    let zeros : List ℕ = replicate (16384 - length bs) 0 in
-    ap (λ (l : List ℕ). readLog prev (l ++ zeros)) (sym (take-length bs))
-    ∙ log-torn prev (readLog prev bs) bs (length bs) (16384 - length bs) refl
-    ∙ fitting-all (length bs) (readLog prev bs) (log-within prev (readLog prev bs) bs refl)
-
-zeros-pass : (k : ℕ) → allZero (replicate k 0) ≡ true
-zeros-pass zero = refl
-zeros-pass (suc k) = zeros-pass k
-
-zeros-more : (xs : List ℕ) (k : ℕ) → allZero (xs ++ replicate k 0) ≡ allZero xs
-zeros-more [] k = zeros-pass k
-zeros-more (x ∷ xs) k = ap (λ (b : Bool). eqb x 0 && b) (zeros-more xs k)
+padded-log prev bs = log-padding prev bs (16384 - length bs)
 
 zeros-after : (prev : ℕ) (bs : List ℕ) → allZero (drop (tailLength prev bs) (padded bs)) ≡ allZero (drop (tailLength prev bs) bs)
 zeros-after prev bs =
     ap allZero (drop-append-le (tailLength prev bs) bs (replicate (16384 - length bs) 0) (log-within prev (readLog prev bs) bs refl))
-    ∙ zeros-more (drop (tailLength prev bs) bs) (16384 - length bs)
+    ∙ zeros-behind (drop (tailLength prev bs) bs) (16384 - length bs)
 
 pub padded-unfit : (s : State) (bs : List ℕ) → unfit s (padded bs) ≡ unfit s bs
 unfolding unfit
@@ -63,11 +52,6 @@ module _ (s : State) (m bs : List ℕ) (cs : List Check) (lm : length m ≡ 4096
   disk-number d ld = rw (eq-eqb (length d) 33691 ld, eq-eqb (length m) 4096 lm, eq-eqb (length (padded bs)) 16384 (padded-length bs lt), padded-unfit s bs)
 
 -- ---- a group more, groups less
-
-pub drop-zeros : (n k : ℕ) → drop {A = ℕ} n (replicate k 0) ≡ replicate (k - n) 0
-drop-zeros zero k = let e : k ≡ k - 0 = omega arith in ap (λ (j : ℕ). replicate j 0) e
-drop-zeros (suc n) zero = let e : 0 ≡ 0 - suc n = omega arith in ap (λ (j : ℕ). replicate j 0) e
-drop-zeros (suc n) (suc k) = let e : k - n ≡ suc k - suc n = omega arith in drop-zeros n k ∙ ap (λ (j : ℕ). replicate j 0) e
 
 -- bytes stored right behind
 pub padded-append : (bs e : List ℕ) → length bs + length e ≤ 16384 → sets (padded bs) (length bs) e ≡ padded (bs ++ e)

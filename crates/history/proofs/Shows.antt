@@ -12,6 +12,7 @@ use Rattle.recovery.specs.Ledger.{Event, unchanged}
 use Rattle.recovery.specs.Machine.{Disk, Live, System, up, diskOf, Step, stays}
 use Rattle.log.specs.Group.{encodeGroup}
 use Rattle.log.specs.Log.{readLog, encodeLog}
+use Rattle.log.proofs.Parts.{encode-append}
 use Rattle.log.proofs.RoundTrip.{length-group, length-log}
 use Rattle.store.specs.declared.State.{State}
 use Rattle.store.specs.declared.call.Begun.{Begun}
@@ -35,7 +36,6 @@ use Rattle.store.proofs.Views.{Appends, tail-zeros}
 use Rattle.history.specs.Calls.{Call, begin, write, read, readAnswer, precommit, abort, flush, settle, checkpoint, restart, World, Stepped, begun, returned, changed, precommitted, stored, stepOf}
 use Rattle.history.specs.Demand.{eventOf}
 use Rattle.history.proofs.Padded.{padded, padded-append}
-use Rattle.history.proofs.Parts.{encode-append}
 use Rattle.history.proofs.OnDisk.{OnDisk, opens}
 
 -- a tail is its groups, and zeros

@@ -1,5 +1,5 @@
 -- The laws of the log's format, by what they say: reading (Reader, RecordLaws, GroupLaws, LogLaws), the code's answers (Answers),
--- round trip and prefix (RoundTrip), soundness (Soundness), cut and zeroed lists (Torn), stores (StoreLaws, FlatLaws); worked cases (Cases).
+-- round trip and prefix (RoundTrip), soundness (Soundness), cut and zeroed lists (Torn), parts of a log (Parts), stores (StoreLaws, FlatLaws); worked cases (Cases).
 pub mod Basics
 pub mod Reader
 pub mod RecordLaws
@@ -9,6 +9,7 @@ pub mod Answers
 pub mod RoundTrip
 pub mod Soundness
 pub mod Torn
+pub mod Parts
 pub mod StoreLaws
 pub mod FlatLaws
 pub mod Cases

@@ -119,14 +119,14 @@ sets-past : (vs l : List ℕ) (i j : ℕ) → i + length vs ≤ j → getD (sets
 sets-past [] l i j h = refl
 sets-past (v ∷ vs) l i j h = sets-past vs (set l i v) (suc i) j (omega arith) ∙ getD-set-other l i j v 0 (λ e. omega arith)
 
--- one more zero
-pub zeros-more : (b : List ℕ) (i : ℕ) → i < length b
-    → set (sets b 0 (take i (replicate (length b) 0))) i 0 ≡ sets b 0 (take (i + 1) (replicate (length b) 0))
-zeros-more b i h =
-    let z : _≡_ {A = ℕ} (getD (replicate (length b) 0) i 0) 0 = getD-replicate (length b) i 0 0 h in
+-- one more byte of a filling
+pub fill-more : (v : ℕ) (b : List ℕ) (i : ℕ) → i < length b
+    → set (sets b 0 (take i (replicate (length b) v))) i v ≡ sets b 0 (take (i + 1) (replicate (length b) v))
+fill-more v b i h =
+    let z : getD (replicate (length b) v) i 0 ≡ v = getD-replicate (length b) i v 0 h in
     let e : 0 + i ≡ i = omega arith in
-    ap₂ (λ (j v : ℕ). set (sets b 0 (take i (replicate (length b) 0))) j v) (sym e) (sym z)
-    ∙ sets-more b 0 (replicate (length b) 0) i (rw length-replicate h)
+    ap₂ (λ (j x : ℕ). set (sets b 0 (take i (replicate (length b) v))) j x) (sym e) (sym z)
+    ∙ sets-more b 0 (replicate (length b) v) i (rw length-replicate h)
 
 -- one more byte of those from n on
 pub shift-more : (b : List ℕ) (n i : ℕ) → i + n < length b
@@ -171,3 +171,9 @@ shift-all b n h =
 pub length-shifted : (n : ℕ) (b : List ℕ) → length (shifted n b) ≡ length b
 unfolding shifted
 length-shifted n b = simp (length-append, length-drop, length-replicate) (omega arith)
+
+-- fewer zeros
+pub drop-zeros : (n k : ℕ) → _≡_ {A = List ℕ} (drop n (replicate k 0)) (replicate (k - n) 0)
+drop-zeros zero k = let e : k ≡ k - 0 = omega arith in ap (λ (j : ℕ). replicate j 0) e
+drop-zeros (suc n) zero = let e : 0 ≡ 0 - suc n = omega arith in ap (λ (j : ℕ). replicate j 0) e
+drop-zeros (suc n) (suc k) = let e : k - n ≡ suc k - suc n = omega arith in drop-zeros n k ∙ ap (λ (j : ℕ). replicate j 0) e

@@ -17,15 +17,21 @@ pub fn copy(b: &mut [u8], at: usize, src: &[u8])
     }
 }
 
-// Zeros throughout.
-pub fn fill_zero(b: &mut [u8])
-    ensures { λ _. ⌜ now (b .exit) ≡ replicate (length (now (b .entry))) 0 ⌝ }
+// One value throughout.
+pub fn fill(b: &mut [u8], value: u8)
+    ensures { λ _. ⌜ now (b .exit) ≡ replicate (length (now (b .entry))) value ⌝ }
 {
     let mut i: usize = 0;
     while i < b.len() {
-        b[i] = 0;
+        b[i] = value;
         i += 1;
     }
+}
+
+pub fn fill_zero(b: &mut [u8])
+    ensures { λ _. ⌜ now (b .exit) ≡ replicate (length (now (b .entry))) 0 ⌝ }
+{
+    fill(b, 0);
 }
 
 // What stands from n on moves to the front, with zeros after it; all zeros if nothing does.

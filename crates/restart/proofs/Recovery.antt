@@ -17,6 +17,7 @@ use Rattle.recovery.proofs.Lists.{all-map, all-filter, filter-append, filter-fi
 use Rattle.recovery.proofs.Sorting.{sort-length, filter-sort}
 use Rattle.recovery.proofs.AbortLaw.{order-all}
 use Rattle.log.specs.Log.{readLog, encodeLog, wellFormedLog}
+use Rattle.log.proofs.StoreLaws.{drop-zeros}
 use Rattle.log.proofs.Torn.{log-padded}
 use Rattle.transaction.proofs.Lists.{length-up, all-up}
 use Rattle.image.specs.declared.Image.{Image}
@@ -38,11 +39,6 @@ zero-at : (k i : ℕ) → getD (zeros k) i 0 ≡ 0
 zero-at zero i = refl
 zero-at (suc k) zero = refl
 zero-at (suc k) (suc i) = zero-at k i
-
-drop-zeros : (n k : ℕ) → k ≤ n → drop k (zeros n) ≡ zeros (n - k)
-drop-zeros n zero h = let e : n ≡ n - 0 = omega arith in ap zeros e
-drop-zeros zero (suc k) h = absurd (omega arith)
-drop-zeros (suc n) (suc k) h = let e : n - k ≡ suc n - suc k = omega arith in drop-zeros n k (omega arith) ∙ ap zeros e
 
 -- ---- how many step 4 undoes
 
@@ -208,7 +204,7 @@ module _ (image : Image) (ok : keepsRules image ≡ true) where
         ap (λ (ts : List Tx). sets (zeros 16384) 0 (encodeLog (aborts ts))) undone-is
         ∙ sets-eq xs (zeros 16384) 0 z
         ∙ ap (λ (k : ℕ). xs ++ drop k (zeros 16384)) e
-        ∙ ap (λ (ys : List ℕ). xs ++ ys) (drop-zeros 16384 (4 * length (undoneBy image log)) (omega arith))
+        ∙ ap (λ (ys : List ℕ). xs ++ ys) (drop-zeros (4 * length (undoneBy image log)) 16384)
 
     aborts-well : (prev : ℕ) {ts : List Tx} → All (λ t. 1 ≤ t .id) ts → wellFormedLog prev (aborts ts) ≡ true
     aborts-well prev nil = refl

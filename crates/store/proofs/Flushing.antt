@@ -1,34 +1,36 @@
 -- Flush: its cases as the code comes to them, the bytes that it stores and what they leave in the log, and that the state and tail which it
 -- leaves pass number 2.
-use Prim.Native.Nat.{ℕ, zero, suc, _+_, _-_, _≤_, _<_, min}
+use Prim.Native.Nat.{ℕ, _+_, _-_, _≤_, _<_, min}
 use native.Mathlib.Omega.{arith}
 use mathlib.Core.Bool.{Bool, true, _&&_}
 use mathlib.Core.List.{List, [], _∷_, _++_, append-assoc}
 use mathlib.Core.Path.{_≡_, refl, sym, ap, ap₂, _∙_}
 use lib.ListN.{length, take, drop, replicate, length-take, take-append-drop}
-use lib.Seq.{sets, sets-eq, length-take-le, take-length, take-at, drop-at, drop-drop, drop-append-le}
+use lib.Seq.{sets, sets-eq, length-take-le, take-at, drop-at, drop-drop, drop-append-le}
 use lib.Dec.{leb, eqb}
 use borrow.Author.Tests.{eq-eqb, eqb-true, le-leb}
-use Rattle.recovery.specs.Group.{Group, committed, aborted, groupSize, groupsSize, csnAfter, lastCsn, fitting}
-use Rattle.recovery.proofs.Groups.{groupsSize-append, lastCsn-append, fitting-all}
+use Rattle.recovery.specs.Group.{Group, committed, aborted, groupsSize, csnAfter, lastCsn, fitting}
+use Rattle.recovery.proofs.Groups.{groupsSize-append, lastCsn-append}
 use Rattle.log.specs.declared.Csn.{Csn}
 use Rattle.log.specs.declared.scan.LogEnd.{LogEnd}
-use Rattle.log.specs.Group.{encodeGroup, wellFormedBody, wellFormedGroup}
+use Rattle.log.specs.Group.{wellFormedBody, wellFormedGroup}
 use Rattle.log.specs.Log.{readLog, logEndOf, encodeLog, wellFormedLog}
 use Rattle.log.specs.Stores.{Store, apply, copies, shifted}
-use Rattle.log.proofs.LogLaws.{log-inv, log-within}
+use Rattle.log.proofs.LogLaws.{log-within}
+use Rattle.log.proofs.Parts.{encode-append, formed-first, log-split, log-padding}
 use Rattle.log.proofs.RoundTrip.{length-log}
 use Rattle.log.proofs.Soundness.{Bytes, log-sound, log-formed}
-use Rattle.log.proofs.StoreLaws.{length-apply, length-copies, copies-cut, length-shifted}
-use Rattle.log.proofs.Torn.{log-torn, log-cut}
+use Rattle.log.proofs.StoreLaws.{length-apply, length-copies, copies-cut, length-shifted, drop-zeros}
+use Rattle.log.proofs.Torn.{log-cut}
 use Rattle.log.proofs.Basics.{and-left, and-right}
 use Rattle.store.specs.declared.State.{State}
 use Rattle.store.specs.State.{unrecovered, outlinesOf}
 use Rattle.store.specs.Answer.{done, cut, refused}
 use Rattle.image.specs.Rules.{outlinesOk}
-use Rattle.store.specs.Rules.{isZero, allZero, tailLength}
+use Rattle.store.specs.Rules.{allZero, tailLength}
 use Rattle.store.specs.Stored.{stored, zeroed}
 use Rattle.store.specs.Flush.{withLog, firstGroups, firstSize, flushedState, flushedTail, flushStores, flushPlan, flushOf}
+use Rattle.store.proofs.Zeros.{zeros-behind}
 use Rattle.store.proofs.Fits.{Fit}
 use Rattle.store.proofs.Storing.{copies-moved, part-stored, diskNumber, disk-admitted, disk-passes, stored-refused, stored-cut, stored-done}
 
@@ -124,11 +126,6 @@ module _ (s : State) (d m t : List ℕ) (k allowed : ℕ) where
 
 -- ---- the bytes stored
 
-encode-append : (gs hs : List Group) → encodeLog (gs ++ hs) ≡ encodeLog gs ++ encodeLog hs
-encode-append [] hs = refl
-encode-append (g ∷ gs) hs =
-    ap (λ (l : List ℕ). encodeGroup g ++ l) (encode-append gs hs) ∙ sym (append-assoc (encodeGroup g) (encodeLog gs) (encodeLog hs))
-
 -- they are the encoding of the first k groups
 pub flush-bytes : (s : State) (t : List ℕ) (k : ℕ) → Bytes t → take (firstSize s t k) t ≡ encodeLog (firstGroups s t k)
 flush-bytes s t k b =
@@ -144,18 +141,6 @@ pub flush-stores : (s : State) (t : List ℕ) (k : ℕ) → Bytes t → flushSto
 flush-stores s t k b = ap (copies (17307 + s .logend)) (flush-bytes s t k b)
 
 -- ---- what stands in the log after n stores
-
-formed-first : (k prev : ℕ) (gs : List Group) → wellFormedLog prev gs ≡ true → wellFormedLog prev (take k gs) ≡ true
-formed-first zero prev gs h = refl
-formed-first (suc k) prev [] h = refl
-formed-first (suc k) prev (g ∷ gs) h =
-    rw (and-left (wellFormedGroup prev g) (wellFormedLog (csnAfter prev g) gs) h)
-    (formed-first k (csnAfter prev g) gs (and-right (wellFormedGroup prev g) (wellFormedLog (csnAfter prev g) gs) h))
-
-drop-zeros : (n r : ℕ) → _≡_ {A = List ℕ} (drop n (replicate r 0)) (replicate (r - n) 0)
-drop-zeros zero r = let e : r ≡ r - 0 = omega arith in ap (λ (j : ℕ). replicate j 0) e
-drop-zeros (suc n) zero = let e : 0 ≡ 0 - suc n = omega arith in ap (λ (j : ℕ). replicate j 0) e
-drop-zeros (suc n) (suc r) = let e : r - n ≡ suc r - suc n = omega arith in drop-zeros n r ∙ ap (λ (j : ℕ). replicate j 0) e
 
 -- where zeros stood from the log's end on, the groups are read that were stored whole, and no other
 pub flush-log : (s : State) (d t : List ℕ) (k n r : ℕ) → Bytes t → 17307 + s .logend + firstSize s t k ≤ length d → drop (17307 + s .logend) d ≡ replicate r 0
@@ -176,23 +161,7 @@ flush-log s d t k n r b h z =
 
 -- after the first k groups stand the others
 log-rest : (prev k : ℕ) (gs : List Group) (t : List ℕ) → readLog prev t ≡ gs → readLog (lastCsn prev (take k gs)) (drop (groupsSize (take k gs)) t) ≡ drop k gs
-log-rest prev zero gs t e = e
-log-rest prev (suc k) [] t e = e
-log-rest prev (suc k) (g ∷ gs) t e =
-    ap (readLog (lastCsn (csnAfter prev g) (take k gs))) (sym (drop-drop (groupsSize (take k gs)) (groupSize g) t))
-    ∙ log-rest (csnAfter prev g) k gs (drop (groupSize g) t) (log-inv prev t g gs e .1)
-
--- zeros behind a log change nothing
-log-padding : (prev : ℕ) (t : List ℕ) (n : ℕ) → readLog prev (t ++ replicate n 0) ≡ readLog prev t
-log-padding prev t n =
-    ap (λ (l : List ℕ). readLog prev (l ++ replicate n 0)) (sym (take-length t))
-    ∙ log-torn prev (readLog prev t) t (length t) n refl
-    ∙ fitting-all (length t) (readLog prev t) (log-within prev (readLog prev t) t refl)
-
-zeros-behind : (l : List ℕ) (n : ℕ) → allZero l ≡ true → allZero (l ++ replicate n 0) ≡ true
-zeros-behind [] zero e = refl
-zeros-behind [] (suc n) e = zeros-behind [] n e
-zeros-behind (x ∷ l) n e = rw (and-left (isZero x) (allZero l) e) (zeros-behind l n (and-right (isZero x) (allZero l) e))
+log-rest prev k gs t e = log-split prev (take k gs) (drop k gs) t (e ∙ sym (take-append-drop k gs))
 
 -- commit numbers never fall
 group-rises : (prev : ℕ) (g : Group) → wellFormedGroup prev g ≡ true → prev ≤ csnAfter prev g
@@ -230,7 +199,7 @@ module _ (s : State) (t : List ℕ) (k : ℕ) where
       let e : drop r (drop n t ++ replicate z 0) ≡ drop (groupsSize groups) t ++ replicate z 0 =
       drop-append-le r (drop n t) (replicate z 0) l
       ∙ ap (λ (x : List ℕ). x ++ replicate z 0) (drop-drop r n t ∙ ap (λ (j : ℕ). drop j t) (size-split k groups)) in
-      ap allZero e ∙ zeros-behind (drop (groupsSize groups) t) z h
+      ap allZero e ∙ zeros-behind (drop (groupsSize groups) t) z ∙ h
 
   -- the state and tail that a flush leaves pass number 2
   pub flush-keeps : Fit s t → Fit (flushedState s t k) (flushedTail s t k)

@@ -1,16 +1,24 @@
--- An or of bytes is 0 exactly if all are.
-use Prim.Native.Nat.{ℕ, suc, _+_, _<_}
+-- Zeros, and zeros behind others; an or of bytes is 0 exactly if all are.
+use Prim.Native.Nat.{ℕ, zero, suc, _+_, _<_}
 use native.Mathlib.Omega.{arith}
 use native.Mathlib.Numerals.{add-one}
 use mathlib.Core.Bool.{Bool, true, false, _&&_, and-assoc}
-use mathlib.Core.List.{List}
-use mathlib.Core.Path.{_≡_, refl, sym}
+use mathlib.Core.List.{List, [], _∷_, _++_}
+use mathlib.Core.Path.{_≡_, refl, sym, ap}
 use lib.Bits.{bitOr, or-add-and, and-le-r, or-zero-l}
-use lib.ListN.{length, getD, drop}
+use lib.ListN.{length, getD, drop, replicate}
 use lib.Seq.{drop-cons}
 use lib.Dec.{eqb}
 use borrow.Author.Tests.{ne-eqb, eqb-true, eqb-false}
 use Rattle.store.specs.Rules.{allZero}
+
+pub zeros-pass : (n : ℕ) → allZero (replicate n 0) ≡ true
+zeros-pass zero = refl
+zeros-pass (suc n) = zeros-pass n
+
+pub zeros-behind : (l : List ℕ) (n : ℕ) → allZero (l ++ replicate n 0) ≡ allZero l
+zeros-behind [] n = zeros-pass n
+zeros-behind (x ∷ l) n = ap (λ (b : Bool). eqb x 0 && b) (zeros-behind l n)
 
 or-is-zero : (a b : ℕ) → eqb (bitOr a b) 0 ≡ eqb a 0 && eqb b 0
 or-is-zero a b = go (eqb a 0) (eqb b 0) refl refl

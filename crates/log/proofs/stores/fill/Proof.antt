@@ -3,15 +3,15 @@ use native.Mathlib.Omega.{arith}
 use mathlib.Core.Path.{_≡_, refl, ap, _∙_}
 use lib.ListN.{length, take, replicate, length-replicate}
 use lib.Seq.{sets, length-sets, take-all}
-use Rattle.log.proofs.StoreLaws.{sets-all, zeros-more}
-use Rattle.log.proofs.stores.fill_zero.Statement.{statement}
-use Rattle.log.proofs.stores.fill_zero.Tie as tie
+use Rattle.log.proofs.StoreLaws.{sets-all, fill-more}
+use Rattle.log.proofs.stores.fill.Statement.{statement}
+use Rattle.log.proofs.stores.fill.Tie as tie
 
 abbrev Inv-loop : tie.InvT-loop
-Inv-loop b₀ i₀ b i = (i ≤ length b₀) × (b ≡ sets b₀ 0 (take i (replicate (length b₀) 0)))
+Inv-loop b₀ value i₀ b i = (i ≤ length b₀) × (b ≡ sets b₀ 0 (take i (replicate (length b₀) value)))
 
 abbrev μ-loop : tie.MeasureT-loop
-μ-loop b₀ i₀ b i = length b₀ - i
+μ-loop b₀ value i₀ b i = length b₀ - i
 
 -- the length stays
 length-now : (c : tie.At-loop Inv-loop μ-loop) → length (c .loop .b) ≡ length (c .before .args .b .now)
@@ -31,7 +31,7 @@ loop-less c = omega (arith, length-now (c .before))
 
 loop-again : tie.Need-loop-again Inv-loop μ-loop
 loop-again c =
-    (omega (arith, length-now (c .before)), rw (c .before .loop .inv .1) (zeros-more (c .before .before .args .b .now) (c .before .loop .i) (omega (arith, length-now (c .before)))))
+    (omega (arith, length-now (c .before)), rw (c .before .loop .inv .1) (fill-more (c .before .before .args .value) (c .before .before .args .b .now) (c .before .loop .i) (omega (arith, length-now (c .before)))))
 
 same-length : tie.Need-same-length Inv-loop μ-loop
 same-length c = length-now (c .before)
@@ -39,12 +39,13 @@ same-length c = length-now (c .before)
 returns : tie.Need-returns Inv-loop μ-loop
 returns c =
     let b = c .before .before .args .b .now in
+    let v = c .before .before .args .value in
     c .before .loop .inv .1
-    ∙ ap (sets b 0) (take-all (c .before .loop .i) (replicate (length b) 0) (rw (length-replicate {A = ℕ} (length b) 0) (omega (arith, length-now (c .before)))))
-    ∙ sets-all (replicate (length b) 0) b (length-replicate (length b) 0)
+    ∙ ap (sets b 0) (take-all (c .before .loop .i) (replicate (length b) v) (rw (length-replicate {A = ℕ} (length b) v) (omega (arith, length-now (c .before)))))
+    ∙ sets-all (replicate (length b) v) b (length-replicate (length b) v)
 
-pub fill-zero-spec : {M : Type 1} → statement M
-fill-zero-spec =
+pub fill-spec : {M : Type 1} → statement M
+fill-spec =
     tie.close
     (tie.spec
     Inv-loop

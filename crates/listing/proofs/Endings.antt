@@ -1,0 +1,104 @@
+-- How a restart with 16,384 stores allowed ends: refused or done.
+use Prim.Native.Nat.{ℕ, _-_, _≤_}
+use native.Mathlib.Omega.{arith}
+use mathlib.Core.Bool.{Bool, true, false, _&&_}
+use mathlib.Core.List.{List, [], _∷_}
+use mathlib.Core.Logic.{⊎-elim}
+use mathlib.Core.Path.{_≡_, refl, sym, ap, _∙_, subst}
+use lib.ListN.{length, replicate, length-replicate}
+use lib.Dec.{eqb}
+use borrow.Author.Tests.{eqb-true, eqb-false}
+use types.Run.{OneOf}
+use denote.Enum.Declared.{tagOf}
+use Rattle.log.proofs.Basics.{clash}
+use Rattle.store.proofs.Answer.{the-type}
+use Rattle.store.specs.declared.Answer.{Answer}
+use Rattle.store.specs.declared.Answer.the-variants.{Done, Cut, Refused}
+use Rattle.store.specs.Answer.{cut, answer}
+use Rattle.disk.specs.declared.call.Restarted.{Restarted}
+use Rattle.disk.specs.Layout.{pointerOf}
+use Rattle.disk.specs.Examine.{examineOf}
+use Rattle.disk.specs.Restart.{Outcome, refusedRestart, doneRestart}
+use Rattle.disk.proofs.Examining.{roomy}
+use Rattle.disk.proofs.Restarting.{restart-1, restart-refused, restart-done}
+use Rattle.listing.specs.Text.{foundText, refusedText}
+use Rattle.listing.specs.Listing.{restarted, listingOf}
+
+pub data Ending (disk : List ℕ) : Type 0 where
+  refused : (n : ℕ) → restarted disk .result ≡ refusedRestart n → Ending disk
+  done : restarted disk ≡ doneRestart (examineOf disk) disk 16384 → Ending disk
+
+abbrev memory : List ℕ
+memory = replicate 4096 0
+
+abbrev tail : List ℕ
+tail = replicate 16384 0
+
+result : {x y : Outcome} → x ≡ y → x .result ≡ y .result
+result e = ap (λ (o : Outcome). o .result) e
+
+pub ending : (disk : List ℕ) → Ending disk
+ending disk = go (eqb (length disk) 33691) (eqb (examineOf disk .result .number) 0) refl refl
+  where
+    m : length memory ≡ 4096
+    m = length-replicate {A = ℕ} 4096 0
+
+    t : length tail ≡ 16384
+    t = length-replicate {A = ℕ} 16384 0
+
+    go : (a b : Bool) → eqb (length disk) 33691 ≡ a → eqb (examineOf disk .result .number) 0 ≡ b → Ending disk
+    go false b p q = refused 1 (result (restart-1 disk memory tail 16384 (rw p)))
+    go true false p q = refused _ (result (restart-refused disk memory tail 16384 (eqb-true (length disk) 33691 p) m t (eqb-false (examineOf disk .result .number) 0 q)))
+    go true true p q = done (restart-done disk memory tail 16384 (eqb-true (length disk) 33691 p) m t (eqb-true (examineOf disk .result .number) 0 q) (omega arith))
+
+refused-answer : (n : ℕ) → refusedRestart n .answer ≡ Refused n
+unfolding refusedRestart
+refused-answer n = refl
+
+-- 16,384 stores are enough for any disk
+pub uncut : (disk : List ℕ) → restarted disk .result .answer ≡ answer cut → ⊥
+uncut disk c = go (ending disk)
+  where
+    go : Ending disk → ⊥
+    go (refused n e) = clash (cc (refused-answer n, ap (λ (r : Restarted). r .answer) e))
+    go (done e) = clash (cc (ap (λ (o : Outcome). o .result .answer) e))
+
+refused-none : (n : ℕ) → refusedRestart n .undone ≡ 0
+unfolding refusedRestart
+refused-none n = refl
+
+-- by log room, since each takes 4 bytes
+pub few-undone : (disk : List ℕ) → restarted disk .result .undone ≤ 4096
+few-undone disk = go (ending disk)
+  where
+    go : Ending disk → restarted disk .result .undone ≤ 4096
+    go (refused n e) = omega (arith, ap (λ (r : Restarted). r .undone) e, refused-none n)
+    go (done e) = omega (arith, ap (λ (o : Outcome). o .result .undone) e, roomy disk)
+
+-- ---- the text by cases
+
+-- an answer that the code found to be none of the other two
+refused-tag : (n : ℕ) (a : Answer) → a ≡ Refused n → OneOf (0 ∷ 1 ∷ []) (tagOf the-type a) → ⊥
+refused-tag n a e k = other (subst (λ (x : Answer). OneOf (0 ∷ 1 ∷ []) (tagOf the-type x)) e k)
+  where
+    other : OneOf (0 ∷ 1 ∷ []) 2 → ⊥
+    other = ⊎-elim (λ z. omega arith) (λ z. omega arith)
+
+module _ (disk : List ℕ) (r : Restarted) (e : r ≡ restarted disk .result) where
+  pub listing-refused : (n : ℕ) → r .answer ≡ Refused n → listingOf disk ≡ refusedText n
+  unfolding listingOf
+  listing-refused n a = rw (← e, a)
+
+  abbrev Found : ℕ → Type 0
+  Found pointer = listingOf disk ≡ foundText pointer (r .state .logend) (r .state .ondisk .0) (r .state .lastid .0) (r .undone)
+
+  listing-done : (pointer : ℕ) → pointer ≡ pointerOf disk → r .answer ≡ Done → Found pointer
+  unfolding listingOf
+  listing-done pointer p a = rw (← e, a, p)
+
+  pub listing-found : (pointer : ℕ) → pointer ≡ pointerOf disk → OneOf (0 ∷ 1 ∷ []) (tagOf the-type (r .answer)) → Found pointer
+  listing-found pointer p k = go (ending disk)
+    where
+      go : Ending disk → Found pointer
+      go (refused n x) = absurd (refused-tag n (r .answer) (ap (λ (y : Restarted). y .answer) (e ∙ x) ∙ refused-answer n) k)
+      go (done x) = listing-done pointer p (ap (λ (y : Restarted). y .answer) e ∙ ap (λ (o : Outcome). o .result .answer) x)

@@ -1,0 +1,66 @@
+-- Texts put into a buffer one after another.
+use Prim.Native.Nat.{ℕ, _+_, _-_, _≤_, _<_}
+use native.Mathlib.Omega.{arith}
+use mathlib.Core.List.{List, [], _∷_, _++_}
+use mathlib.Core.Path.{_≡_, refl, sym, ap, ap₂, _∙_}
+use lib.ListN.{length, take, drop, set, replicate, length-append, length-replicate}
+use lib.Seq.{sets, sets-eq, take-append-seam}
+use Rattle.log.proofs.StoreLaws.{sets-append}
+use Rattle.log.proofs.StoreLaws.{drop-zeros}
+use Rattle.listing.specs.Text.{Put, ascii, line, foundText, refusedText}
+use Rattle.listing.specs.Listing.{padded, Listed}
+use Rattle.listing.proofs.Decimal.{line-short}
+
+pub put-one : (b : List ℕ) (at v : ℕ) → Put b at (v ∷ []) (at + 1) (set b at v)
+put-one b at v = record { bytes = refl; ends = refl }
+
+pub put-then : {b b′ b″ x y : List ℕ} {at e e′ : ℕ} → Put b at x e b′ → Put b′ e y e′ b″ → Put b at (x ++ y) e′ b″
+put-then {b} {b′} {b″} {x} {y} {at} {e} p q = record {
+  bytes = q .bytes ∙ ap₂ (λ (l : List ℕ) (i : ℕ). sets l i y) (p .bytes) (p .ends) ∙ sym (sets-append b at x y);
+  ends = omega (arith, p .ends, q .ends, length-append x y);
+}
+
+-- a copy is a text put
+pub put-copy : (b : List ℕ) (at : ℕ) (text b′ : List ℕ) → b′ ≡ sets b at text → Put b at text (at + length text) b′
+put-copy b at text b′ e = record { bytes = e; ends = refl }
+
+-- a text at the front of 64 zeros
+pub put-front : {b text out : List ℕ} {r : ℕ} → b ≡ replicate 64 0 → length text ≤ 64 → Put b 0 text r out → Listed text r out
+put-front {b} {text} {out} {r} e h p =
+    let l : length b ≡ 64 = ap length e ∙ length-replicate {A = ℕ} 64 0 in
+    let z : 0 + length text ≡ length text = omega arith in
+    let n : r ≡ length text = omega (arith, p .ends) in
+    let o : out ≡ padded text =
+    p .bytes ∙ sets-eq text b 0 (omega arith) ∙ ap₂ (λ (k : ℕ) (d : List ℕ). text ++ drop k d) z e ∙ ap (λ (d : List ℕ). text ++ d) (drop-zeros (length text) 64) in
+    record {
+      size = n;
+      bytes = o;
+      within = omega (arith, ap length o, length-append text (replicate (64 - length text) 0));
+      part = n ∙ sym (ap length (ap₂ take n o ∙ take-append-seam text (replicate (64 - length text) 0)));
+    }
+
+-- ---- lengths: each line of a disk's numbers, and what they come to
+
+pub record Short (pointer end csn id undone : ℕ) : Type 0 where
+  pub pointer-line : length (line (ascii "pointer=") pointer) ≤ 12
+  pub end-line : length (line (ascii "end=") end) ≤ 10
+  pub csn-line : length (line (ascii "csn=") csn) ≤ 15
+  pub id-line : length (line (ascii "id=") id) ≤ 9
+  pub undone-line : length (line (ascii "undone=") undone) ≤ 12
+
+pub lines-short : (pointer end csn id undone : ℕ) → pointer < 256 → end < 65536 → csn < 4294967296 → id < 65536 → undone ≤ 4096 → Short pointer end csn id undone
+lines-short pointer end csn id undone p e c i u = record {
+  pointer-line = line-short 2 (ascii "pointer=") pointer (omega arith);
+  end-line = line-short 4 (ascii "end=") end (omega arith);
+  csn-line = line-short 9 (ascii "csn=") csn (omega arith);
+  id-line = line-short 4 (ascii "id=") id (omega arith);
+  undone-line = line-short 3 (ascii "undone=") undone (omega arith);
+}
+
+pub found-short : {pointer end csn id undone : ℕ} → Short pointer end csn id undone → length (foundText pointer end csn id undone) ≤ 64
+unfolding foundText
+found-short s = simp length-append (omega arith)
+
+pub refused-short : (n : ℕ) → n < 256 → length (refusedText n) ≤ 64
+unfolding refusedText
+refused-short n h = omega (arith, line-short 2 (ascii "refused=") n (omega arith))

@@ -1,0 +1,109 @@
+use Prim.Native.Nat.{ℕ, _<_, _≤_}
+use native.Mathlib.Omega.{arith}
+use mathlib.Core.List.{List}
+use mathlib.Core.Path.{_≡_, sym, ap, _∙_, subst}
+use lib.ListN.{length, replicate, length-replicate}
+use borrow.Author.Needs.{needs}
+use Rattle.disk.specs.declared.call.Restarted.{Restarted}
+use Rattle.listing.specs.Text.{refusedText}
+use Rattle.listing.specs.Listing.{Listed}
+use Rattle.listing.proofs.Putting.{Short, lines-short, found-short, refused-short, put-front}
+use Rattle.listing.proofs.Endings.{few-undone, listing-refused, listing-found}
+use Rattle.listing.proofs.list.Statement.{statement}
+use Rattle.listing.proofs.list.Tie as tie
+
+pointer-of-requires : tie.Need-pointer-of-requires
+pointer-of-requires c κs = search needs
+
+slice-aggregate-restart : tie.Need-slice-aggregate-restart
+slice-aggregate-restart c = search needs
+
+slice-aggregate-restart-2 : tie.Need-slice-aggregate-restart-2
+slice-aggregate-restart-2 c = search needs
+
+restart-requires : tie.Need-restart-requires
+restart-requires c κs = search needs
+
+fill-zero-requires : tie.Need-fill-zero-requires
+fill-zero-requires c κs = search needs
+
+-- out is all zeros then
+zeros : (c : tie.After-fill-zero) → c .fill-zero .last .0 ≡ replicate 64 0
+zeros c = let l : length (c .before .before .before .before .before .before .before .before .before .before .before .before .before .args .out .now) ≡ 64 = search needs in c .fill-zero .ensures ∙ ap (λ (n : ℕ). replicate n 0) l
+
+zeros-length : (c : tie.After-fill-zero) → length (c .fill-zero .last .0) ≡ 64
+zeros-length c = ap length (zeros c) ∙ length-replicate {A = ℕ} 64 0
+
+-- the number is a byte
+byte : (c : tie.After-known-told) → c .before .answer .given .0 .0 < 256
+byte c = search needs
+
+listed : {x y out : List ℕ} {r : ℕ} → x ≡ y → Listed x r out → Listed y r out
+listed {out = out} {r} e l = subst (λ (text : List ℕ). Listed text r out) e l
+
+enum-known-answer : tie.Need-enum-known-answer
+enum-known-answer c = search needs
+
+slice-aggregate-put-line : tie.Need-slice-aggregate-put-line
+slice-aggregate-put-line c = search needs
+
+cast-put-line : tie.Need-cast-put-line
+cast-put-line c = search needs
+
+put-line-requires : tie.Need-put-line-requires
+unfolding refusedText
+put-line-requires c κs = omega (arith, zeros-length (c .before .before .before .before .before), refused-short (c .before .before .before .answer .given .0 .0) (byte (c .before .before)))
+
+same-length : tie.Need-same-length
+same-length c = search needs
+
+returns : tie.Need-returns
+unfolding refusedText
+returns c =
+    let disk = c .before .before .before .before .before .before .before .before .before .before .before .before .before .before .before .before .before .before .before .args .disk .now in
+    let x = c .before .before .before .before .before .before .before .before .before .before .before .before .restart in
+    let n = c .before .before .before .before .answer .given .0 .0 in
+    let e = listing-refused disk (x .result) (x .ensures .0) n (c .before .before .before .before .answer .given .1) in
+    (listed (sym e) (put-front (zeros (c .before .before .before .before .before .before)) (refused-short n (byte (c .before .before .before))) (c .put-line .ensures)), x .ensures .1 .0)
+
+few : (c : tie.After-restart) → c .restart .result .undone ≤ 4096
+few c = omega (arith, few-undone (c .before .before .before .before .before .before .before .args .disk .now), ap (λ (r : Restarted). r .undone) (c .restart .ensures .0))
+
+short : (c : tie.After-restart)
+    → let r = c .restart .result in Short (c .before .before .before .before .pointer-of .result) (r .state .logend) (r .state .ondisk .0) (r .state .lastid .0) (r .undone)
+short c =
+    let r = c .restart .result in
+    lines-short (c .before .before .before .before .pointer-of .result) (r .state .logend) (r .state .ondisk .0) (r .state .lastid .0) (r .undone) (search needs) (search needs) (search needs) (search needs) (few c)
+
+put-found-requires : tie.Need-put-found-requires
+put-found-requires c κs = (zeros-length (c .before .before .before), few (c .before .before .before .before .before .before .before .before .before))
+
+same-length-2 : tie.Need-same-length-2
+same-length-2 c = search needs
+
+returns-2 : tie.Need-returns-2
+returns-2 c =
+    let disk = c .before .before .before .before .before .before .before .before .before .before .before .before .before .before .before .before .before .args .disk .now in
+    let x = c .before .before .before .before .before .before .before .before .before .before .restart in
+    let p = c .before .before .before .before .before .before .before .before .before .before .before .before .before .before .pointer-of in
+    let e = listing-found disk (x .result) (x .ensures .0) (p .result) (p .ensures) (c .before .before .before .match .keys2) in
+    (listed (sym e) (put-front (zeros (c .before .before .before .before)) (found-short (short (c .before .before .before .before .before .before .before .before .before .before))) (c .put-found .ensures)), x .ensures .1 .0)
+
+pub list-spec : {M : Type 1} → statement M
+list-spec =
+    tie.close
+    (tie.spec
+    pointer-of-requires
+    slice-aggregate-restart
+    slice-aggregate-restart-2
+    restart-requires
+    fill-zero-requires
+    enum-known-answer
+    slice-aggregate-put-line
+    cast-put-line
+    put-line-requires
+    same-length
+    returns
+    put-found-requires
+    same-length-2
+    returns-2)

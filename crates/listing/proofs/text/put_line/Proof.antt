@@ -1,0 +1,45 @@
+use native.Mathlib.Omega.{arith}
+use mathlib.Core.Path.{_∙_}
+use lib.ListN.{length-set}
+use borrow.Author.Needs.{needs}
+use Rattle.listing.specs.Text.{line}
+use Rattle.listing.proofs.Decimal.{length-line}
+use Rattle.listing.proofs.Putting.{put-one, put-copy, put-then}
+use Rattle.listing.proofs.text.put_line.Statement.{statement}
+use Rattle.listing.proofs.text.put_line.Tie as tie
+
+copy-requires : tie.Need-copy-requires
+copy-requires c κs = omega (arith, c .before .before .before .pre, length-line (c .before .before .before .args .name .now) (c .before .before .before .args .n))
+
+add-put-decimal : tie.Need-add-put-decimal
+add-put-decimal c = search needs
+
+put-decimal-requires : tie.Need-put-decimal-requires
+put-decimal-requires c κs = omega (arith, c .before .before .before .before .before .before .before .pre, c .before .before .before .copy .kept .0, length-line (c .before .before .before .before .before .before .before .args .name .now) (c .before .before .before .before .before .before .before .args .n))
+
+slice-write-out : tie.Need-slice-write-out
+slice-write-out c =
+    omega (arith, c .before .before .before .before .before .before .before .before .before .before .pre, c .before .before .before .before .before .before .copy .kept .0, c .before .before .put-decimal .kept .0, c .before .before .put-decimal .ensures .ends, length-line (c .before .before .before .before .before .before .before .before .before .before .args .name .now) (c .before .before .before .before .before .before .before .before .before .before .args .n))
+
+add-result : tie.Need-add-result
+add-result c = omega (arith, c .before .before .before .before .before .before .before .before .before .before .pre, c .before .before .put-decimal .ensures .ends, length-line (c .before .before .before .before .before .before .before .before .before .before .args .name .now) (c .before .before .before .before .before .before .before .before .before .before .args .n))
+
+same-length : tie.Need-same-length
+same-length c = length-set (c .before .before .put-decimal .last .0) (c .before .before .put-decimal .result) 10 ∙ c .before .before .put-decimal .kept .0 ∙ c .before .before .before .before .before .before .copy .kept .0
+
+returns : tie.Need-returns
+unfolding line
+returns c =
+    put-then (put-copy (c .before .before .before .before .before .before .before .before .before .before .args .out .now) (c .before .before .before .before .before .before .before .before .before .before .args .at) (c .before .before .before .before .before .before .before .before .before .before .args .name .now) _ (c .before .before .before .before .before .before .copy .ensures)) (put-then (c .before .before .put-decimal .ensures) (put-one (c .before .before .put-decimal .last .0) (c .before .before .put-decimal .result) 10))
+
+pub put-line-spec : {M : Type 1} → statement M
+put-line-spec =
+    tie.close
+    (tie.spec
+    copy-requires
+    add-put-decimal
+    put-decimal-requires
+    slice-write-out
+    add-result
+    same-length
+    returns)

@@ -1,0 +1,37 @@
+-- Program disklist: "reads one disk on standard input, runs restart on a copy and prints" what it found.
+use Prim.Native.Nat.{ℕ, _-_, _≤_}
+use mathlib.Core.List.{List, [], _++_}
+use mathlib.Core.Path.{_≡_}
+use lib.ListN.{length, take, replicate}
+use Rattle.store.specs.declared.Answer.{Answer}
+use Rattle.store.specs.declared.Answer.the-variants.{Done, Cut, Refused}
+use Rattle.disk.specs.declared.call.Restarted.{Restarted}
+use Rattle.disk.specs.Layout.{pointerOf}
+use Rattle.disk.specs.Restart.{Outcome, restartOf}
+use Rattle.listing.specs.Text.{foundText, refusedText}
+
+-- the log has 16,384 bytes, so no restart needs more stores
+abbrev pub restarted : List ℕ → Outcome
+restarted disk = restartOf disk (replicate 4096 0) (replicate 16384 0) 16384
+
+-- it is never cut: `uncut` (proofs/Endings.antt)
+abbrev pub told : ℕ → Restarted → Answer → List ℕ
+told pointer r Done = foundText pointer (r .state .logend) (r .state .ondisk .0) (r .state .lastid .0) (r .undone)
+told pointer r Cut = []
+told pointer r (Refused n) = refusedText n
+
+-- a wrong length is restart's number 1
+unfoldable pub listingOf : List ℕ → List ℕ
+listingOf disk = told (pointerOf disk) (restarted disk .result) (restarted disk .result .answer)
+
+-- a text at the front of 64 bytes, zeros after it
+abbrev pub padded : List ℕ → List ℕ
+padded text = text ++ replicate (64 - length text) 0
+
+-- the text stands at the front of out and r is its length. `within` and `part` follow from the others; they are stated so that the proof that
+-- Rattle makes of `&out[..r]` finds them.
+pub record Listed (text : List ℕ) (r : ℕ) (out : List ℕ) : Type 0 where
+  pub size : r ≡ length text
+  pub bytes : out ≡ padded text
+  pub within : r ≤ length out
+  pub part : r ≡ length (take r out)

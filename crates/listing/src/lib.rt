@@ -1,0 +1,39 @@
+// disklist's text: what restart finds on a disk (document 01, "Program disklist").
+mod text;
+
+use crate::text::put_found;
+use crate::text::put_line;
+use disk::call::restart;
+use log::stores::fill_zero;
+use store::Answer;
+ghost use mathlib.Core.Path.{_≡_};
+ghost use Rattle.disk.specs.Layout.{pointerOf};
+ghost use Rattle.listing.specs.Listing.{restarted, listingOf, Listed};
+
+// 0 of no bytes at all, which restart refuses.
+fn pointer_of(disk: &[u8]) -> u8
+    ensures { λ r. ⌜ r ≡ pointerOf (now (disk .entry)) ⌝ }
+{
+    if disk.len() == 0 {
+        return 0;
+    }
+    disk[0]
+}
+
+// Runs restart on the copy that is lent, with stores enough. The text goes to the front of out, zeros after it; its length is returned.
+pub fn list(disk: &mut [u8], out: &mut [u8; 64]) -> usize
+    ensures { λ r. ⌜ Listed (listingOf (now (disk .entry))) r (now (out .exit)) ⌝ }
+    ensures { λ _. ⌜ now (disk .exit) ≡ restarted (now (disk .entry)) .disk ⌝ }
+{
+    let pointer = pointer_of(&*disk);
+    let mut memory = [0u8; 4096];
+    let mut tail = [0u8; 16384];
+    let found = restart(disk, &mut memory, &mut tail, 16384);
+    let answer = found.answer;
+    fill_zero(out);
+    if let Answer::Refused(number) = answer {
+        return put_line(out, 0, b"refused=", number as u32);
+    }
+    let state = found.state;
+    put_found(out, pointer, state, found.undone)
+}

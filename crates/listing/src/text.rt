@@ -1,0 +1,44 @@
+// Lines of text: a name, a number in decimal, a line feed.
+use log::stores::copy;
+use store::State;
+ghost use mathlib.Core.Path.{_≡_};
+ghost use Prim.Native.Nat.{_+_, _≤_};
+ghost use lib.ListN.{length};
+ghost use Rattle.listing.specs.Text.{decimal, line, foundText, Put};
+
+// n in decimal from at on. Returns where it ends.
+fn put_decimal(out: &mut [u8], at: usize, n: u32) -> usize
+    requires { ⌜ at + length (decimal n) ≤ length (now out) ⌝ }
+    ensures { λ r. ⌜ Put (now (out .entry)) at (decimal n) r (now (out .exit)) ⌝ }
+{
+    if n < 10 {
+        out[at] = (48 + n) as u8;
+        return at + 1;
+    }
+    let end = put_decimal(out, at, n / 10);
+    out[end] = (48 + n % 10) as u8;
+    end + 1
+}
+
+// A line from at on. Returns where it ends.
+pub(crate) fn put_line(out: &mut [u8], at: usize, name: &[u8], n: u32) -> usize
+    requires { ⌜ at + length (line (now name) n) ≤ length (now out) ⌝ }
+    ensures { λ r. ⌜ Put (now (out .entry)) at (line (now (name .entry)) n) r (now (out .exit)) ⌝ }
+{
+    copy(out, at, name);
+    let end = put_decimal(out, at + name.len(), n);
+    out[end] = 10;
+    end + 1
+}
+
+// The five lines of a restart that was done. Returns where they end.
+pub(crate) fn put_found(out: &mut [u8], pointer: u8, state: State, undone: usize) -> usize
+    requires { ⌜ (length (now out) ≡ 64) × (undone ≤ 4096) ⌝ }
+    ensures { λ r. ⌜ Put (now (out .entry)) 0 (foundText pointer (state .logend) (state .ondisk .0) (state .lastid .0) undone) r (now (out .exit)) ⌝ }
+{
+    let mut at = put_line(out, 0, b"pointer=", pointer as u32);
+    at = put_line(out, at, b"end=", state.logend as u32);
+    at = put_line(out, at, b"csn=", state.ondisk.0);
+    at = put_line(out, at, b"id=", state.lastid.0 as u32);
+    put_line(out, at, b"undone=", undone as u32)
+}
