@@ -15,18 +15,19 @@ use Rattle.store.proofs.Answer.{the-type}
 use Rattle.store.specs.declared.Answer.{Answer}
 use Rattle.store.specs.declared.Answer.the-variants.{Done, Cut, Refused}
 use Rattle.store.specs.Answer.{cut, answer}
+use Rattle.store.specs.Stored.{DiskOutcome}
 use Rattle.disk.specs.declared.call.Restarted.{Restarted}
 use Rattle.disk.specs.Layout.{pointerOf}
 use Rattle.disk.specs.Examine.{examineOf}
-use Rattle.disk.specs.Restart.{Outcome, refusedRestart, doneRestart}
+use Rattle.disk.specs.Restart.{refusedRestart}
 use Rattle.disk.proofs.Examining.{roomy}
-use Rattle.disk.proofs.Restarting.{restart-1, restart-refused, restart-done}
+use Rattle.disk.proofs.Restarting.{doneFrom, restart-1, restart-refused, restart-done}
 use Rattle.listing.specs.Text.{foundText, refusedText}
 use Rattle.listing.specs.Listing.{restarted, listingOf}
 
 pub data Ending (disk : List ℕ) : Type 0 where
   refused : (n : ℕ) → restarted disk .result ≡ refusedRestart n → Ending disk
-  done : restarted disk ≡ doneRestart (examineOf disk) disk 16384 → Ending disk
+  done : restarted disk ≡ doneFrom (examineOf disk) disk 16384 → Ending disk
 
 abbrev memory : List ℕ
 memory = replicate 4096 0
@@ -34,8 +35,8 @@ memory = replicate 4096 0
 abbrev tail : List ℕ
 tail = replicate 16384 0
 
-result : {x y : Outcome} → x ≡ y → x .result ≡ y .result
-result e = ap (λ (o : Outcome). o .result) e
+result : {x y : DiskOutcome Restarted} → x ≡ y → x .result ≡ y .result
+result e = ap (λ (o : DiskOutcome Restarted). o .result) e
 
 pub ending : (disk : List ℕ) → Ending disk
 ending disk = go (eqb (length disk) 33691) (eqb (examineOf disk .result .number) 0) refl refl
@@ -61,7 +62,7 @@ uncut disk c = go (ending disk)
   where
     go : Ending disk → ⊥
     go (refused n e) = clash (cc (refused-answer n, ap (λ (r : Restarted). r .answer) e))
-    go (done e) = clash (cc (ap (λ (o : Outcome). o .result .answer) e))
+    go (done e) = clash (cc (ap (λ (o : DiskOutcome Restarted). o .result .answer) e))
 
 refused-none : (n : ℕ) → refusedRestart n .undone ≡ 0
 unfolding refusedRestart
@@ -73,7 +74,7 @@ few-undone disk = go (ending disk)
   where
     go : Ending disk → restarted disk .result .undone ≤ 4096
     go (refused n e) = omega (arith, ap (λ (r : Restarted). r .undone) e, refused-none n)
-    go (done e) = omega (arith, ap (λ (o : Outcome). o .result .undone) e, roomy disk)
+    go (done e) = omega (arith, ap (λ (o : DiskOutcome Restarted). o .result .undone) e, roomy disk)
 
 -- ---- the text by cases
 
@@ -101,4 +102,4 @@ module _ (disk : List ℕ) (r : Restarted) (e : r ≡ restarted disk .result) wh
     where
       go : Ending disk → Found pointer
       go (refused n x) = absurd (refused-tag n (r .answer) (ap (λ (y : Restarted). y .answer) (e ∙ x) ∙ refused-answer n) k)
-      go (done x) = listing-done pointer p (ap (λ (y : Restarted). y .answer) e ∙ ap (λ (o : Outcome). o .result .answer) x)
+      go (done x) = listing-done pointer p (ap (λ (y : Restarted). y .answer) e ∙ ap (λ (o : DiskOutcome Restarted). o .result .answer) x)

@@ -5,13 +5,14 @@ use mathlib.Core.Path.{_≡_}
 use lib.ListN.{length, take, replicate}
 use Rattle.store.specs.declared.Answer.{Answer}
 use Rattle.store.specs.declared.Answer.the-variants.{Done, Cut, Refused}
+use Rattle.store.specs.Stored.{DiskOutcome}
 use Rattle.disk.specs.declared.call.Restarted.{Restarted}
 use Rattle.disk.specs.Layout.{pointerOf}
-use Rattle.disk.specs.Restart.{Outcome, restartOf}
+use Rattle.disk.specs.Restart.{restartOf}
 use Rattle.listing.specs.Text.{foundText, refusedText}
 
 -- the log has 16,384 bytes, so no restart needs more stores
-abbrev pub restarted : List ℕ → Outcome
+abbrev pub restarted : List ℕ → DiskOutcome Restarted
 restarted disk = restartOf disk (replicate 4096 0) (replicate 16384 0) 16384
 
 -- it is never cut: `uncut` (proofs/Endings.antt)
