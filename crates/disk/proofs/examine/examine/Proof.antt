@@ -5,7 +5,7 @@ use mathlib.Core.Bool.{true}
 use mathlib.Core.List.{List}
 use mathlib.Core.Path.{_≡_, sym, ap, _∙_}
 use lib.ListN.{length, take, drop, replicate}
-use Rattle.log.proofs.Basics.{not-yes, not-no}
+use borrow.Author.Tests.{not-true, not-false}
 use Rattle.image.specs.declared.Image.{Image}
 use Rattle.image.specs.Rules.{keepsRules}
 use Rattle.image.proofs.Rules.{image-logend}
@@ -55,7 +55,7 @@ returns-2 : tie.Need-returns-2
 returns-2 c =
     let l = c .before .before .before .before .before .before .before .before .before .before .before in
     let r = c .before .before .before .before .refuse2 .ensures in
-    let e = means-4 (entry l .args .disk .now) (l .before .before .if1 .left) (l .load .result) (l .load .last .1 .1 .0) (l .load .ensures .0) (l .load .ensures .1) (not-yes _ (c .before .before .before .before .before .before .before .if2 .taken)) in
+    let e = means-4 (entry l .args .disk .now) (l .before .before .if1 .left) (l .load .result) (l .load .last .1 .1 .0) (l .load .ensures .0) (l .load .ensures .1) (not-true _ (c .before .before .before .before .before .before .before .if2 .taken)) in
     told e (r .0) (r .1 .0) (r .1 .1)
 
 abbrev loaded : tie.Else2 → tie.After-load
@@ -65,7 +65,7 @@ loaded c = c .before .before .before .before
 kept : (c : tie.Else2) → keepsRules (loaded c .load .result .image) ≡ true
 kept c =
     let l = loaded c in
-    keeps (entry l .args .disk .now) (l .before .before .if1 .left) (l .load .result) (l .load .last .1 .1 .0) (l .load .ensures .0) (l .load .ensures .1) (not-no _ (c .if2 .left))
+    keeps (entry l .args .disk .now) (l .before .before .if1 .left) (l .load .result) (l .load .last .1 .1 .0) (l .load .ensures .0) (l .load .ensures .1) (not-false _ (c .if2 .left))
 
 start : (c : tie.Else2) → loaded c .load .result .image .logend ≤ 16384
 start c = image-logend (loaded c .load .result .image) (kept c)
@@ -162,7 +162,7 @@ returns-3 c =
     let l = loaded (passed x) in
     let r = c .before .before .before .before .refuse3 .ensures in
     let f = found x in
-    let e = means-5 (diskAt x) (l .before .before .if1 .left) (l .load .result) (memoryAt x) (l .load .ensures .0) (l .load .ensures .1) (not-no _ (passed x .if2 .left))
+    let e = means-5 (diskAt x) (l .before .before .if1 .left) (l .load .result) (memoryAt x) (l .load .ensures .0) (l .load .ensures .1) (not-false _ (passed x .if2 .left))
     (omega (arith, c .before .before .before .before .before .before .before .if3 .taken, ap (λ (y : Recovered). y .end) f, ap (λ (y : Recovered). y .undone) f)) in
     told e (r .0) (r .1 .0) (r .1 .1)
 
@@ -177,7 +177,7 @@ returns-4 c =
     let x = c .before .before .before .before .before .before .before .before .before .before in
     let l = loaded (passed x) in
     let f = found x in
-    let e = means (diskAt x) (l .before .before .if1 .left) (l .load .result) (memoryAt x) (l .load .ensures .0) (l .load .ensures .1) (not-no _ (passed x .if2 .left))
+    let e = means (diskAt x) (l .before .before .if1 .left) (l .load .result) (memoryAt x) (l .load .ensures .0) (l .load .ensures .1) (not-false _ (passed x .if2 .left))
     (omega (arith, c .before .before .before .if3 .left, ap (λ (y : Recovered). y .end) f, ap (λ (y : Recovered). y .undone) f)) in
     told e
     (ap (λ (y : Recovered). record { number = 0; end = imageAt x .logend + y .end; csn = y .csn; last = y .last; undone = y .undone; found = y .found }) f)
