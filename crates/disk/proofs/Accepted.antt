@@ -14,15 +14,13 @@ use Rattle.log.specs.Log.{encodeLog}
 use Rattle.image.specs.declared.Image.{Image}
 use Rattle.image.specs.Rules.{keepsRules}
 use Rattle.image.specs.Reading.{memoryOf}
-use Rattle.image.specs.Pack.{emptyImage}
-use Rattle.image.specs.Decode.{decodeOf}
 use Rattle.restart.specs.Slots.{txsOf}
 use Rattle.restart.specs.Forward.{groupsOf, forwardOf}
 use Rattle.restart.specs.Undo.{undoneOf}
 use Rattle.restart.specs.Restart.{Outcome, restartOf}
 use Rattle.restart.proofs.Recovery.{memory-is}
 use Rattle.disk.specs.Layout.{pointerOf, slotOf, imagePart, logFrom}
-use Rattle.disk.specs.Examine.{Loaded, loadOf, Meaning, refusedBy, stepsOf, meant, examineOf}
+use Rattle.disk.specs.Examine.{noImage, imageNamed, loadOf, Meaning, refusedBy, stepsOf, meant, examineOf}
 use Rattle.disk.proofs.Loading.{slot-within}
 use Rattle.disk.proofs.Examining.{keeps, means-3, means-4, means-5, means}
 
@@ -82,12 +80,7 @@ loaded-length : (pointer : ℕ) (disk : List ℕ) → length disk ≡ 33691 → 
 unfolding loadOf memoryOf
 loaded-length pointer disk d = go (eqb pointer 0)
   where
-    choice : Bool → Loaded
-    choice b =
-        cond b (record { decoded = record { ok = true; image = emptyImage }; memory = replicate 4096 0 })
-        (record { decoded = decodeOf (imagePart pointer disk); memory = memoryOf (imagePart pointer disk) })
-
-    go : (b : Bool) → length (choice b .memory) ≡ 4096
+    go : (b : Bool) → length (cond b noImage (imageNamed pointer disk) .memory) ≡ 4096
     go true = length-replicate {A = ℕ} 4096 0
     go false =
         let s = slot-within pointer in

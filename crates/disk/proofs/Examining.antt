@@ -12,16 +12,14 @@ use Rattle.log.proofs.LogLaws.{log-within}
 use Rattle.image.specs.declared.Image.{Image}
 use Rattle.image.specs.declared.read.Decoded.{Decoded}
 use Rattle.image.specs.Rules.{keepsRules}
-use Rattle.image.specs.Reading.{memoryOf}
 use Rattle.image.specs.Pack.{emptyImage}
-use Rattle.image.specs.Decode.{decodeOf}
 use Rattle.image.proofs.Rules.{image-logend, image-count}
 use Rattle.image.proofs.Soundness.{decode-keeps}
 use Rattle.restart.specs.Restart.{Outcome, restartOf}
 use Rattle.restart.proofs.Recovery.{end-is, count-is, undone-few}
 use Rattle.disk.specs.declared.examine.Examined.{Examined}
 use Rattle.disk.specs.Layout.{pointerOf, imagePart, logFrom}
-use Rattle.disk.specs.Examine.{Loaded, loadOf, Meaning, refusedBy, stepsOf, meant, fitting, ofLoaded, examineOf}
+use Rattle.disk.specs.Examine.{noImage, imageNamed, loadOf, Meaning, refusedBy, stepsOf, meant, fitting, ofLoaded, examineOf}
 
 -- ---- what was loaded keeps the image rules
 
@@ -29,12 +27,7 @@ loaded-keeps : (pointer : ℕ) (disk : List ℕ) → loadOf pointer disk .decode
 unfolding loadOf emptyImage
 loaded-keeps pointer disk = go (eqb pointer 0)
   where
-    choice : Bool → Loaded
-    choice b =
-        cond b (record { decoded = record { ok = true; image = emptyImage }; memory = replicate 4096 0 })
-        (record { decoded = decodeOf (imagePart pointer disk); memory = memoryOf (imagePart pointer disk) })
-
-    go : (b : Bool) → choice b .decoded .ok ≡ true → keepsRules (choice b .decoded .image) ≡ true
+    go : (b : Bool) → cond b noImage (imageNamed pointer disk) .decoded .ok ≡ true → keepsRules (cond b noImage (imageNamed pointer disk) .decoded .image) ≡ true
     go true e = refl
     go false e = decode-keeps (imagePart pointer disk) e
 

@@ -4,17 +4,15 @@ use native.Mathlib.Omega.{arith}
 use mathlib.Core.Bool.{Bool, true, false, cond}
 use mathlib.Core.List.{List}
 use mathlib.Core.Path.{_≡_, sym, ap, _∙_}
-use lib.ListN.{length, take, drop, replicate, length-drop}
+use lib.ListN.{length, take, drop, length-drop}
 use lib.Seq.{sets, take-take, drop-drop, length-take-le}
 use lib.Dec.{eqb}
 use borrow.Author.Tests.{ne-eqb}
 use Rattle.log.proofs.RoundTrip.{drop-take}
 use Rattle.log.proofs.StoreLaws.{sets-all}
 use Rattle.image.specs.Reading.{memoryOf}
-use Rattle.image.specs.Pack.{emptyImage}
-use Rattle.image.specs.Decode.{decodeOf}
-use Rattle.disk.specs.Layout.{slotOf, imagePart}
-use Rattle.disk.specs.Examine.{loadOf}
+use Rattle.disk.specs.Layout.{slotOf}
+use Rattle.disk.specs.Examine.{noImage, imageNamed, loadOf}
 
 pub slot-within : (pointer : ℕ) → slotOf pointer ≤ 8654
 slot-within pointer = go (eqb pointer 1)
@@ -24,12 +22,12 @@ slot-within pointer = go (eqb pointer 1)
     go false = omega arith
 
 pub load-none : (pointer : ℕ) (disk : List ℕ) → pointer ≡ 0
-    → loadOf pointer disk ≡ record { decoded = record { ok = true; image = emptyImage }; memory = replicate 4096 0 }
+    → loadOf pointer disk ≡ noImage
 unfolding loadOf
 load-none pointer disk e = rw e
 
 pub load-image : (pointer : ℕ) (disk : List ℕ) → (pointer ≡ 0 → ⊥)
-    → loadOf pointer disk ≡ record { decoded = decodeOf (imagePart pointer disk); memory = memoryOf (imagePart pointer disk) }
+    → loadOf pointer disk ≡ imageNamed pointer disk
 unfolding loadOf
 load-image pointer disk n = rw (ne-eqb pointer 0 n)
 

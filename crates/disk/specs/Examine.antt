@@ -18,10 +18,14 @@ pub record Loaded : Type 0 where
   pub memory : List ℕ
 
 -- Step 1: "Take the image named (none: zero memory, counters 0, no transactions, log end 0)."
+abbrev pub noImage : Loaded
+noImage = record { decoded = record { ok = true; image = emptyImage }; memory = replicate 4096 0 }
+
+abbrev pub imageNamed : ℕ → List ℕ → Loaded
+imageNamed pointer disk = record { decoded = decodeOf (imagePart pointer disk); memory = memoryOf (imagePart pointer disk) }
+
 unfoldable pub loadOf : ℕ → List ℕ → Loaded
-loadOf pointer disk =
-    cond (eqb pointer 0) (record { decoded = record { ok = true; image = emptyImage }; memory = replicate 4096 0 })
-    (record { decoded = decodeOf (imagePart pointer disk); memory = memoryOf (imagePart pointer disk) })
+loadOf pointer disk = cond (eqb pointer 0) noImage (imageNamed pointer disk)
 
 -- what is answered, and what stands in memory and tail then
 pub record Meaning : Type 0 where

@@ -129,7 +129,7 @@ abbrev pub UndosAt : List ℕ → List Write → Type 0
 UndosAt s [] = Unit
 UndosAt s (u ∷ us) = (undoHere s ≡ true) × (u ≡ firstUndo s) × UndosAt (drop (3 + getD s 2 0) s) us
 
-and-then-inv : (u : Write) (x : Option (List Write)) (us : List Write) → andThen u x ≡ some us → (vs : List Write) × (x ≡ some vs) × (us ≡ u ∷ vs)
+pub and-then-inv : {A : Type 0} (u : A) (x : Option (List A)) (us : List A) → andThen u x ≡ some us → (vs : List A) × (x ≡ some vs) × (us ≡ u ∷ vs)
 and-then-inv u none us e = clash (cc)
 and-then-inv u (some vs) us e = (vs, refl, cc)
 

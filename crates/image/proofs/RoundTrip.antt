@@ -25,7 +25,7 @@ use Rattle.image.specs.Slots.{slotAt, listed, outlineAt}
 use Rattle.image.specs.Rules.{imageOk, keepsRules}
 use Rattle.image.specs.Content.{Saved, saved, Content, savedAt, savedIn, contentOf, rangeOf, outlineIn, contentOk, transactionOf, withoutRedo, transactionsIn}
 use Rattle.image.specs.Format.{encodeHead, encodeUndo, encodeUndos, encodeTx, encodeTxs, encodeContent, encodeImage, undosIn, txSize, imageSize}
-use Rattle.image.specs.Reading.{undoHere, firstUndo, readUndos, savedIf, readTx, andTx, onTx, readTxs, contentIf, readContent, memoryOf}
+use Rattle.image.specs.Reading.{undoHere, firstUndo, readUndos, savedIf, readTx, onTx, readTxs, contentIf, readContent, memoryOf}
 use Rattle.image.specs.Pack.{packed}
 use Rattle.image.specs.Decode.{decodeOf}
 use Rattle.image.proofs.Lists.{up-map}
@@ -75,8 +75,8 @@ txs-written (t ∷ ts) rest k =
     let r = encodeTxs ts ++ rest in
     ap (readTxs (suc (length ts))) (append-assoc (encodeTx t) (encodeTxs ts) rest)
     ∙ ap (onTx (readTxs (length ts)) (encodeTx t ++ r)) (tx-written t r (k .0))
-    ∙ ap (λ (s : List ℕ). andTx t (readTxs (length ts) s)) (drop-at (encodeTx t) r (txSize t) (length-tx t))
-    ∙ ap (andTx t) (txs-written ts rest (k .1))
+    ∙ ap (λ (s : List ℕ). andThen t (readTxs (length ts) s)) (drop-at (encodeTx t) r (txSize t) (length-tx t))
+    ∙ ap (andThen t) (txs-written ts rest (k .1))
 
 -- ---- the whole
 

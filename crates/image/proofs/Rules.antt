@@ -6,10 +6,10 @@ use mathlib.Core.List.{List}
 use mathlib.Core.Path.{_≡_, refl, sym, ap, _∙_, subst}
 use lib.ListN.{length}
 use lib.Dec.{eqb, leb}
-use borrow.Author.Tests.{le-leb, lt-leb, leb-true, eqb-true, eqb-false}
+use borrow.Author.Tests.{le-leb, lt-leb, leb-true, eqb-true, eqb-false, not-true}
 use Rattle.recovery.specs.Lists.{any}
 use Rattle.recovery.proofs.Lists.{none-any}
-use Rattle.log.proofs.Basics.{and-left, and-right, not-yes}
+use Rattle.log.proofs.Basics.{and-left, and-right}
 use Rattle.transaction.specs.declared.Tx.{Tx}
 use Rattle.transaction.specs.Lists.{upFrom, every}
 use Rattle.transaction.specs.View.{Outline, rangesOf}
@@ -128,7 +128,7 @@ distinct-at o (suc k) i e x y a b c =
 
     go : (t : Bool) → eqb x i ≡ t → (suc i ≤ x → alikeTo (o x) (o y) ≡ false) → alikeTo (o x) (o y) ≡ false
     go true q f =
-        let none = none-any (alikeTo (o i)) later (not-yes _ (and-left (not (any (alikeTo (o i)) later)) (distinct later) e)) in
+        let none = none-any (alikeTo (o i)) later (not-true _ (and-left (not (any (alikeTo (o i)) later)) (distinct later) e)) in
         subst (λ (n : ℕ). alikeTo (o n) (o y) ≡ false) (sym (eqb-true x i q)) (all-at o k (suc i) none y (omega (arith, eqb-true x i q)) (omega arith))
     go false q f = let d = eqb-false x i q in f (omega (arith, d))
 

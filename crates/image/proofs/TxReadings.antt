@@ -13,6 +13,7 @@ use borrow.Author.Tests.{le-leb, lt-leb, leb-true}
 use Rattle.recovery.specs.Group.{Write}
 use Rattle.log.specs.Number.{be2, be4}
 use Rattle.log.proofs.Basics.{clash, and-both}
+use Rattle.log.specs.Group.{andThen}
 use Rattle.transaction.specs.declared.Records.{Records}
 use Rattle.transaction.specs.declared.Tx.{Tx}
 use Rattle.transaction.specs.Flat.{emptyTx}
@@ -25,10 +26,10 @@ use Rattle.image.specs.declared.read.TxsRead.{TxsRead}
 use Rattle.image.specs.Rules.{keepsRules}
 use Rattle.image.specs.Content.{Saved, saved, Content, rangeOf, contentOk}
 use Rattle.image.specs.Format.{undosIn, undosSize, txSize, txsSize}
-use Rattle.image.specs.Reading.{readUndos, savedIf, readTx, andTx, onTx, readTxs, contentIf, readContent, keepingRules}
+use Rattle.image.specs.Reading.{readUndos, savedIf, readTx, onTx, readTxs, contentIf, readContent, keepingRules}
 use Rattle.image.specs.Pack.{pushedAll, packedTx, packedTxs, packed}
 use Rattle.image.specs.Decode.{noUndos, noTxRead, noTxs, notDecoded, undosRead, txRead, txsRead, decodedOf, decodeOf}
-use Rattle.image.proofs.Readings.{UndosAt, undos-inv, undos-kept}
+use Rattle.image.proofs.Readings.{and-then-inv, UndosAt, undos-inv, undos-kept}
 use Rattle.image.proofs.Pushing.{UndosOk}
 use Rattle.image.proofs.Packing.{TxsOk, packed-rules}
 
@@ -105,7 +106,7 @@ tx-some (some t) x e f = (t, refl, ap (λ (u : TxRead). u .tx) e, ap (λ (u : Tx
 txs-turn : (t : List ℕ) (n k : ℕ) → k < n → readTxs (n - k) t ≡ onTx (readTxs (n - (k + 1))) t (readTx t)
 txs-turn t n k h = let e : n - k ≡ suc (n - (k + 1)) = omega arith in ap (λ (j : ℕ). readTxs j t) e
 
-txs-laid : (txs : List Tx) (k : ℕ) (t : Saved) (y : Option (List Saved)) → txsRead txs k (andTx t y) ≡ txsRead (set txs k (packedTx t)) (k + 1) y
+txs-laid : (txs : List Tx) (k : ℕ) (t : Saved) (y : Option (List Saved)) → txsRead txs k (andThen t y) ≡ txsRead (set txs k (packedTx t)) (k + 1) y
 txs-laid txs k t none = refl
 txs-laid txs k t (some ts) = ap (λ (j : ℕ). record { ok = true; txs = sets (set txs k (packedTx t)) j (map packedTx ts) }) (sym (add-one k))
 
@@ -137,10 +138,6 @@ abbrev pub TxsAt : List ℕ → List Saved → Type 0
 TxsAt s [] = Unit
 TxsAt s (t ∷ ts) = TxAt s t × TxsAt (drop (txSize t) s) ts
 
-and-tx-inv : (t : Saved) (y : Option (List Saved)) (ts : List Saved) → andTx t y ≡ some ts → (us : List Saved) × (y ≡ some us) × (ts ≡ t ∷ us)
-and-tx-inv t none ts e = clash (cc)
-and-tx-inv t (some us) ts e = (us, refl, cc)
-
 pub txs-inv : (k : ℕ) (s : List ℕ) (ts : List Saved) → readTxs k s ≡ some ts → (length ts ≡ k) × TxsAt s ts
 txs-inv zero s [] e = (refl, tt)
 txs-inv zero s (t ∷ ts) e = clash (cc)
@@ -150,7 +147,7 @@ txs-inv (suc k) s ts e = go (readTx s) refl e (txs-inv k)
         → ((r : List ℕ) (us : List Saved) → readTxs k r ≡ some us → (length us ≡ k) × TxsAt r us) → (length ts ≡ suc k) × TxsAt s ts
     go none q f ih = clash (cc)
     go (some t) q f ih =
-        let w = and-tx-inv t (readTxs k (drop (txSize t) s)) ts f in
+        let w = and-then-inv t (readTxs k (drop (txSize t) s)) ts f in
         let i = ih (drop (txSize t) s) (w .0) (w .1) in
         subst (λ (l : List Saved). (length l ≡ suc k) × TxsAt s l) (sym (w .2)) (ap suc (i .0), (tx-inv s t q, i .1))
 

@@ -2,7 +2,7 @@
 -- on it. Counts and lengths are tested before they are stepped over, so that a reading lies within the list.
 use Prim.Native.Nat.{ℕ, zero, suc, _+_}
 use mathlib.Core.Bool.{Bool, cond, _&&_}
-use mathlib.Core.List.{List, [], _∷_}
+use mathlib.Core.List.{List, []}
 use mathlib.Core.Option.{Option, none, some}
 use lib.ListN.{length, getD, take, drop}
 use lib.Dec.{leb}
@@ -36,13 +36,9 @@ readTx s =
     (savedIf (be2 s 0) (getD s 2 0) (be4 s 3) (readUndos (getD s 7 0) (drop 8 s)))
     none
 
-abbrev pub andTx : Saved → Option (List Saved) → Option (List Saved)
-andTx t none = none
-andTx t (some ts) = some (t ∷ ts)
-
 abbrev pub onTx : (List ℕ → Option (List Saved)) → List ℕ → Option Saved → Option (List Saved)
 onTx rest s none = none
-onTx rest s (some t) = andTx t (rest (drop (txSize t) s))
+onTx rest s (some t) = andThen t (rest (drop (txSize t) s))
 
 -- n transactions
 abbrev pub readTxs : ℕ → List ℕ → Option (List Saved)

@@ -2,7 +2,7 @@
 use Prim.Native.Nat.{ℕ, suc, _-_, _≤_, _<_}
 use native.Mathlib.Decide.{decLt}
 use native.Mathlib.Omega.{arith}
-use mathlib.Core.Bool.{Bool, true, false, not, _&&_}
+use mathlib.Core.Bool.{Bool, true, false, _&&_}
 use mathlib.Core.List.{List}
 use mathlib.Core.Path.{_≡_, refl}
 use lib.ListN.{length, getD, take, drop, List·getD-eq-default, length-drop}
@@ -19,14 +19,6 @@ and-left false b e = e
 pub and-right : (a b : Bool) → a && b ≡ true → b ≡ true
 and-right true b e = e
 and-right false b e = clash (cc)
-
-pub not-yes : (a : Bool) → not a ≡ true → a ≡ false
-not-yes true e = clash (cc)
-not-yes false e = refl
-
-pub not-no : (a : Bool) → not a ≡ false → a ≡ true
-not-no true e = refl
-not-no false e = clash (cc)
 
 pub and-both : (a b : Bool) → a ≡ true → b ≡ true → a && b ≡ true
 and-both a b p q = rw p q

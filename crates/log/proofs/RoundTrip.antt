@@ -10,13 +10,13 @@ use mathlib.Core.Path.{_≡_, refl, sym, ap, ap₂, _∙_, subst}
 use lib.ListN.{length, getD, take, drop, length-append}
 use lib.Seq.{getD-append-seam, take-append-seam, getD-take, take-take, take-nil, drop-at, drop-drop}
 use lib.Dec.{eqb}
-use borrow.Author.Tests.{eqb-true}
+use borrow.Author.Tests.{eqb-true, not-true}
 use Rattle.recovery.specs.Group.{Write, Group, committed, aborted, redoSize, groupSize, groupsSize, csnAfter, lastCsn}
 use Rattle.log.specs.Number.{be2}
 use Rattle.log.specs.Record.{Record, redo, commit, abort, size, encode, wellFormed, inRange, readRedo, readCommit, readAbort, readKind, readRecord}
 use Rattle.log.specs.Group.{encodeBody, encodeGroup, wellFormedBody, wellFormedGroup, readBody, readGroup}
 use Rattle.log.specs.Log.{readLog, encodeLog, wellFormedLog}
-use Rattle.log.proofs.Basics.{and-left, and-right, not-yes}
+use Rattle.log.proofs.Basics.{and-left, and-right}
 use Rattle.log.proofs.RecordLaws.{record-cases, record-named, record-by, redo-ends, commit-ends, abort-ends}
 use Rattle.log.proofs.GroupLaws.{body-inv, body-intro, group-inv, group-intro}
 use Rattle.log.proofs.LogLaws.{log-more, log-inv}
@@ -51,8 +51,8 @@ length-log (g ∷ gs) = length-append (encodeGroup g) (encodeLog gs) ∙ ap₂ _
 
 pub record-written : (r : Record) (rest : List ℕ) → wellFormed r ≡ true → readRecord (encode r ++ rest) ≡ some r
 unfolding readRedo readCommit readAbort
-record-written (abort id) rest h = record-by _ 3 id refl (joined2 id) (not-yes _ h)
-record-written (commit id n) rest h = record-by _ 2 id refl (joined2 id) (not-yes _ h) ∙ simp (joined2, joined4)
+record-written (abort id) rest h = record-by _ 3 id refl (joined2 id) (not-true _ h)
+record-written (commit id n) rest h = record-by _ 2 id refl (joined2 id) (not-true _ h) ∙ simp (joined2, joined4)
 record-written (redo id w) rest h =
     let bs = w .bytes in
     let n = length bs in
@@ -63,7 +63,7 @@ record-written (redo id w) rest h =
     let b : take n u ≡ bs = ap (take n) a ∙ take-append-seam bs (1 ∷ rest) in
     let named = not (eqb id 0) in
     let ranged = inRange (w .addr) n in
-    record-by s 1 id refl (joined2 id) (not-yes (eqb id 0) (and-left named ranged h)) ∙ simp (k, joined2, b, and-right named ranged h)
+    record-by s 1 id refl (joined2 id) (not-true (eqb id 0) (and-left named ranged h)) ∙ simp (k, joined2, b, and-right named ranged h)
   where
     six : 6 + length (w .bytes) ≡ suc (suc (suc (suc (suc (suc (length (w .bytes)))))))
     six = omega arith

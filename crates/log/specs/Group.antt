@@ -41,9 +41,9 @@ turnOf prev id (some (redo i w)) = cond (eqb i id) (more w) stop
 turnOf prev id (some (commit i csn)) = cond (eqb i id && eqb csn (prev + 1)) last stop
 turnOf prev id (some (abort i)) = stop
 
-abbrev pub andThen : Write → Option (List Write) → Option (List Write)
-andThen w none = none
-andThen w (some ws) = some (w ∷ ws)
+abbrev pub andThen : {A : Type 0} → A → Option (List A) → Option (List A)
+andThen x none = none
+andThen x (some xs) = some (x ∷ xs)
 
 abbrev pub onTurn : (ℕ → List ℕ → Option (List Write)) → ℕ → List ℕ → Turn → Option (List Write)
 onTurn rest id s (more w) = andThen w (rest id (drop (size (redo id w)) s))

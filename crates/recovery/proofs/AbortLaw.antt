@@ -6,12 +6,13 @@ use mathlib.Core.Bool.{Bool, true, false, not, cond}
 use mathlib.Core.List.{List, [], _∷_, _++_}
 use Prim.Native.Nat.{ℕ, _≤_}
 use lib.Dec.{eqb, ltb}
+use borrow.Author.Tests.{ne-eqb, ltb-false, not-true}
 use Rattle.recovery.specs.Group.{Write, Group, lastCsn}
 use Rattle.recovery.specs.Lists.{All, nil, cons, has}
 use Rattle.recovery.specs.Transaction.{Tx, running, committing}
 use Rattle.recovery.specs.Replay.{undoAll, undoEach}
 use Rattle.recovery.specs.Restart.{finished, undoRecords, undoOf, unfinished, sortDesc, above, undoOrder, undone, aborts, forward, recover}
-use Rattle.recovery.proofs.Bool.{eqb-no, not-ltb, not-true, or-both}
+use Rattle.recovery.proofs.Bool.{or-both}
 use Rattle.recovery.proofs.Lists.{all-map, all-append, all-left, all-right, all-filter, all-unfilter, all-passed}
 use Rattle.recovery.proofs.Distinct.{more, distinct-append, distinct-filter, distinct-left}
 use Rattle.recovery.proofs.Transactions.{DistinctIds, lookup-own, running-committing, isRunning, isCommitting, isAbove, isUnfinished}
@@ -57,7 +58,7 @@ forward-aborts {M = M} lay txs (v ∷ vs) f m (more n d) (cons h hs) (cons k ks)
   where
     both : {us : List Tx} → All (λ u. u .id ≢ v .id) us → All (λ u. has (u .id) f ≡ false) us → All (λ u. has (u .id) (v .id ∷ f) ≡ false) us
     both nil nil = nil
-    both (cons {x = u} p ps) (cons q qs) = cons {x = u} (or-both (eqb (u .id) (v .id)) (has (u .id) f) (eqb-no (u .id) (v .id) p) q) (both ps qs)
+    both (cons {x = u} p ps) (cons q qs) = cons {x = u} (or-both (eqb (u .id) (v .id)) (has (u .id) f) (ne-eqb (u .id) (v .id) p) q) (both ps qs)
 
 -- the law: vs are the first of those undone
 pub abort-law : {M : Type 0} (lay : Write → M → M) (txs : List Tx) (d : ℕ) (gs : List Group) (vs ws : List Tx) (m : M) → DistinctIds txs → undone txs d gs ≡ vs ++ ws
@@ -103,4 +104,4 @@ module _ (txs : List Tx) (d : ℕ) (gs : List Group) where
     where
       one : (c : Tx) (b : Bool) → ltb (lastCsn d gs) (c .csn) ≡ b → (ltb (lastCsn d gs) (c .csn) ≡ true → has (c .id) done ≡ true) → (has (c .id) done ≡ true) ⊎ (c .csn ≤ lastCsn d gs)
       one c true e h = inl (h e)
-      one c false e h = inr (not-ltb (lastCsn d gs) (c .csn) e)
+      one c false e h = inr (ltb-false (lastCsn d gs) (c .csn) e)

@@ -9,26 +9,22 @@ use native.Mathlib.Omega.{arith}
 use lib.Dec.{eqb}
 use lib.ListN.{length, getD, set}
 use lib.Seq.{sets, length-sets, lt-length-set, getD-set-same, getD-set-other, ext-getD}
+use borrow.Author.Tests.{eqb-true, ne-eqb, eqb-false}
 use Rattle.recovery.specs.Group.{Write, Group, committed, aborted}
-use Rattle.recovery.specs.Lists.{has}
+use Rattle.recovery.specs.Lists.{has, orElse}
 use Rattle.recovery.specs.Transaction.{Tx}
 use Rattle.recovery.specs.Replay.{redoAll, undoAll, undoEach, replay, layBytes}
 use Rattle.recovery.specs.Restart.{undoOf, undone, forward, recover}
-use Rattle.recovery.proofs.Bool.{eqb-yes, eqb-no, eqb-ne}
+use Rattle.recovery.proofs.Lists.{else-none, else-assoc}
 
 -- a value to set, or nothing
 abbrev pub act : Option ℕ → ℕ → ℕ
 act none v = v
 act (some b) v = b
 
--- the first of the two that says something
-abbrev pub first : Option ℕ → Option ℕ → Option ℕ
-first none y = y
-first (some b) y = some b
-
-pub act-first : (x y : Option ℕ) (v : ℕ) → act (first x y) v ≡ act x (act y v)
-act-first none y v = refl
-act-first (some b) y v = refl
+pub act-else : (x y : Option ℕ) (v : ℕ) → act (orElse x y) v ≡ act x (act y v)
+act-else none y v = refl
+act-else (some b) y v = refl
 
 -- what bytes from address i on, and a write, say at the address a
 abbrev pub seenAt : ℕ → ℕ → List ℕ → Option ℕ
@@ -43,45 +39,33 @@ layByte a w v = act (seen a w) v
 
 abbrev pub oldest : ℕ → List Write → Option ℕ
 oldest a [] = none
-oldest a (w ∷ ws) = first (seen a w) (oldest a ws)
+oldest a (w ∷ ws) = orElse (seen a w) (oldest a ws)
 
 abbrev pub newest : ℕ → List Write → Option ℕ
 newest a [] = none
-newest a (w ∷ ws) = first (newest a ws) (seen a w)
+newest a (w ∷ ws) = orElse (newest a ws) (seen a w)
 
 pub undo-oldest : (a : ℕ) (ws : List Write) (v : ℕ) → undoAll (layByte a) ws v ≡ act (oldest a ws) v
 undo-oldest a [] v = refl
-undo-oldest a (w ∷ ws) v = ap (λ (x : ℕ). act (seen a w) x) (undo-oldest a ws v) ∙ sym (act-first (seen a w) (oldest a ws) v)
+undo-oldest a (w ∷ ws) v = ap (λ (x : ℕ). act (seen a w) x) (undo-oldest a ws v) ∙ sym (act-else (seen a w) (oldest a ws) v)
 
 pub redo-newest : (a : ℕ) (ws : List Write) (v : ℕ) → redoAll (layByte a) ws v ≡ act (newest a ws) v
 redo-newest a [] v = refl
-redo-newest a (w ∷ ws) v = redo-newest a ws (act (seen a w) v) ∙ sym (act-first (newest a ws) (seen a w) v)
+redo-newest a (w ∷ ws) v = redo-newest a ws (act (seen a w) v) ∙ sym (act-else (newest a ws) (seen a w) v)
 
-pub oldest-append : (a : ℕ) (us vs : List Write) → oldest a (us ++ vs) ≡ first (oldest a us) (oldest a vs)
+pub oldest-append : (a : ℕ) (us vs : List Write) → oldest a (us ++ vs) ≡ orElse (oldest a us) (oldest a vs)
 oldest-append a [] vs = refl
-oldest-append a (w ∷ us) vs = go (seen a w) (oldest-append a us vs)
-  where
-    go : (o : Option ℕ) → oldest a (us ++ vs) ≡ first (oldest a us) (oldest a vs) → first o (oldest a (us ++ vs)) ≡ first (first o (oldest a us)) (oldest a vs)
-    go none e = e
-    go (some b) e = refl
+oldest-append a (w ∷ us) vs = ap (orElse (seen a w)) (oldest-append a us vs) ∙ sym (else-assoc (seen a w) (oldest a us) (oldest a vs))
 
-pub newest-append : (a : ℕ) (us vs : List Write) → newest a (us ++ vs) ≡ first (newest a vs) (newest a us)
-newest-append a [] vs = go (newest a vs)
-  where
-    go : (o : Option ℕ) → o ≡ first o none
-    go none = refl
-    go (some b) = refl
-newest-append a (w ∷ us) vs = rw (newest-append a us vs) (go (newest a vs))
-  where
-    go : (o : Option ℕ) → first (first o (newest a us)) (seen a w) ≡ first o (first (newest a us) (seen a w))
-    go none = refl
-    go (some b) = refl
+pub newest-append : (a : ℕ) (us vs : List Write) → newest a (us ++ vs) ≡ orElse (newest a vs) (newest a us)
+newest-append a [] vs = else-none (newest a vs)
+newest-append a (w ∷ us) vs = rw (newest-append a us vs) (else-assoc (newest a vs) (newest a us) (seen a w))
 
 -- a byte of a memory after a write
 
 seen-low : (a i : ℕ) (bs : List ℕ) → a < i → seenAt a i bs ≡ none
 seen-low a i [] h = refl
-seen-low a i (b ∷ bs) h = rw (eqb-no a i (omega arith)) (seen-low a (suc i) bs (omega arith))
+seen-low a i (b ∷ bs) h = rw (ne-eqb a i (omega arith)) (seen-low a (suc i) bs (omega arith))
 
 sets-at : (a : ℕ) (bs m : List ℕ) (i : ℕ) → a < length m → getD (sets m i bs) a 0 ≡ act (seenAt a i bs) (getD m a 0)
 sets-at a [] m i h = refl
@@ -90,11 +74,11 @@ sets-at a (b ∷ bs) m i h = go (eqb a i) refl (sets-at a bs (set m i b) (suc i)
     go : (c : Bool) → eqb a i ≡ c → getD (sets (set m i b) (suc i) bs) a 0 ≡ act (seenAt a (suc i) bs) (getD (set m i b) a 0)
         → getD (sets m i (b ∷ bs)) a 0 ≡ act (seenAt a i (b ∷ bs)) (getD m a 0)
     go true e ih =
-        let p : a ≡ i = eqb-yes a i e in
+        let p : a ≡ i = eqb-true a i e in
         let low : seenAt a (suc i) bs ≡ none = seen-low a (suc i) bs (omega arith) in
         let same : getD (set m i b) a 0 ≡ b = rw p (getD-set-same m i b 0 (rw p at h)) in
         ih ∙ rw (low, same, e)
-    go false e ih = ih ∙ rw (e, getD-set-other m i a b 0 (eqb-ne a i e))
+    go false e ih = ih ∙ rw (e, getD-set-other m i a b 0 (eqb-false a i e))
 
 pub laid-byte : (a : ℕ) (w : Write) (m : List ℕ) → a < length m → getD (layBytes w m) a 0 ≡ layByte a w (getD m a 0)
 laid-byte a w m h = sets-at a (w .bytes) m (w .addr) h

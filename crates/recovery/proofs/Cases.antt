@@ -22,7 +22,7 @@ abbrev zeros : List ℕ
 zeros = replicate 4096 0
 
 -- the byte b at address 10
-abbrev byte10 : ℕ → Write
+abbrev pub byte10 : ℕ → Write
 byte10 b = record { addr = 10; bytes = b ∷ [] }
 
 abbrev memory10 : ℕ → List ℕ

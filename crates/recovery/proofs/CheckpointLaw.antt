@@ -7,14 +7,14 @@ use mathlib.Core.Option.{Option, none, some}
 use mathlib.Core.List.{List, [], _∷_, _++_, reverse, reverse-cons}
 use Prim.Native.Nat.{ℕ}
 use Rattle.recovery.specs.Group.{Write, Group, committed, aborted}
-use Rattle.recovery.specs.Lists.{All, cons, has}
+use Rattle.recovery.specs.Lists.{All, cons, has, orElse}
 use Rattle.recovery.specs.Transaction.{Tx, running}
 use Rattle.recovery.specs.Replay.{redoAll, undoAll, undoEach, replay}
 use Rattle.recovery.specs.Restart.{forward, recover}
 use Rattle.recovery.proofs.Lists.{all-left}
 use Rattle.recovery.proofs.Transactions.{lookup-none}
 use Rattle.recovery.proofs.Groups.{replay-append, undoEach-append}
-use Rattle.recovery.proofs.Byte.{act, act-first, first, oldest, newest, undo-oldest, redo-newest, layByte}
+use Rattle.recovery.proofs.Byte.{act, act-else, oldest, newest, undo-oldest, redo-newest, layByte}
 use Rattle.recovery.proofs.LiveByte.{Restores, neither, both, RunningAt, undo-running}
 use Rattle.recovery.proofs.TailFit.{Foreign, Fit, late, undone-late}
 
@@ -75,12 +75,12 @@ undo-stay {a} {x} (undoes-commit {c} {cs} r u) =
 -- what the commits among the groups say at the byte
 abbrev redone : ℕ → List Group → Option ℕ
 redone a [] = none
-redone a (committed i n ws ∷ gs) = first (redone a gs) (newest a ws)
+redone a (committed i n ws ∷ gs) = orElse (redone a gs) (newest a ws)
 redone a (aborted i ∷ gs) = redone a gs
 
 replay-redone : (a : ℕ) (gs : List Group) (v : ℕ) → replay (layByte a) gs v ≡ act (redone a gs) v
 replay-redone a [] v = refl
-replay-redone a (committed i n ws ∷ gs) v = rw (redo-newest a ws v, replay-redone a gs, act-first)
+replay-redone a (committed i n ws ∷ gs) v = rw (redo-newest a ws v, replay-redone a gs, act-else)
 replay-redone a (aborted i ∷ gs) v = replay-redone a gs v
 
 -- P replayed over the image's byte, then the running ones undone, then the commits that are not in P

@@ -7,6 +7,7 @@ use mathlib.Core.List.{List, [], _∷_, _++_, map-append, reverse, reverse-appen
 use Prim.Native.Nat.{ℕ, suc, _+_, _≤_, _<_}
 use native.Mathlib.Omega.{arith}
 use lib.ListN.{getD}
+use borrow.Author.Tests.{lt-ltb}
 use Rattle.recovery.specs.Group.{Write, Group, committed, aborted, groupSize, groupsSize, csnAfter, lastCsn}
 use Rattle.recovery.specs.Lists.{All, nil, cons}
 use Rattle.recovery.specs.Transaction.{Tx, running, committing, reserved}
@@ -15,7 +16,6 @@ use Rattle.recovery.specs.Restart.{groupId, above, sortDesc}
 use Rattle.recovery.specs.Ledger.{Ledger, OpenTx, Commit, Entry, writesOf, others, enterPrecommitted, enterRolledBack}
 use Rattle.recovery.specs.Machine.{Opening, Disk, Live, Listed, lastAssigned, inCommit, afterPrecommit, afterAbort}
 use Rattle.recovery.specs.Claim.{commits}
-use Rattle.recovery.proofs.Bool.{ltb-yes}
 use Rattle.recovery.proofs.Lists.{all-map, all-zip, all-append, all-here, all-less, all-more, all-edit, all-filter, filter-in, filter-append, EveryPrefix, prefix-whole, prefix-snoc}
 use Rattle.recovery.proofs.Distinct.{Distinct, distinct-more, distinct-others, distinct-less, distinct-edit}
 use Rattle.recovery.proofs.Transactions.{Found, find, DistinctIds, found-running, found-apart, running-out, running-append, committing-in, committing-out, committing-append, isCommitting, isAbove}
@@ -235,7 +235,7 @@ module _ (o : Opening) (d : Disk) (l : Live) (k : Ledger) (r : Tx) (listed : Lis
       let old : above (l .csn) cs ++ above (l .csn) ds ≡ above (l .csn) (committing (l .txs)) =
       sym (filter-append high cs ds) ∙ ap (λ (ts : List Tx). above (l .csn) ts) (sym committings) in
       ap (λ (ts : List Tx). sortDesc (above (l .csn) ts)) precommit-committings
-      ∙ (ap sortDesc (filter-in high cs r′ ds (ltb-yes (l .csn) newCsn (omega arith)))
+      ∙ (ap sortDesc (filter-in high cs r′ ds (lt-ltb (l .csn) newCsn (omega arith)))
       ∙ (sort-top r′ (above (l .csn) cs) (above (l .csn) ds) low
       ∙ (ap (λ (ts : List Tx). r′ ∷ ts) (ap sortDesc old ∙ s .fit .sorted) ∙ sym (reverse-append (u .late) (r′ ∷ [])))))
 

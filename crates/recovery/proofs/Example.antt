@@ -1,7 +1,6 @@
 -- M1, cut and done, and M3 as lists of calls: the steps can be taken, and the theorem says what one more restart leaves.
 use mathlib.Core.Path.{_≡_, refl, ap, _∙_}
 use mathlib.Core.List.{List, [], _∷_}
-use Prim.Native.Nat.{ℕ}
 use lib.Dec.{lit≤}
 use lib.ListN.{replicate, set}
 use Rattle.recovery.specs.Group.{Write}
@@ -10,13 +9,11 @@ use Rattle.recovery.specs.Restart.{undoOrder}
 use Rattle.recovery.specs.Ledger.{Commit, Ledger}
 use Rattle.recovery.specs.Machine.{Opening, fresh, System, diskOf, recovered, newTx, withWrite, inCommit, begins, writes, precommits, rollsBack, flushes, flushIsCut, settles, checkpoints, restarts, Run, opened, next}
 use Rattle.recovery.specs.Claim.{layCommits}
+use Rattle.recovery.proofs.Cases.{byte10}
 use Rattle.recovery.proofs.Theorem.{theorem}
 
 abbrev store : Opening
 store = fresh 4096 16384
-
-abbrev byte10 : ℕ → Write
-byte10 b = record { addr = 10; bytes = b ∷ [] }
 
 -- a list of calls, where it leads, and what it leaves durable
 pub record History : Type 0 where

@@ -5,11 +5,12 @@ use mathlib.Core.Bool.{Bool, true, false, not, _||_, _&&_, or-true}
 use mathlib.Core.List.{List, [], _∷_, _++_}
 use Prim.Native.Nat.{ℕ}
 use lib.Dec.{eqb}
+use borrow.Author.Tests.{ne-eqb}
 use Rattle.recovery.specs.Group.{Group}
 use Rattle.recovery.specs.Lists.{All, nil, cons, has}
 use Rattle.recovery.specs.Transaction.{Tx}
 use Rattle.recovery.specs.Restart.{groupId, finished, unfinished, aborts}
-use Rattle.recovery.proofs.Bool.{eqb-same, eqb-no, or-both}
+use Rattle.recovery.proofs.Bool.{eqb-same, or-both}
 use Rattle.recovery.proofs.Lists.{all-map, filter-all, filter-filter, filter-out, filter-append}
 use Rattle.recovery.proofs.Distinct.{distinct-others}
 use Rattle.recovery.proofs.Transactions.{DistinctIds, isUnfinished}
@@ -22,7 +23,7 @@ finished-append (g ∷ gs) hs f = finished-append gs hs (groupId g ∷ f)
 pub unmarked : {i : ℕ} (f : List ℕ) {gs : List Group} → All (λ g. groupId g ≢ i) gs → has i f ≡ false → has i (finished gs f) ≡ false
 unmarked f nil h = h
 unmarked {i} f (cons {x = g} n ns) h =
-    unmarked (groupId g ∷ f) ns (or-both (eqb i (groupId g)) (has i f) (eqb-no i (groupId g) (λ e. n (sym e))) h)
+    unmarked (groupId g ∷ f) ns (or-both (eqb i (groupId g)) (has i f) (ne-eqb i (groupId g) (λ e. n (sym e))) h)
 
 -- one more finished id leaves out the transaction that has it
 
@@ -37,7 +38,7 @@ unfinished-more i f ts = sym (filter-filter (isUnfinished (i ∷ [])) (isUnfinis
 
 -- the transactions of which none has the id, or one has
 pub leave-none : (i : ℕ) {L : List Tx} → All (λ t. t .id ≢ i) L → unfinished (i ∷ []) L ≡ L
-leave-none i h = filter-all (isUnfinished (i ∷ [])) (all-map (λ t n. rw (eqb-no (t .id) i n)) h)
+leave-none i h = filter-all (isUnfinished (i ∷ [])) (all-map (λ t n. rw (ne-eqb (t .id) i n)) h)
 
 pub leave-one : (ps : List Tx) (t : Tx) (qs : List Tx) → DistinctIds (ps ++ t ∷ qs) → unfinished (t .id ∷ []) (ps ++ t ∷ qs) ≡ ps ++ qs
 leave-one ps t qs d =

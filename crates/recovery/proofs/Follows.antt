@@ -8,11 +8,12 @@ use mathlib.Core.List.{List, [], _∷_, _++_, append-nil}
 use Prim.Native.Nat.{ℕ, _≤_}
 use native.Mathlib.Omega.{arith}
 use lib.Dec.{eqb, ltb}
+use borrow.Author.Tests.{ne-eqb, ltb-true}
 use Rattle.recovery.specs.Group.{Group, csnAfter, lastCsn}
 use Rattle.recovery.specs.Lists.{All, cons, has}
 use Rattle.recovery.specs.Transaction.{Tx, running, committing}
 use Rattle.recovery.specs.Restart.{groupId, finished, unfinished, sortDesc, above, undoOrder, undone}
-use Rattle.recovery.proofs.Bool.{clash, eqb-no, eqb-same, or-both, is-ltb}
+use Rattle.recovery.proofs.Bool.{clash, eqb-same, or-both}
 use Rattle.recovery.proofs.Lists.{all-map, all-zip, all-less, all-passing, filter-none, filter-append}
 use Rattle.recovery.proofs.Transactions.{isAbove, isUnfinished}
 use Rattle.recovery.proofs.Sorting.{sort-all}
@@ -65,7 +66,7 @@ undone-running itxs d G rs w =
   where
     one : (f : List ℕ) (n : ℕ) (c : Tx) → (has (c .id) f ≡ true) ⊎ (c .csn ≤ n) → ltb n (c .csn) ≡ true → isUnfinished f c ≡ false
     one f n c (inl h) l = rw h
-    one f n c (inr h) l = absurd (omega (arith, is-ltb n (c .csn) l))
+    one f n c (inr h) l = absurd (omega (arith, ltb-true n (c .csn) l))
 
 -- what an unfinished transaction of the image is to the live r and the others: r has come from it, or another has
 pub data Kin (r : Tx) (others : List Tx) (t : Tx) : Type 0 where
@@ -98,7 +99,7 @@ module _ (itxs : List Tx) (d : ℕ) (G : List Group) (xs : List Tx) (r : Tx) (ys
     follows-next le = record {
       committings = rw (now-finished, lastCsn-append d G (g ∷ [])) (all-map old (w .committings));
       runnings = rw now-left (all-passing (isUnfinished (r .id ∷ [])) (all-map (λ t p e. other t e p) kin));
-      lives = rw now-finished (all-map (λ t p. (or-both (eqb (t .id) (r .id)) (has (t .id) f) (eqb-no (t .id) (r .id) (p .0)) (p .1 .0), p .1 .1)) (all-zip apart (all-less xs r ys (w .lives))));
+      lives = rw now-finished (all-map (λ t p. (or-both (eqb (t .id) (r .id)) (has (t .id) f) (ne-eqb (t .id) (r .id) (p .0)) (p .1 .0), p .1 .1)) (all-zip apart (all-less xs r ys (w .lives))));
     }
       where
         old : (c : Tx) → (has (c .id) f ≡ true) ⊎ (c .csn ≤ lastCsn d G) → (has (c .id) (r .id ∷ f) ≡ true) ⊎ (c .csn ≤ csnAfter (lastCsn d G) g)

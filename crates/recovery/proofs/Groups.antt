@@ -6,12 +6,12 @@ use Prim.Native.Nat.{ℕ, _+_, _-_, _*_, _≤_}
 use native.Mathlib.Omega.{arith}
 use lib.Dec.{leb}
 use lib.ListN.{length, drop}
+use borrow.Author.Tests.{le-leb}
 use Rattle.recovery.specs.Group.{Write, Group, committed, aborted, redoSize, groupSize, groupsSize, csnAfter, lastCsn, fitting}
 use Rattle.recovery.specs.Lists.{has}
 use Rattle.recovery.specs.Transaction.{Tx, reserved}
 use Rattle.recovery.specs.Replay.{redoAll, undoAll, undoEach, replay}
 use Rattle.recovery.specs.Restart.{finished, undoOf, aborts, forward}
-use Rattle.recovery.proofs.Bool.{leb-yes}
 
 -- sizes
 
@@ -62,7 +62,7 @@ fitting-split n (g ∷ gs) = go (leb (groupSize g) n) (fitting-split (n - groupS
 
 pub fitting-all : (n : ℕ) (gs : List Group) → groupsSize gs ≤ n → fitting n gs ≡ gs
 fitting-all n [] h = refl
-fitting-all n (g ∷ gs) h = rw (leb-yes (groupSize g) n (omega arith)) (ap (λ (l : List Group). g ∷ l) (fitting-all (n - groupSize g) gs (omega arith)))
+fitting-all n (g ∷ gs) h = rw (le-leb (groupSize g) n (omega arith)) (ap (λ (l : List Group). g ∷ l) (fitting-all (n - groupSize g) gs (omega arith)))
 
 -- restart's own abort records
 

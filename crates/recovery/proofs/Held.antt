@@ -8,18 +8,19 @@ use Prim.Native.Nat.{ℕ, suc, _+_, _≤_, _<_}
 use native.Mathlib.Omega.{arith}
 use lib.Dec.{eqb, leb, ltb}
 use lib.ListN.{length}
+use borrow.Author.Tests.{ne-eqb, leb-true, leb-false, ltb-true, ltb-false}
 use Rattle.recovery.specs.Group.{Write}
 use Rattle.recovery.specs.Lists.{All, nil, cons, any}
 use Rattle.recovery.specs.Transaction.{Tx, running, overlap, heldByOther}
-use Rattle.recovery.proofs.Bool.{clash, eqb-no, is-leb, not-leb, is-ltb, not-ltb, and-cases}
+use Rattle.recovery.proofs.Bool.{clash, and-cases}
 use Rattle.recovery.proofs.Lists.{all-map, all-passing, none-any}
 use Rattle.recovery.proofs.Transactions.{isRunning}
 use Rattle.recovery.proofs.Byte.{seen, seenAt, oldest}
 
 seen-out : (a i : ℕ) (bs : List ℕ) → (a < i) ⊎ (i + length bs ≤ a) → seenAt a i bs ≡ none
 seen-out a i [] h = refl
-seen-out a i (b ∷ bs) (inl h) = rw (eqb-no a i (λ e. omega arith)) (seen-out a (suc i) bs (inl (omega arith)))
-seen-out a i (b ∷ bs) (inr h) = rw (eqb-no a i (λ e. omega arith)) (seen-out a (suc i) bs (inr (omega arith)))
+seen-out a i (b ∷ bs) (inl h) = rw (ne-eqb a i (λ e. omega arith)) (seen-out a (suc i) bs (inl (omega arith)))
+seen-out a i (b ∷ bs) (inr h) = rw (ne-eqb a i (λ e. omega arith)) (seen-out a (suc i) bs (inr (omega arith)))
 
 -- ranges without a byte in common: what the one covers, the other leaves
 apart-byte : (a : ℕ) (u w : Write) → overlap u w ≡ false → seen a w ≢ none → seen a u ≡ none
@@ -32,10 +33,10 @@ apart-byte a u w e s = go (and-cases (ltb (u .addr) endW) (ltb (w .addr) endU) e
     endW = w .addr + length (w .bytes)
 
     go : (ltb (u .addr) endW ≡ false) ⊎ (ltb (w .addr) endU ≡ false) → (x : Bool) → leb (w .addr) a ≡ x → (y : Bool) → ltb a endW ≡ y → seen a u ≡ none
-    go m false p y q = absurd (s (seen-out a (w .addr) (w .bytes) (inl (not-leb (w .addr) a p))))
-    go m true p false q = absurd (s (seen-out a (w .addr) (w .bytes) (inr (not-ltb a endW q))))
-    go (inl m) true p true q = seen-out a (u .addr) (u .bytes) (inl (omega (arith, is-ltb a endW q, not-ltb (u .addr) endW m)))
-    go (inr m) true p true q = seen-out a (u .addr) (u .bytes) (inr (omega (arith, is-leb (w .addr) a p, not-ltb (w .addr) endU m)))
+    go m false p y q = absurd (s (seen-out a (w .addr) (w .bytes) (inl (leb-false (w .addr) a p))))
+    go m true p false q = absurd (s (seen-out a (w .addr) (w .bytes) (inr (ltb-false a endW q))))
+    go (inl m) true p true q = seen-out a (u .addr) (u .bytes) (inl (omega (arith, ltb-true a endW q, ltb-false (u .addr) endW m)))
+    go (inr m) true p true q = seen-out a (u .addr) (u .bytes) (inr (omega (arith, leb-true (w .addr) a p, ltb-false (w .addr) endU m)))
 
 apart-oldest : (a : ℕ) (w : Write) {us : List Write} → seen a w ≢ none → All (λ u. overlap u w ≡ false) us → oldest a us ≡ none
 apart-oldest a w s nil = refl
@@ -51,5 +52,5 @@ unheld i w txs a h s = all-passing isRunning (all-map (λ t e run n. go t n run 
     byOther t = not (eqb i (t .id)) && (not (t .committing) && over t)
 
     go : (t : Tx) → t .id ≢ i → not (t .committing) ≡ true → (not (eqb i (t .id)) ≡ false) ⊎ ((not (t .committing) && over t) ≡ false) → oldest a (t .undo) ≡ none
-    go t n run (inl e) = absurd (clash (ap not (eqb-no i (t .id) (λ q. n (sym q)))) e)
+    go t n run (inl e) = absurd (clash (ap not (ne-eqb i (t .id) (λ q. n (sym q)))) e)
     go t n run (inr e) = apart-oldest a w s (none-any (λ u. overlap u w) (t .undo) (rw run at e))

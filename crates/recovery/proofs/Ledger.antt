@@ -8,15 +8,17 @@ use Prim.Native.Nat.{ℕ, _-_, _≤_, _<_}
 use native.Mathlib.Omega.{arith}
 use lib.Dec.{eqb, leb}
 use lib.ListN.{length, replicate}
+use borrow.Author.Tests.{ne-eqb, eqb-true}
 use Rattle.recovery.specs.Group.{Write, Group, committed, aborted, groupSize, fitting}
-use Rattle.recovery.specs.Lists.{All, nil, cons}
+use Rattle.recovery.specs.Lists.{All, nil, cons, orElse}
 use Rattle.recovery.specs.Transaction.{Tx, running, committing}
 use Rattle.recovery.specs.Replay.{redoAll, replay, layBytes}
 use Rattle.recovery.specs.Restart.{aborts}
-use Rattle.recovery.specs.Ledger.{OpenTx, Commit, Entry, commit, abort, Ledger, entrySize, fittingEntries, committedIn, writesOf, others, addWrite, orElse, latest}
+use Rattle.recovery.specs.Ledger.{OpenTx, Commit, Entry, commit, abort, Ledger, entrySize, fittingEntries, committedIn, writesOf, others, addWrite, latest}
 use Rattle.recovery.specs.Machine.{Disk, Live, withWrite}
 use Rattle.recovery.specs.Claim.{commits, layCommits}
-use Rattle.recovery.proofs.Bool.{eqb-same, eqb-no, eqb-yes, some-none}
+use Rattle.recovery.proofs.Bool.{eqb-same, some-none}
+use Rattle.recovery.proofs.Lists.{else-none, else-assoc}
 
 -- the tail as the ledger's queue, running transactions as its open ones
 
@@ -78,43 +80,35 @@ fitting-entries n (g ∷ gs) = rw (entry-size g) (go (leb (groupSize g) n) (fitt
 module _ (r : Tx) where
   others-none : {rs : List Tx} → All (λ t. t .id ≢ r .id) rs → others (r .id) (opens rs) ≡ opens rs
   others-none nil = refl
-  others-none (cons {x} n ns) = rw (eqb-no (r .id) (x .id) (λ e. n (sym e))) (ap (λ (l : List OpenTx). openOf x ∷ l) (others-none ns))
+  others-none (cons {x} n ns) = rw (ne-eqb (r .id) (x .id) (λ e. n (sym e))) (ap (λ (l : List OpenTx). openOf x ∷ l) (others-none ns))
 
   pub others-one : (xs ys : List Tx) → All (λ t. t .id ≢ r .id) (xs ++ ys) → others (r .id) (opens (xs ++ r ∷ ys)) ≡ opens (xs ++ ys)
   others-one [] ys h = rw (eqb-same (r .id)) (others-none h)
-  others-one (x ∷ xs) ys (cons n ns) = rw (eqb-no (r .id) (x .id) (λ e. n (sym e))) (ap (λ (l : List OpenTx). openOf x ∷ l) (others-one xs ys ns))
+  others-one (x ∷ xs) ys (cons n ns) = rw (ne-eqb (r .id) (x .id) (λ e. n (sym e))) (ap (λ (l : List OpenTx). openOf x ∷ l) (others-one xs ys ns))
 
   pub writes-one : (xs ys : List Tx) → All (λ t. t .id ≢ r .id) (xs ++ ys) → writesOf (r .id) (opens (xs ++ r ∷ ys)) ≡ r .redo
   writes-one [] ys h = rw (eqb-same (r .id))
-  writes-one (x ∷ xs) ys (cons n ns) = rw (eqb-no (r .id) (x .id) (λ e. n (sym e))) (writes-one xs ys ns)
+  writes-one (x ∷ xs) ys (cons n ns) = rw (ne-eqb (r .id) (x .id) (λ e. n (sym e))) (writes-one xs ys ns)
 
   add-none : (w : Write) {rs : List Tx} → All (λ t. t .id ≢ r .id) rs → map (addWrite (r .id) w) (opens rs) ≡ opens rs
   add-none w nil = refl
-  add-none w (cons {x} n ns) = rw (eqb-no (r .id) (x .id) (λ e. n (sym e))) (ap (λ (l : List OpenTx). openOf x ∷ l) (add-none w ns))
+  add-none w (cons {x} n ns) = rw (ne-eqb (r .id) (x .id) (λ e. n (sym e))) (ap (λ (l : List OpenTx). openOf x ∷ l) (add-none w ns))
 
   pub add-one : (u w : Write) (xs ys : List Tx) → All (λ t. t .id ≢ r .id) (xs ++ ys) → map (addWrite (r .id) w) (opens (xs ++ r ∷ ys)) ≡ opens (xs ++ withWrite u w r ∷ ys)
   add-one u w [] ys h = rw (eqb-same (r .id)) (ap (λ (l : List OpenTx). openOf (withWrite u w r) ∷ l) (add-none w h))
-  add-one u w (x ∷ xs) ys (cons n ns) = rw (eqb-no (r .id) (x .id) (λ e. n (sym e))) (ap (λ (l : List OpenTx). openOf x ∷ l) (add-one u w xs ys ns))
+  add-one u w (x ∷ xs) ys (cons n ns) = rw (ne-eqb (r .id) (x .id) (λ e. n (sym e))) (ap (λ (l : List OpenTx). openOf x ∷ l) (add-one u w xs ys ns))
 
 -- the latest of an id
 
 latest-append : (i : ℕ) (xs ys : List Commit) → latest i (xs ++ ys) ≡ orElse (latest i ys) (latest i xs)
-latest-append i [] ys = go (latest i ys)
-  where
-    go : (o : Option Commit) → o ≡ orElse o none
-    go none = refl
-    go (some b) = refl
-latest-append i (x ∷ xs) ys = rw (latest-append i xs ys) (go (latest i ys))
-  where
-    go : (o : Option Commit) → orElse (orElse o (latest i xs)) (cond (eqb i (x .id)) (some x) none) ≡ orElse o (orElse (latest i xs) (cond (eqb i (x .id)) (some x) none))
-    go none = refl
-    go (some b) = refl
+latest-append i [] ys = else-none (latest i ys)
+latest-append i (x ∷ xs) ys = rw (latest-append i xs ys) (else-assoc (latest i ys) (latest i xs) (cond (eqb i (x .id)) (some x) none))
 
 pub latest-own : (cs : List Commit) (c : Commit) → latest (c .id) (cs ++ (c ∷ [])) ≡ some c
 latest-own cs c = latest-append (c .id) cs (c ∷ []) ∙ rw (eqb-same (c .id))
 
 pub latest-other : (i : ℕ) (cs : List Commit) (c : Commit) → c .id ≢ i → latest i (cs ++ (c ∷ [])) ≡ latest i cs
-latest-other i cs c n = latest-append i cs (c ∷ []) ∙ rw (eqb-no i (c .id) (λ e. n (sym e)))
+latest-other i cs c n = latest-append i cs (c ∷ []) ∙ rw (ne-eqb i (c .id) (λ e. n (sym e)))
 
 -- it is one of the list, and of that id
 pub latest-in : (i : ℕ) (cs : List Commit) (b : Commit) → latest i cs ≡ some b → List·Memᴰ b cs × (b .id ≡ i)
@@ -124,7 +118,7 @@ latest-in i (c ∷ cs) b e = go (latest i cs) refl (eqb i (c .id)) refl e (λ f.
     go : (o : Option Commit) → latest i cs ≡ o → (t : Bool) → eqb i (c .id) ≡ t → orElse o (cond t (some c) none) ≡ some b
         → (latest i cs ≡ some b → List·Memᴰ b cs × (b .id ≡ i)) → List·Memᴰ b (c ∷ cs) × (b .id ≡ i)
     go (some y) p t q e′ f = let k = f (p ∙ e′) in (List·Memᴰ·tail (k .0), k .1)
-    go none p true q e′ f = let same : b ≡ c = cc in (List·Memᴰ·head same, ap (λ (x : Commit). x .id) same ∙ sym (eqb-yes i (c .id) q))
+    go none p true q e′ f = let same : b ≡ c = cc in (List·Memᴰ·head same, ap (λ (x : Commit). x .id) same ∙ sym (eqb-true i (c .id) q))
     go none p false q e′ f = absurd (some-none e′ refl)
 
 all-member : {p : Commit → Type 0} {b : Commit} {cs : List Commit} → All p cs → List·Memᴰ b cs → p b

@@ -1,14 +1,25 @@
--- Lists: a property of every element, `any`, `filter`, and properties of every first part.
+-- Options, and lists: a property of every element, `any`, `filter`, and properties of every first part.
 use mathlib.Core.Path.{_≡_, refl, sym, ap, _∙_, subst}
 use mathlib.Core.Bool.{Bool, true, false, cond, _&&_}
 use mathlib.Core.List.{List, [], _∷_, _++_, map, reverse, reverse-cons, append-nil}
+use mathlib.Core.Option.{Option, none, some}
 use Prim.Native.Nat.{ℕ, zero, suc}
 use lib.ListN.{take}
 use lib.Seq.{take-nil}
-use Rattle.recovery.specs.Lists.{All, nil, cons, any, filter}
+use Rattle.recovery.specs.Lists.{All, nil, cons, any, filter, orElse}
 use Rattle.recovery.proofs.Bool.{clash, or-left, or-right}
 
 module _ {A : Type 0} where
+  -- one thing or another
+
+  pub else-none : (o : Option A) → o ≡ orElse o none
+  else-none none = refl
+  else-none (some a) = refl
+
+  pub else-assoc : (o p q : Option A) → orElse (orElse o p) q ≡ orElse o (orElse p q)
+  else-assoc none p q = refl
+  else-assoc (some a) p q = refl
+
   -- every element
 
   pub all-map : {p q : A → Type 0} {xs : List A} → ((x : A) → p x → q x) → All p xs → All q xs

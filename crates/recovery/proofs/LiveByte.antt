@@ -5,13 +5,13 @@ use mathlib.Core.Option.{Option, none, some}
 use mathlib.Core.List.{List, [], _∷_, _++_}
 use Prim.Native.Nat.{ℕ}
 use Rattle.recovery.specs.Group.{Write}
-use Rattle.recovery.specs.Lists.{All, nil, cons}
+use Rattle.recovery.specs.Lists.{All, nil, cons, orElse}
 use Rattle.recovery.specs.Transaction.{Tx}
 use Rattle.recovery.specs.Replay.{undoAll, undoEach}
 use Rattle.recovery.specs.Machine.{withWrite}
 use Rattle.recovery.proofs.Bool.{some-none}
 use Rattle.recovery.proofs.Lists.{all-map, all-here, all-less, all-more}
-use Rattle.recovery.proofs.Byte.{act, first, seen, layByte, oldest, newest, undo-oldest, oldest-append, newest-append}
+use Rattle.recovery.proofs.Byte.{act, seen, layByte, oldest, newest, undo-oldest, oldest-append, newest-append}
 
 -- the transaction has no undo record over the byte
 abbrev pub Still : ℕ → Tx → Type 0
@@ -116,10 +116,10 @@ pub write-byte : (a x mem mem′ : ℕ) (xs : List Tx) (r : Tx) (ys : List Tx) (
     → Touch a mem mem′ u w (xs ++ ys) → RunningAt a x mem′ (xs ++ withWrite u w r ∷ ys)
 write-byte a x mem mem′ xs r ys u w h t = go (side a x mem xs r ys h) t
   where
-    undo′ : oldest a (r .undo ++ (u ∷ [])) ≡ first (oldest a (r .undo)) (first (seen a u) none)
+    undo′ : oldest a (r .undo ++ (u ∷ [])) ≡ orElse (oldest a (r .undo)) (orElse (seen a u) none)
     undo′ = oldest-append a (r .undo) (u ∷ [])
 
-    redo′ : newest a (r .redo ++ (w ∷ [])) ≡ first (seen a w) (newest a (r .redo))
+    redo′ : newest a (r .redo ++ (w ∷ [])) ≡ orElse (seen a w) (newest a (r .redo))
     redo′ = newest-append a (r .redo) (w ∷ [])
 
     go : Side a x mem r (xs ++ ys) → Touch a mem mem′ u w (xs ++ ys) → RunningAt a x mem′ (xs ++ withWrite u w r ∷ ys)

@@ -3,13 +3,13 @@ use mathlib.Core.Path.{_≡_, sym, ap, _∙_}
 use mathlib.Core.Bool.{true}
 use mathlib.Core.List.{List, _∷_, _++_}
 use Prim.Native.Nat.{_≤_}
+use borrow.Author.Tests.{le-ltb}
 use Rattle.recovery.specs.Lists.{nil, cons}
 use Rattle.recovery.specs.Transaction.{Tx, running, committing}
 use Rattle.recovery.specs.Restart.{above, sortDesc}
 use Rattle.recovery.specs.Ledger.{Ledger, committedIn, enterSettled}
 use Rattle.recovery.specs.Machine.{Opening, Disk, Live, Listed, afterSettle}
 use Rattle.recovery.specs.Claim.{commits}
-use Rattle.recovery.proofs.Bool.{ltb-no}
 use Rattle.recovery.proofs.Lists.{all-map, all-append, all-here, all-less, filter-out, filter-append}
 use Rattle.recovery.proofs.Distinct.{distinct-less}
 use Rattle.recovery.proofs.Transactions.{Found, find, running-out, running-append, committing-in, committing-append, isAbove}
@@ -44,7 +44,7 @@ module _ (o : Opening) (d : Disk) (l : Live) (k : Ledger) (r : Tx) (listed : Lis
   aboves : above (l .csn) (committing (afterSettle r l .txs)) ≡ above (l .csn) (committing (l .txs))
   aboves =
       ap (λ (ts : List Tx). above (l .csn) ts) committings′
-      ∙ (filter-append (isAbove (l .csn)) cs ds ∙ sym (ap (λ (ts : List Tx). above (l .csn) ts) committings ∙ filter-out (isAbove (l .csn)) cs r ds (ltb-no (l .csn) (r .csn) on-disk)))
+      ∙ (filter-append (isAbove (l .csn)) cs ds ∙ sym (ap (λ (ts : List Tx). above (l .csn) ts) committings ∙ filter-out (isAbove (l .csn)) cs r ds (le-ltb (l .csn) (r .csn) on-disk)))
 
   settle-standing : Standing d (afterSettle r l) (u .late)
   settle-standing = record {

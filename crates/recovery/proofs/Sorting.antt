@@ -8,10 +8,10 @@ use Prim.Native.Nat.{ℕ, suc, _≤_, _<_}
 use native.Mathlib.Omega.{arith}
 use lib.ListN.{length}
 use lib.Dec.{leb}
+use borrow.Author.Tests.{le-leb, lt-leb, leb-true, leb-false, lt-ltb, le-ltb, ltb-true}
 use Rattle.recovery.specs.Lists.{All, nil, cons, filter}
 use Rattle.recovery.specs.Transaction.{Tx}
 use Rattle.recovery.specs.Restart.{insertDesc, sortDesc, above}
-use Rattle.recovery.proofs.Bool.{leb-yes, leb-no, is-leb, not-leb, ltb-yes, ltb-no, is-ltb}
 use Rattle.recovery.proofs.Lists.{all-map, all-left, all-right, all-filter, filter-all, filter-none, filter-filter}
 use Rattle.recovery.proofs.Distinct.{Distinct, empty, more}
 use Rattle.recovery.proofs.Transactions.{isAbove}
@@ -26,16 +26,16 @@ AllLt n l = All (λ t. t .csn < n) l
 -- above
 
 pub above-high : (n : ℕ) {xs : List Tx} → All (λ c. n < c .csn) xs → above n xs ≡ xs
-above-high n h = filter-all (isAbove n) (all-map (λ c l. ltb-yes n (c .csn) l) h)
+above-high n h = filter-all (isAbove n) (all-map (λ c l. lt-ltb n (c .csn) l) h)
 
 pub above-low : (n : ℕ) {xs : List Tx} → AllLe n xs → above n xs ≡ []
-above-low n h = filter-none (isAbove n) (all-map (λ c l. ltb-no n (c .csn) l) h)
+above-low n h = filter-none (isAbove n) (all-map (λ c l. le-ltb n (c .csn) l) h)
 
 pub above-above : (d n : ℕ) (xs : List Tx) → d ≤ n → above n (above d xs) ≡ above n xs
 above-above d n xs h = filter-filter (isAbove n) (isAbove d) (isAbove n) (λ x. go x (isAbove n x) refl) xs
   where
     go : (x : Tx) (b : Bool) → isAbove n x ≡ b → (isAbove d x && b) ≡ b
-    go x true e = rw (ltb-yes d (x .csn) (omega (arith, is-ltb n (x .csn) e)))
+    go x true e = rw (lt-ltb d (x .csn) (omega (arith, ltb-true n (x .csn) e)))
     go x false e = none (isAbove d x)
       where
         none : (c : Bool) → (c && false) ≡ false
@@ -94,7 +94,7 @@ pub data Descending : List Tx → Type 0 where
 
 -- a transaction that goes before the front of a sorted list is above all of it
 all-lower : (t u : Tx) {l : List Tx} → leb (u .csn) (t .csn) ≡ true → AllLe (u .csn) l → AllLe (t .csn) (u ∷ l)
-all-lower t u e h = let le : u .csn ≤ t .csn = is-leb (u .csn) (t .csn) e in cons le (all-map (λ v q. omega arith) h)
+all-lower t u e h = let le : u .csn ≤ t .csn = leb-true (u .csn) (t .csn) e in cons le (all-map (λ v q. omega arith) h)
 
 insert-descending : (t : Tx) {l : List Tx} → Descending l → Descending (insertDesc t l)
 insert-descending t bottom = top nil bottom
@@ -102,7 +102,7 @@ insert-descending t (top {t = u} {ts = l} h d) = go (leb (u .csn) (t .csn)) refl
   where
     go : (b : Bool) → leb (u .csn) (t .csn) ≡ b → Descending (insertDesc t l) → Descending (cond b (t ∷ u ∷ l) (u ∷ insertDesc t l))
     go true e k = top (all-lower t u e h) (top h d)
-    go false e k = let lt : t .csn < u .csn = not-leb (u .csn) (t .csn) e in top (insert-all t (omega arith) h) k
+    go false e k = let lt : t .csn < u .csn = leb-false (u .csn) (t .csn) e in top (insert-all t (omega arith) h) k
 
 sort-descending : (l : List Tx) → Descending (sortDesc l)
 sort-descending [] = bottom
@@ -126,11 +126,11 @@ sort-length (t ∷ l) = insert-length t (sortDesc l) ∙ ap suc (sort-length l)
 
 insert-first : (t : Tx) {l : List Tx} → AllLe (t .csn) l → insertDesc t l ≡ t ∷ l
 insert-first t nil = refl
-insert-first t (cons {x = u} h hs) = rw (leb-yes (u .csn) (t .csn) h)
+insert-first t (cons {x = u} h hs) = rw (le-leb (u .csn) (t .csn) h)
 
 pub sort-pick : {xs : List Tx} (ys : List Tx) (t : Tx) → AllLt (t .csn) xs → AllLe (t .csn) ys → sortDesc (xs ++ t ∷ ys) ≡ t ∷ sortDesc (xs ++ ys)
 sort-pick ys t nil q = insert-first t (sort-all q)
-sort-pick ys t (cons {x} h hs) q = ap (insertDesc x) (sort-pick ys t hs q) ∙ rw (leb-no (t .csn) (x .csn) h)
+sort-pick ys t (cons {x} h hs) q = ap (insertDesc x) (sort-pick ys t hs q) ∙ rw (lt-leb (t .csn) (x .csn) h)
 
 pub sort-top : (t : Tx) (xs ys : List Tx) → AllLt (t .csn) (xs ++ ys) → sortDesc (xs ++ t ∷ ys) ≡ t ∷ sortDesc (xs ++ ys)
 sort-top t xs ys h = sort-pick ys t (all-left xs ys h) (all-map (λ u k. omega arith) (all-right xs h))

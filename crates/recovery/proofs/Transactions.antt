@@ -6,9 +6,10 @@ use mathlib.Core.List.{List, [], _∷_, _++_}
 use mathlib.Core.Option.{none, some}
 use Prim.Native.Nat.{ℕ}
 use lib.Dec.{eqb, ltb}
+use borrow.Author.Tests.{eqb-true, eqb-false, ne-eqb}
 use Rattle.recovery.specs.Lists.{All, nil, cons, has}
 use Rattle.recovery.specs.Transaction.{Tx, running, committing, lookup, edit, remove}
-use Rattle.recovery.proofs.Bool.{some-none, eqb-yes, eqb-ne, eqb-same, eqb-no, clash}
+use Rattle.recovery.proofs.Bool.{some-none, eqb-same, clash}
 use Rattle.recovery.proofs.Lists.{all-filter, filter-in, filter-out, filter-append}
 use Rattle.recovery.proofs.Distinct.{Distinct, empty, more, distinct-others, distinct-parts}
 
@@ -44,7 +45,7 @@ find i r (t ∷ ts) h = go (eqb i (t .id)) refl h (λ k. find i r ts k)
     go : (b : Bool) → eqb i (t .id) ≡ b → cond b (some t) (lookup i ts) ≡ some r → (lookup i ts ≡ some r → Found i r ts) → Found i r (t ∷ ts)
     go true e k f =
         let same : t ≡ r = cc in
-        record { before = []; after = ts; whole = ap (λ (u : Tx). u ∷ ts) same; named = ap (λ (u : Tx). u .id) (sym same) ∙ sym (eqb-yes i (t .id) e); edited = λ g. rw e (ap (λ (u : Tx). g u ∷ ts) same); removed = rw e }
+        record { before = []; after = ts; whole = ap (λ (u : Tx). u ∷ ts) same; named = ap (λ (u : Tx). u .id) (sym same) ∙ sym (eqb-true i (t .id) e); edited = λ g. rw e (ap (λ (u : Tx). g u ∷ ts) same); removed = rw e }
     go false e k f =
         let c : Found i r ts = f k in
         record {
@@ -58,7 +59,7 @@ find i r (t ∷ ts) h = go (eqb i (t .id)) refl h (λ k. find i r ts k)
 
 pub lookup-none : {i : ℕ} {txs : List Tx} → All (λ t. t .id ≢ i) txs → lookup i txs ≡ none
 lookup-none nil = refl
-lookup-none {i} (cons {x} h hs) = rw (eqb-no i (x .id) (λ e. h (sym e))) (lookup-none hs)
+lookup-none {i} (cons {x} h hs) = rw (ne-eqb i (x .id) (λ e. h (sym e))) (lookup-none hs)
 
 pub lookup-misses : (i : ℕ) (txs : List Tx) → lookup i txs ≡ none → All (λ t. t .id ≢ i) txs
 lookup-misses i [] h = nil
@@ -66,7 +67,7 @@ lookup-misses i (t ∷ ts) h = go (eqb i (t .id)) refl h (λ k. lookup-misses i 
   where
     go : (b : Bool) → eqb i (t .id) ≡ b → cond b (some t) (lookup i ts) ≡ none → (lookup i ts ≡ none → All (λ u. u .id ≢ i) ts) → All (λ u. u .id ≢ i) (t ∷ ts)
     go true e k f = absurd (some-none refl k)
-    go false e k f = cons (λ p. eqb-ne i (t .id) e (sym p)) (f k)
+    go false e k f = cons (λ p. eqb-false i (t .id) e (sym p)) (f k)
 
 -- with distinct ids each is found under its own
 pub lookup-own : {txs : List Tx} → DistinctIds txs → All (λ t. lookup (t .id) txs ≡ some t) txs
@@ -75,7 +76,7 @@ lookup-own (more {x} {xs} h d) = cons {x = x} (rw (eqb-same (x .id))) (past h (l
   where
     past : {ys : List Tx} → All (λ u. u .id ≢ x .id) ys → All (λ u. lookup (u .id) xs ≡ some u) ys → All (λ u. lookup (u .id) (x ∷ xs) ≡ some u) ys
     past nil nil = nil
-    past (cons {x = u} n ns) (cons k ks) = cons {x = u} (rw (eqb-no (u .id) (x .id) n) k) (past ns ks)
+    past (cons {x = u} n ns) (cons k ks) = cons {x = u} (rw (ne-eqb (u .id) (x .id) n) k) (past ns ks)
 
 -- running and committing
 

@@ -9,13 +9,14 @@ use native.Mathlib.Omega.{arith}
 use lib.Dec.{eqb}
 use lib.ListN.{length, getD, take, drop, length-drop}
 use lib.Seq.{length-sets, getD-take, getD-drop, length-take-le}
+use borrow.Author.Tests.{eqb-true}
 use Rattle.recovery.specs.Group.{Write}
 use Rattle.recovery.specs.Lists.{All}
 use Rattle.recovery.specs.Transaction.{Tx, running, committing, heldByOther, reserved}
 use Rattle.recovery.specs.Replay.{replay, layBytes}
 use Rattle.recovery.specs.Ledger.{Ledger, OpenTx, addWrite, enterWrote}
 use Rattle.recovery.specs.Machine.{Opening, Disk, Live, Listed, roomUsed, oldBytes, withWrite, afterWrite}
-use Rattle.recovery.proofs.Bool.{eqb-yes, some-none}
+use Rattle.recovery.proofs.Bool.{some-none}
 use Rattle.recovery.proofs.Lists.{all-map, all-zip, all-less, all-edit}
 use Rattle.recovery.proofs.Distinct.{distinct-edit}
 use Rattle.recovery.proofs.Transactions.{Found, find, running-in, committing-out, found-running, found-apart}
@@ -54,7 +55,7 @@ whereabouts a i (b ∷ bs) [] e = absurd (omega arith)
 whereabouts a i (b ∷ bs) (x ∷ es) e = go (eqb a i) refl (whereabouts a (suc i) bs es (omega arith))
   where
     go : (c : Bool) → eqb a i ≡ c → Where a (suc i) bs es → Where a i (b ∷ bs) (x ∷ es)
-    go true p h = at 0 (omega (arith, eqb-yes a i p)) (omega arith) (rw p) (rw p)
+    go true p h = at 0 (omega (arith, eqb-true a i p)) (omega arith) (rw p) (rw p)
     go false p (out q r) = out (rw p q) (rw p r)
     go false p (at j q l r s) = at (suc j) (omega arith) (omega arith) (rw p r) (rw p s)
 

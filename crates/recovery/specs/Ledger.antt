@@ -6,7 +6,7 @@ use mathlib.Core.Option.{Option, none, some}
 use lib.ListN.{length, take, drop, replicate}
 use lib.Dec.{eqb, leb}
 use Rattle.recovery.specs.Group.{Write, redoSize}
-use Rattle.recovery.specs.Lists.{filter}
+use Rattle.recovery.specs.Lists.{filter, orElse}
 
 -- an open transaction (an open sheet): its id and its write set, in order
 pub record OpenTx : Type 0 where
@@ -60,10 +60,6 @@ others i ss = filter (λ s. not (eqb i (s .id))) ss
 
 abbrev pub addWrite : ℕ → Write → OpenTx → OpenTx
 addWrite i w s = cond (eqb i (s .id)) (record { id = s .id; writes = s .writes ++ (w ∷ []) }) s
-
-abbrev pub orElse : Option Commit → Option Commit → Option Commit
-orElse none y = y
-orElse (some c) y = some c
 
 -- the latest of an id
 abbrev pub latest : ℕ → List Commit → Option Commit

@@ -1,7 +1,8 @@
--- Lists, as the definitions of this crate need them.
+-- Lists and options, as the definitions of this crate need them.
 use Prim.Native.Nat.{ℕ}
 use mathlib.Core.Bool.{Bool, false, cond, _||_}
 use mathlib.Core.List.{List, [], _∷_}
+use mathlib.Core.Option.{Option, none, some}
 use lib.Dec.{eqb}
 
 -- every element has the property
@@ -18,6 +19,11 @@ any p (x ∷ xs) = p x || any p xs
 abbrev pub filter : {A : Type 0} → (A → Bool) → List A → List A
 filter p [] = []
 filter p (x ∷ xs) = cond (p x) (x ∷ filter p xs) (filter p xs)
+
+-- the first of the two that says something
+abbrev pub orElse : {A : Type 0} → Option A → Option A → Option A
+orElse none y = y
+orElse (some a) y = some a
 
 -- the number is in the list
 abbrev pub has : ℕ → List ℕ → Bool

@@ -17,7 +17,7 @@ use Rattle.transaction.specs.Lists.{upFrom, every, sumOf}
 use Rattle.transaction.specs.declared.Tx.{Tx}
 use Rattle.transaction.specs.View.{Range, rangesOf}
 use Rattle.transaction.specs.Rules.{headOk as headRules, recordsOk, outlineOk, alike, redoOk, rangesSize, roomOf}
-use Rattle.transaction.proofs.Lists.{every-at, length-up, up-turn}
+use Rattle.transaction.proofs.Lists.{every-at, length-up}
 use Rattle.transaction.proofs.Ranges.{size-bound}
 use Rattle.store.specs.declared.State.{State}
 use Rattle.store.specs.declared.admit.Measured.{Measured}
@@ -115,19 +115,6 @@ pub by-keys : (s : State) (keys : Keys) → ((k : ℕ) → k < 8 → (getD (keys
 by-keys s keys e id csn k i h =
     any-same (alike id csn) (alike id csn) (keyAt keys) (outlineAt s) k i
     (λ x a b. ap₂ (λ (j m : ℕ). eqb id j || (not (eqb csn 0) && eqb csn m)) (e x (omega arith) .0) (e x (omega arith) .1))
-
--- a turn of the loop over the transactions
-module _ (s : State) (n i : ℕ) (h : i < n) where
-  distinct-turn : distinct (upFrom (outlineAt s) (n - i) i)
-      ≡ not (any (alike (txAt s i .id .0) (txAt s i .csn .0)) (upFrom (outlineAt s) (n - (i + 1)) (i + 1))) && distinct (upFrom (outlineAt s) (n - (i + 1)) (i + 1))
-  distinct-turn = ap distinct (up-turn (outlineAt s) n i h)
-
-  pub distinct-bad : any (alike (txAt s i .id .0) (txAt s i .csn .0)) (upFrom (outlineAt s) (n - (i + 1)) (i + 1)) ≡ true → distinct (upFrom (outlineAt s) (n - i) i) ≡ false
-  distinct-bad e = distinct-turn ∙ ap (λ (b : Bool). not b && distinct (upFrom (outlineAt s) (n - (i + 1)) (i + 1))) e
-
-  pub distinct-good : any (alike (txAt s i .id .0) (txAt s i .csn .0)) (upFrom (outlineAt s) (n - (i + 1)) (i + 1)) ≡ false
-      → distinct (upFrom (outlineAt s) (n - i) i) ≡ distinct (upFrom (outlineAt s) (n - (i + 1)) (i + 1))
-  distinct-good e = distinct-turn ∙ ap (λ (b : Bool). not b && distinct (upFrom (outlineAt s) (n - (i + 1)) (i + 1))) e
 
 -- ---- number 2
 

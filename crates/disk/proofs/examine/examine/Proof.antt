@@ -5,12 +5,12 @@ use mathlib.Core.Bool.{true}
 use mathlib.Core.List.{List}
 use mathlib.Core.Path.{_≡_, sym, ap, _∙_}
 use lib.ListN.{length, take, drop, replicate}
-use Rattle.log.proofs.Basics.{not-yes, not-no}
+use borrow.Author.Tests.{not-true, not-false}
 use Rattle.image.specs.declared.Image.{Image}
 use Rattle.image.specs.Rules.{keepsRules}
+use Rattle.image.proofs.Rules.{image-logend}
 use Rattle.restart.specs.declared.Recovered.{Recovered}
 use Rattle.restart.specs.Restart.{Outcome, restartOf}
-use Rattle.image.proofs.Rules.{image-logend}
 use Rattle.disk.specs.Examine.{stepsOf}
 use Rattle.disk.proofs.Examining.{keeps, steps-are, end-within, undone-within, told, means-3, means-4, means-5, means}
 use Rattle.disk.proofs.examine.examine.Statement.{statement}
@@ -46,21 +46,29 @@ same-length-3 c = search needs
 same-length-4 : tie.Need-same-length-4
 same-length-4 c = search needs
 
+-- ---- once an image is loaded, and what was lent before
+
+abbrev entry : tie.After-load → tie.Start
+entry l = l .before .before .before .before .before .before .before
+
 returns-2 : tie.Need-returns-2
 returns-2 c =
+    let l = c .before .before .before .before .before .before .before .before .before .before .before in
     let r = c .before .before .before .before .refuse2 .ensures in
-    let l = c .before .before .before .before .before .before .before .before .before .before .before .load in
-    let e = means-4 (c .before .before .before .before .before .before .before .before .before .before .before .before .before .before .before .before .before .before .args .disk .now) (c .before .before .before .before .before .before .before .before .before .before .before .before .before .if1 .left) (l .result) (l .last .1 .1 .0) (l .ensures .0) (l .ensures .1) (not-yes _ (c .before .before .before .before .before .before .before .if2 .taken)) in
+    let e = means-4 (entry l .args .disk .now) (l .before .before .if1 .left) (l .load .result) (l .load .last .1 .1 .0) (l .load .ensures .0) (l .load .ensures .1) (not-true _ (c .before .before .before .before .before .before .before .if2 .taken)) in
     told e (r .0) (r .1 .0) (r .1 .1)
 
--- the image that was loaded
-kept : (c : tie.Else2) → keepsRules (c .before .before .before .before .load .result .image) ≡ true
-kept c =
-    let l = c .before .before .before .before .load in
-    keeps (c .before .before .before .before .before .before .before .before .before .before .before .args .disk .now) (c .before .before .before .before .before .before .if1 .left) (l .result) (l .last .1 .1 .0) (l .ensures .0) (l .ensures .1) (not-no _ (c .if2 .left))
+abbrev loaded : tie.Else2 → tie.After-load
+loaded c = c .before .before .before .before
 
-start : (c : tie.Else2) → c .before .before .before .before .load .result .image .logend ≤ 16384
-start c = image-logend (c .before .before .before .before .load .result .image) (kept c)
+-- the image that was loaded
+kept : (c : tie.Else2) → keepsRules (loaded c .load .result .image) ≡ true
+kept c =
+    let l = loaded c in
+    keeps (entry l .args .disk .now) (l .before .before .if1 .left) (l .load .result) (l .load .last .1 .1 .0) (l .load .ensures .0) (l .load .ensures .1) (not-false _ (c .if2 .left))
+
+start : (c : tie.Else2) → loaded c .load .result .image .logend ≤ 16384
+start c = image-logend (loaded c .load .result .image) (kept c)
 
 fill-zero-requires : tie.Need-fill-zero-requires
 fill-zero-requires c κs = search needs
@@ -72,32 +80,41 @@ add-start : tie.Need-add-start
 add-start c = search needs
 
 sub-recover : tie.Need-sub-recover
-sub-recover c = omega (arith, start (c .before .before .before .before .before .before), c .before .before .before .before .before .before .before .before .before .before .before .before .before .before .before .before .before .pre .0)
+sub-recover c = let x = c .before .before .before .before .before .before in omega (arith, start x, entry (loaded x) .pre .0)
 
 part-recover-start : tie.Need-part-recover-start
-part-recover-start c = omega (arith, start (c .before .before .before .before .before .before), c .before .before .before .before .before .before .before .before .before .before .before .before .before .before .before .before .before .pre .0)
+part-recover-start c = let x = c .before .before .before .before .before .before in omega (arith, start x, entry (loaded x) .pre .0)
 
 part-recover-end : tie.Need-part-recover-end
 part-recover-end c = search needs
 
 recover-requires : tie.Need-recover-requires
 recover-requires c κs =
-    (kept (c .before .before .before .before .before .before .before .before .before), (c .before .before .before .before .before .before .before .before .before .before .before .before .before .load .kept .1 .1 .0 ∙ c .before .before .before .before .before .before .before .before .before .before .before .before .before .before .before .before .before .before .before .before .pre .1, c .before .before .before .before .before .before .before .fill-zero .kept .0 ∙ c .before .before .before .before .before .before .before .before .before .before .before .before .before .before .before .before .before .before .before .before .pre .2))
+    let x = c .before .before .before .before .before .before .before .before .before in
+    let l = loaded x in
+    (kept x, (l .load .kept .1 .1 .0 ∙ entry l .pre .1, c .before .before .before .before .before .before .before .fill-zero .kept .0 ∙ entry l .pre .2))
 
--- the steps of the image that was loaded
+-- ---- the steps of the image that was loaded
+
+abbrev passed : tie.After-recover → tie.Else2
+passed c = c .before .before .before .before .before .before .before .before .before .before
+
+abbrev begun : tie.After-recover → tie.Start
+begun c = entry (loaded (passed c))
+
 abbrev imageAt : tie.After-recover → Image
-imageAt c = c .before .before .before .before .before .before .before .before .before .before .before .before .before .before .load .result .image
+imageAt c = loaded (passed c) .load .result .image
 
 abbrev memoryAt : tie.After-recover → List ℕ
-memoryAt c = c .before .before .before .before .before .before .before .before .before .before .before .before .before .before .load .last .1 .1 .0
+memoryAt c = loaded (passed c) .load .last .1 .1 .0
 
 abbrev diskAt : tie.After-recover → List ℕ
-diskAt c = c .before .before .before .before .before .before .before .before .before .before .before .before .before .before .before .before .before .before .before .before .before .args .disk .now
+diskAt c = begun c .args .disk .now
 
 steps : (c : tie.After-recover)
     → restartOf (imageAt c) (take (length (diskAt c) - (17307 + imageAt c .logend)) (drop (17307 + imageAt c .logend) (diskAt c))) (memoryAt c) (c .before .before .before .before .before .before .before .before .fill-zero .last .0)
     ≡ stepsOf (imageAt c) (memoryAt c) (diskAt c)
-steps c = steps-are (imageAt c) (diskAt c) (memoryAt c) _ (c .before .before .before .before .before .before .before .before .fill-zero .ensures ∙ ap (λ (n : ℕ). replicate n 0) (c .before .before .before .before .before .before .before .before .before .before .before .before .before .before .before .before .before .before .before .before .before .pre .2))
+steps c = steps-are (imageAt c) (diskAt c) (memoryAt c) _ (c .before .before .before .before .before .before .before .before .fill-zero .ensures ∙ ap (λ (n : ℕ). replicate n 0) (begun c .pre .2))
 
 found : (c : tie.After-recover) → c .recover .result ≡ stepsOf (imageAt c) (memoryAt c) (diskAt c) .answer
 found c = c .recover .ensures .0 ∙ ap (λ (o : Outcome). o .answer) (steps c)
@@ -109,17 +126,17 @@ appended : (c : tie.After-recover) → c .recover .last .1 .1 .1 .0 ≡ stepsOf 
 appended c = c .recover .ensures .1 .1 ∙ ap (λ (o : Outcome). o .tail) (steps c)
 
 ends : (c : tie.After-recover) → imageAt c .logend + c .recover .result .end ≤ 16384
-ends c = omega (arith, end-within (imageAt c) (kept (c .before .before .before .before .before .before .before .before .before .before)) (memoryAt c) (diskAt c) (c .before .before .before .before .before .before .before .before .before .before .before .before .before .before .before .before .before .before .before .before .before .pre .0), ap (λ (r : Recovered). r .end) (found c))
+ends c = omega (arith, end-within (imageAt c) (kept (passed c)) (memoryAt c) (diskAt c) (begun c .pre .0), ap (λ (r : Recovered). r .end) (found c))
 
 few : (c : tie.After-recover) → c .recover .result .undone ≤ 16
-few c = omega (arith, undone-within (imageAt c) (kept (c .before .before .before .before .before .before .before .before .before .before)) (memoryAt c) (diskAt c) (c .before .before .before .before .before .before .before .before .before .before .before .before .before .before .before .before .before .before .before .before .before .pre .0), ap (λ (r : Recovered). r .undone) (found c))
+few c = omega (arith, undone-within (imageAt c) (kept (passed c)) (memoryAt c) (diskAt c) (begun c .pre .0), ap (λ (r : Recovered). r .undone) (found c))
 
 -- the lengths are kept
 memory-whole : (c : tie.After-recover) → length (c .recover .last .1 .1 .0) ≡ 4096
-memory-whole c = c .recover .kept .1 .1 .0 ∙ (c .before .before .before .before .before .before .before .before .before .before .before .before .before .before .load .kept .1 .1 .0 ∙ c .before .before .before .before .before .before .before .before .before .before .before .before .before .before .before .before .before .before .before .before .before .pre .1)
+memory-whole c = c .recover .kept .1 .1 .0 ∙ (loaded (passed c) .load .kept .1 .1 .0 ∙ begun c .pre .1)
 
 tail-whole : (c : tie.After-recover) → length (c .recover .last .1 .1 .1 .0) ≡ 16384
-tail-whole c = c .recover .kept .1 .1 .1 .0 ∙ (c .before .before .before .before .before .before .before .before .fill-zero .kept .0 ∙ c .before .before .before .before .before .before .before .before .before .before .before .before .before .before .before .before .before .before .before .before .before .pre .2)
+tail-whole c = c .recover .kept .1 .1 .1 .0 ∙ (c .before .before .before .before .before .before .before .before .fill-zero .kept .0 ∙ begun c .pre .2)
 
 add-end : tie.Need-add-end
 add-end c = omega (arith, ends (c .before .before .before .before .before))
@@ -131,39 +148,40 @@ add-if3 : tie.Need-add-if3
 add-if3 c = omega (arith, ends (c .before .before .before .before .before .before), few (c .before .before .before .before .before .before))
 
 refuse-requires-3 : tie.Need-refuse-requires-3
-refuse-requires-3 c κs = (memory-whole (c .before .before .before .before .before .before .before .before .before), tail-whole (c .before .before .before .before .before .before .before .before .before))
+refuse-requires-3 c κs = let x = c .before .before .before .before .before .before .before .before .before in (memory-whole x, tail-whole x)
 
 same-length-5 : tie.Need-same-length-5
-same-length-5 c = c .before .before .before .before .refuse3 .kept .1 .0 ∙ (memory-whole (c .before .before .before .before .before .before .before .before .before .before .before .before .before .before) ∙ sym (c .before .before .before .before .before .before .before .before .before .before .before .before .before .before .before .before .before .before .before .before .before .before .before .before .before .before .before .before .before .before .before .before .before .before .before .pre .1))
+same-length-5 c = let x = c .before .before .before .before .before .before .before .before .before .before .before .before .before .before in c .before .before .before .before .refuse3 .kept .1 .0 ∙ (memory-whole x ∙ sym (begun x .pre .1))
 
 same-length-6 : tie.Need-same-length-6
-same-length-6 c = c .before .before .before .before .refuse3 .kept .1 .1 .0 ∙ (tail-whole (c .before .before .before .before .before .before .before .before .before .before .before .before .before .before) ∙ sym (c .before .before .before .before .before .before .before .before .before .before .before .before .before .before .before .before .before .before .before .before .before .before .before .before .before .before .before .before .before .before .before .before .before .before .before .pre .2))
+same-length-6 c = let x = c .before .before .before .before .before .before .before .before .before .before .before .before .before .before in c .before .before .before .before .refuse3 .kept .1 .1 .0 ∙ (tail-whole x ∙ sym (begun x .pre .2))
 
 returns-3 : tie.Need-returns-3
 returns-3 c =
+    let x = c .before .before .before .before .before .before .before .before .before .before .before .before .before .before in
+    let l = loaded (passed x) in
     let r = c .before .before .before .before .refuse3 .ensures in
-    let l = c .before .before .before .before .before .before .before .before .before .before .before .before .before .before .before .before .before .before .before .before .before .before .before .before .before .before .before .before .load in
-    let f = found (c .before .before .before .before .before .before .before .before .before .before .before .before .before .before) in
-    let e = means-5 (c .before .before .before .before .before .before .before .before .before .before .before .before .before .before .before .before .before .before .before .before .before .before .before .before .before .before .before .before .before .before .before .before .before .before .before .args .disk .now) (c .before .before .before .before .before .before .before .before .before .before .before .before .before .before .before .before .before .before .before .before .before .before .before .before .before .before .before .before .before .before .if1 .left) (l .result) (l .last .1 .1 .0) (l .ensures .0) (l .ensures .1) (not-no _ (c .before .before .before .before .before .before .before .before .before .before .before .before .before .before .before .before .before .before .before .before .before .before .before .before .if2 .left))
-    (omega (arith, c .before .before .before .before .before .before .before .if3 .taken, ap (λ (x : Recovered). x .end) f, ap (λ (x : Recovered). x .undone) f)) in
+    let f = found x in
+    let e = means-5 (diskAt x) (l .before .before .if1 .left) (l .load .result) (memoryAt x) (l .load .ensures .0) (l .load .ensures .1) (not-false _ (passed x .if2 .left))
+    (omega (arith, c .before .before .before .before .before .before .before .if3 .taken, ap (λ (y : Recovered). y .end) f, ap (λ (y : Recovered). y .undone) f)) in
     told e (r .0) (r .1 .0) (r .1 .1)
 
 same-length-7 : tie.Need-same-length-7
-same-length-7 c = memory-whole (c .before .before .before .before .before .before .before .before .before .before) ∙ sym (c .before .before .before .before .before .before .before .before .before .before .before .before .before .before .before .before .before .before .before .before .before .before .before .before .before .before .before .before .before .before .before .pre .1)
+same-length-7 c = let x = c .before .before .before .before .before .before .before .before .before .before in memory-whole x ∙ sym (begun x .pre .1)
 
 same-length-8 : tie.Need-same-length-8
 same-length-8 c = search needs
 
 returns-4 : tie.Need-returns-4
 returns-4 c =
-    let l = c .before .before .before .before .before .before .before .before .before .before .before .before .before .before .before .before .before .before .before .before .before .before .before .before .load in
-    let f = found (c .before .before .before .before .before .before .before .before .before .before) in
-    let e = means (c .before .before .before .before .before .before .before .before .before .before .before .before .before .before .before .before .before .before .before .before .before .before .before .before .before .before .before .before .before .before .before .args .disk .now) (c .before .before .before .before .before .before .before .before .before .before .before .before .before .before .before .before .before .before .before .before .before .before .before .before .before .before .if1 .left) (l .result) (l .last .1 .1 .0) (l .ensures .0) (l .ensures .1) (not-no _ (c .before .before .before .before .before .before .before .before .before .before .before .before .before .before .before .before .before .before .before .before .if2 .left))
-    (omega (arith, c .before .before .before .if3 .left, ap (λ (x : Recovered). x .end) f, ap (λ (x : Recovered). x .undone) f)) in
+    let x = c .before .before .before .before .before .before .before .before .before .before in
+    let l = loaded (passed x) in
+    let f = found x in
+    let e = means (diskAt x) (l .before .before .if1 .left) (l .load .result) (memoryAt x) (l .load .ensures .0) (l .load .ensures .1) (not-false _ (passed x .if2 .left))
+    (omega (arith, c .before .before .before .if3 .left, ap (λ (y : Recovered). y .end) f, ap (λ (y : Recovered). y .undone) f)) in
     told e
-    (ap (λ (x : Recovered). record { number = 0; end = l .result .image .logend + x .end; csn = x .csn; last = x .last; undone = x .undone; found = x .found }) f)
-    (remembered (c .before .before .before .before .before .before .before .before .before .before))
-    (appended (c .before .before .before .before .before .before .before .before .before .before))
+    (ap (λ (y : Recovered). record { number = 0; end = imageAt x .logend + y .end; csn = y .csn; last = y .last; undone = y .undone; found = y .found }) f)
+    (remembered x) (appended x)
 
 pub examine-spec : {M : Type 1} → statement M
 examine-spec =

@@ -1,12 +1,11 @@
 use Prim.Native.Nat.{_+_, _≤_}
 use borrow.Author.Needs.{needs}
-use borrow.Author.Tests.{eq-eqb, ne-eqb}
+use borrow.Author.Tests.{eq-eqb, ne-eqb, not-true, not-false}
 use native.Mathlib.Omega.{arith}
 use lib.ListN.{length, drop, getD, List·getD-eq-default, length-drop}
 use lib.Seq.{length-take-le}
 use denote.Ref.{now}
 use Rattle.log.specs.Record.{readRedo}
-use Rattle.log.proofs.Basics.{not-yes, not-no}
 use Rattle.log.proofs.record.read_redo.Statement.{statement}
 use Rattle.log.proofs.record.read_redo.Tie as tie
 
@@ -55,7 +54,7 @@ returns-4 c =
       eq-eqb _ _ (c .before .before .before .if3 .left),
       ← c .before .before .be16 .ensures,
       ← c .before .in-range .ensures,
-      not-yes (c .before .in-range .result) (c .if4 .taken),
+      not-true (c .before .in-range .result) (c .if4 .taken),
     )
 
 returns-5 : tie.Need-returns-5
@@ -67,7 +66,7 @@ returns-5 c =
       eq-eqb _ _ (c .before .before .before .if3 .left),
       ← c .before .before .be16 .ensures,
       ← c .before .in-range .ensures,
-      not-no (c .before .in-range .result) (c .if4 .left),
+      not-false (c .before .in-range .result) (c .if4 .left),
       length-take-le (getD s 5 0) (drop 6 s) h,
     )
 

@@ -19,7 +19,11 @@ returns c =
     leaves (checkpoint-refused (a .self) (a .disk .now) (a .memory .now) (a .tail .now) (a .allowed) _ (sym (c .before .admit-disk .ensures)) (c .if1 .taken)) refl refl refl refl
 
 -- nothing refuses
-passed : (c : tie.Else1) → let a = c .before .before .before .before .before .before .args in diskNumber (a .self) (a .disk .now) (a .memory .now) (a .tail .now) ≡ 0
+
+abbrev start : tie.Else1 → tie.Start
+start c = c .before .before .before .before .before .before
+
+passed : (c : tie.Else1) → let a = start c .args in diskNumber (a .self) (a .disk .now) (a .memory .now) (a .tail .now) ≡ 0
 passed c = sym (c .before .admit-disk .ensures) ∙ c .if1 .left
 
 image-requires : tie.Need-image-requires
@@ -30,15 +34,21 @@ slice-aggregate-encode c = search needs
 
 encode-requires : tie.Need-encode-requires
 encode-requires c κs =
-    let a = c .before .before .before .before .before .before .before .before .before .args in
-    let z = passed (c .before .before .before) in
-    (image-ok (a .self) (a .disk .now) (a .memory .now) (a .tail .now) (a .allowed) z (c .before .before .image .result) (c .before .before .image .ensures), (disk-admitted (a .self) (a .disk .now) (a .memory .now) (a .tail .now) z .memory, omega arith))
+    let x = c .before .before .before in
+    let a = start x .args in
+    let image = c .before .before .image in
+    (image-ok (a .self) (a .disk .now) (a .memory .now) (a .tail .now) (a .allowed) (passed x) (image .result) (image .ensures), (disk-admitted (a .self) (a .disk .now) (a .memory .now) (a .tail .now) (passed x) .memory, omega arith))
 
 -- the buffer holds the image
-image-bytes : (c : tie.After-encode) → let a = c .before .before .before .before .before .before .before .before .before .before .args in Encoded (a .self) (a .disk .now) (a .memory .now) (c .encode .last .0) (c .encode .result)
-image-bytes c =
-    let a = c .before .before .before .before .before .before .before .before .before .before .args in
-    encoded (a .self) (a .disk .now) (a .memory .now) (a .tail .now) (a .allowed) (passed (c .before .before .before .before)) (c .before .before .before .image .result) (c .encode .result) (replicate 8653 0) (c .encode .last .0) (c .before .before .before .image .ensures) (c .encode .ensures .0) (simp length-replicate (omega arith)) (c .encode .ensures .1)
+
+abbrev accepted : tie.After-encode → tie.Else1
+accepted e = e .before .before .before .before
+
+image-bytes : (e : tie.After-encode) → let a = start (accepted e) .args in Encoded (a .self) (a .disk .now) (a .memory .now) (e .encode .last .0) (e .encode .result)
+image-bytes e =
+    let a = start (accepted e) .args in
+    let image = e .before .before .before .image in
+    encoded (a .self) (a .disk .now) (a .memory .now) (a .tail .now) (a .allowed) (passed (accepted e)) (image .result) (e .encode .result) (replicate 8653 0) (e .encode .last .0) (image .ensures) (e .encode .ensures .0) (simp length-replicate (omega arith)) (e .encode .ensures .1)
 
 array-share-prefix-bytes : tie.Need-array-share-prefix-bytes
 array-share-prefix-bytes c = let e = image-bytes (c .before .before) in omega (arith, e .small, c .before .before .encode .kept .0)
@@ -63,11 +73,12 @@ same-length-4 c = search needs
 
 returns-2 : tie.Need-returns-2
 returns-2 c =
-    let a = c .before .before .before .before .before .before .before .before .before .before .before .before .before .before .before .before .before .before .before .before .before .before .before .before .args in
+    let e = c .before .before .before .before .before .before .before .before .before .before .before .before .before .before in
+    let a = start (accepted e) .args in
     let made = c .before .before .before .before .before .before .before .before .before .before .store-image in
     let off = c .before .before .before .before .cut-off in
     leaves
-    (checkpoint-cut (a .self) (a .disk .now) (a .memory .now) (a .tail .now) (a .allowed) (passed (c .before .before .before .before .before .before .before .before .before .before .before .before .before .before .before .before .before .before)) (c .before .before .before .before .before .before .before .before .before .before .before .before .before .before .encode .result) (made .result) (c .before .before .before .before .before .before .before .before .before .before .before .before .before .before .encode .last .0) (made .last .0) (image-bytes (c .before .before .before .before .before .before .before .before .before .before .before .before .before .before)) (made .ensures .0) (made .ensures .1) (c .before .before .before .before .before .before .before .if2 .taken))
+    (checkpoint-cut (a .self) (a .disk .now) (a .memory .now) (a .tail .now) (a .allowed) (passed (accepted e)) (e .encode .result) (made .result) (e .encode .last .0) (made .last .0) (image-bytes e) (made .ensures .0) (made .ensures .1) (c .before .before .before .before .before .before .before .if2 .taken))
     (off .ensures .0) refl (off .ensures .1 .0) (off .ensures .1 .1)
 
 same-length-5 : tie.Need-same-length-5
@@ -81,10 +92,11 @@ same-length-7 c = search needs
 
 returns-3 : tie.Need-returns-3
 returns-3 c =
-    let a = c .before .before .before .before .before .before .before .before .before .before .before .before .before .before .before .before .before .args in
+    let e = c .before .before .before .before .before .before .before in
+    let a = start (accepted e) .args in
     let made = c .before .before .before .store-image in
     leaves
-    (checkpoint-done (a .self) (a .disk .now) (a .memory .now) (a .tail .now) (a .allowed) (passed (c .before .before .before .before .before .before .before .before .before .before .before)) (c .before .before .before .before .before .before .before .encode .result) (made .result) (c .before .before .before .before .before .before .before .encode .last .0) (made .last .0) (image-bytes (c .before .before .before .before .before .before .before)) (made .ensures .0) (made .ensures .1) (c .if2 .left))
+    (checkpoint-done (a .self) (a .disk .now) (a .memory .now) (a .tail .now) (a .allowed) (passed (accepted e)) (e .encode .result) (made .result) (e .encode .last .0) (made .last .0) (image-bytes e) (made .ensures .0) (made .ensures .1) (c .if2 .left))
     refl refl refl refl
 
 pub checkpoint-spec : {M : Type 1} → statement M

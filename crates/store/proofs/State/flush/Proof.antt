@@ -21,7 +21,11 @@ returns c =
     leaves (flush-refused (a .self) (a .disk .now) (a .memory .now) (a .tail .now) (a .k) (a .allowed) _ (sym (c .before .admit-disk .ensures)) (c .if1 .taken)) refl refl refl refl
 
 -- nothing refuses
-passed : (c : tie.Else1) → let a = c .before .before .before .before .before .before .args in diskNumber (a .self) (a .disk .now) (a .memory .now) (a .tail .now) ≡ 0
+
+abbrev start : tie.Else1 → tie.Start
+start c = c .before .before .before .before .before .before
+
+passed : (c : tie.Else1) → let a = start c .args in diskNumber (a .self) (a .disk .now) (a .memory .now) (a .tail .now) ≡ 0
 passed c = sym (c .before .admit-disk .ensures) ∙ c .if1 .left
 
 read-first-requires : tie.Need-read-first-requires
@@ -31,10 +35,14 @@ cast-end : tie.Need-cast-end
 cast-end c = search needs
 
 -- what was read fits into its buffers
-room : (c : tie.After-read-first) → let a = c .before .before .before .before .before .before .before .before .args in Room (a .self) (a .disk .now) (a .tail .now) (c .read-first .result .end)
-room c =
-    let a = c .before .before .before .before .before .before .before .before .args in
-    flush-fits (a .self) (a .disk .now) (a .memory .now) (a .tail .now) (a .k) (a .allowed) (passed (c .before .before)) (c .read-first .result) (c .read-first .ensures)
+
+abbrev accepted : tie.After-read-first → tie.Else1
+accepted r = r .before .before
+
+room : (r : tie.After-read-first) → let a = start (accepted r) .args in Room (a .self) (a .disk .now) (a .tail .now) (r .read-first .result .end)
+room r =
+    let a = start (accepted r) .args in
+    flush-fits (a .self) (a .disk .now) (a .memory .now) (a .tail .now) (a .k) (a .allowed) (passed (accepted r)) (r .read-first .result) (r .read-first .ensures)
 
 sub-copy-up : tie.Need-sub-copy-up
 sub-copy-up c = omega (arith, room (c .before) .disk)
@@ -70,12 +78,12 @@ same-length-4 c = search needs
 
 returns-2 : tie.Need-returns-2
 returns-2 c =
-    let a = c .before .before .before .before .before .before .before .before .before .before .before .before .before .before .before .before .before .before .before .before .before .before .args in
-    let read = c .before .before .before .before .before .before .before .before .before .before .before .before .before .before .read-first in
+    let r = c .before .before .before .before .before .before .before .before .before .before .before .before .before .before in
+    let a = start (accepted r) .args in
     let up = c .before .before .before .before .before .before .before .before .before .before .copy-up in
     let off = c .before .before .before .before .cut-off in
     leaves
-    (flush-cut (a .self) (a .disk .now) (a .memory .now) (a .tail .now) (a .k) (a .allowed) (passed (c .before .before .before .before .before .before .before .before .before .before .before .before .before .before .before .before)) (read .result) (read .ensures) (up .result) (up .last .0) (up .ensures .0) (up .ensures .1) (c .before .before .before .before .before .before .before .if2 .taken))
+    (flush-cut (a .self) (a .disk .now) (a .memory .now) (a .tail .now) (a .k) (a .allowed) (passed (accepted r)) (r .read-first .result) (r .read-first .ensures) (up .result) (up .last .0) (up .ensures .0) (up .ensures .1) (c .before .before .before .before .before .before .before .if2 .taken))
     (off .ensures .0) refl (off .ensures .1 .0) (off .ensures .1 .1)
 
 shift-down-requires : tie.Need-shift-down-requires
@@ -92,11 +100,11 @@ same-length-6 c = search needs
 
 returns-3 : tie.Need-returns-3
 returns-3 c =
-    let a = c .before .before .before .before .before .before .before .before .before .before .before .before .before .before .before .before .before .before .before .before .args in
-    let read = c .before .before .before .before .before .before .before .before .before .before .before .before .read-first in
+    let r = c .before .before .before .before .before .before .before .before .before .before .before .before in
+    let a = start (accepted r) .args in
     let up = c .before .before .before .before .before .before .before .before .copy-up in
     leaves
-    (flush-done (a .self) (a .disk .now) (a .memory .now) (a .tail .now) (a .k) (a .allowed) (passed (c .before .before .before .before .before .before .before .before .before .before .before .before .before .before)) (read .result) (read .ensures) (up .result) (up .last .0) (up .ensures .0) (up .ensures .1) (c .before .before .before .before .before .if2 .left))
+    (flush-done (a .self) (a .disk .now) (a .memory .now) (a .tail .now) (a .k) (a .allowed) (passed (accepted r)) (r .read-first .result) (r .read-first .ensures) (up .result) (up .last .0) (up .ensures .0) (up .ensures .1) (c .before .before .before .before .before .if2 .left))
     (ap (stored done (up .result)) (c .flush-step .ensures)) refl refl (c .before .before .before .shift-down .ensures)
 
 pub flush-spec : {M : Type 1} → statement M

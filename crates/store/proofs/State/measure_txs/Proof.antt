@@ -12,9 +12,11 @@ use Rattle.transaction.specs.View.{rangesOf}
 use Rattle.transaction.specs.Rules.{recordsOk, headOk, outlineOk, alike, redoOk, roomOf}
 use Rattle.transaction.proofs.Lists.{up-done, every-bad, every-good, sum-turn}
 use Rattle.transaction.proofs.Ranges.{counted}
-use Rattle.store.specs.State.{txAt, txsOf, outlineAt, outlinesOf}
 use Rattle.image.specs.Rules.{distinct}
-use Rattle.store.proofs.Admitting.{by-keys, bad-outline, bad-alike, bad-redo, good-txs, distinct-bad, distinct-good, redo-records, room-bound}
+use Rattle.image.proofs.Rules.{distinct-hit, distinct-miss}
+use Rattle.store.specs.declared.State.{State}
+use Rattle.store.specs.State.{txAt, txsOf, outlineAt, outlinesOf}
+use Rattle.store.proofs.Admitting.{by-keys, bad-outline, bad-alike, bad-redo, good-txs, redo-records, room-bound}
 use Rattle.store.proofs.State.measure_txs.Statement.{statement}
 use Rattle.store.proofs.State.measure_txs.Tie as tie
 
@@ -51,27 +53,38 @@ element-copy-out-t c = search needs
 image-ok-requires : tie.Need-image-ok-requires Inv-loop μ-loop
 image-ok-requires c κs = search needs
 
+-- ---- a turn: the state, the place, and what the rules that were tested say of the transaction at hand
+
+abbrev whole : tie.After-t Inv-loop μ-loop → State
+whole t = t .before .before .before .before .before .before .args .t1
+
+abbrev at : tie.After-t Inv-loop μ-loop → ℕ
+at t = t .before .before .loop .i
+
 returns : tie.Need-returns Inv-loop μ-loop
 returns c =
-    let s = c .before .before .before .before .before .before .before .before .args .t1 in
+    let t = c .before .before in
+    let s = whole t in
     sym
     (bad-outline s
-    (c .before .before .before .before .loop .inv .2 ∙ every-bad (outlineAt s) _ _ (c .before .before .before .loop-test .taken) (outlineOk (s .lastid .0) (s .assigned .0)) (sym (c .before .image-ok .ensures) ∙ not-true _ (c .if1 .taken))))
+    (t .before .before .loop .inv .2 ∙ every-bad (outlineAt s) _ _ (t .before .loop-test .taken) (outlineOk (s .lastid .0) (s .assigned .0)) (sym (c .before .image-ok .ensures) ∙ not-true _ (c .if1 .taken))))
 
--- in a turn: what the rules that were tested say of the transaction at hand
-undo : (c : tie.After-t Inv-loop μ-loop) → let args = c .before .before .before .before .before .before .args in
-    outlineOk (args .t1 .lastid .0) (args .t1 .assigned .0) (outlineAt (args .t1) (c .before .before .loop .i)) ≡ true → recordsOk (rangesOf (txAt (args .t1) (c .before .before .loop .i) .undo)) ≡ true
-undo c e =
-    let args = c .before .before .before .before .before .before .args in
-    let t = txAt (args .t1) (c .before .before .loop .i) in and-right (headOk (args .t1 .lastid .0) (args .t1 .assigned .0) (t .id .0) (t .status) (t .csn .0)) _ e
+good-outline : (c : tie.Else1 Inv-loop μ-loop) → let s = whole (c .before .before) in outlineOk (s .lastid .0) (s .assigned .0) (outlineAt s (at (c .before .before))) ≡ true
+good-outline c = sym (c .before .image-ok .ensures) ∙ not-false _ (c .if1 .left)
+
+good-undo : (c : tie.Else1 Inv-loop μ-loop) → recordsOk (rangesOf (txAt (whole (c .before .before)) (at (c .before .before)) .undo)) ≡ true
+good-undo c =
+    let s = whole (c .before .before) in
+    let t = txAt s (at (c .before .before)) in
+    and-right (headOk (s .lastid .0) (s .assigned .0) (t .id .0) (t .status) (t .csn .0)) _ (good-outline c)
 
 redo-ok-requires : tie.Need-redo-ok-requires Inv-loop μ-loop
-redo-ok-requires c κs = counted (txAt (c .before .before .before .before .before .before .before .before .args .t1) (c .before .before .before .before .loop .i) .undo) (undo (c .before .before) (sym (c .before .image-ok .ensures) ∙ not-false _ (c .if1 .left)))
+redo-ok-requires c κs = counted (txAt (whole (c .before .before)) (at (c .before .before)) .undo) (good-undo c)
 
 returns-2 : tie.Need-returns-2 Inv-loop μ-loop
 returns-2 c =
-    let s = c .before .before .before .before .before .before .before .before .before .before .args .t1 in
-    sym (bad-redo s (c .before .before .before .before .before .before .loop .inv .4 ∙ every-bad (txAt s) _ _ (c .before .before .before .before .before .loop-test .taken) redoOk (sym (c .before .redo-ok .ensures) ∙ not-true _ (c .if2 .taken))))
+    let t = c .before .before .before .before in
+    sym (bad-redo (whole t) (t .before .before .loop .inv .4 ∙ every-bad (txAt (whole t)) _ _ (t .before .loop-test .taken) redoOk (sym (c .before .redo-ok .ensures) ∙ not-true _ (c .if2 .taken))))
 
 add-alike-from : tie.Need-add-alike-from Inv-loop μ-loop
 add-alike-from c = search needs
@@ -79,36 +92,34 @@ add-alike-from c = search needs
 alike-from-requires : tie.Need-alike-from-requires Inv-loop μ-loop
 alike-from-requires c κs = search needs
 
-good-undo : (c : tie.Else2 Inv-loop μ-loop) → recordsOk (rangesOf (txAt (c .before .before .before .before .before .before .before .before .before .before .args .t1) (c .before .before .before .before .before .before .loop .i) .undo)) ≡ true
-good-undo c = undo (c .before .before .before .before) (sym (c .before .before .before .image-ok .ensures) ∙ not-false _ (c .before .before .if1 .left))
-
-good-redo : (c : tie.Else2 Inv-loop μ-loop) → redoOk (txAt (c .before .before .before .before .before .before .before .before .before .before .args .t1) (c .before .before .before .before .before .before .loop .i)) ≡ true
+good-redo : (c : tie.Else2 Inv-loop μ-loop) → let t = c .before .before .before .before in redoOk (txAt (whole t) (at t)) ≡ true
 good-redo c = sym (c .before .redo-ok .ensures) ∙ not-false _ (c .if2 .left)
 
 -- what the keys tell of the later transactions
 compared : (c : tie.After-alike-from Inv-loop μ-loop)
-    → let s = c .before .before .before .before .before .before .before .before .before .before .before .args .t1 in
-    let i = c .before .before .before .before .before .before .before .loop .i in
+    → let s = whole (c .before .before .before .before .before) in
+    let i = at (c .before .before .before .before .before) in
     c .alike-from .result ≡ any (alike (txAt s i .id .0) (txAt s i .csn .0)) (upFrom (outlineAt s) (s .count - (i + 1)) (i + 1))
 compared c =
-    let s = c .before .before .before .before .before .before .before .before .before .before .before .args .t1 in
-    let i = c .before .before .before .before .before .before .before .loop .i in
+    let t = c .before .before .before .before .before in
+    let s = whole t in
+    let keys = t .before .before .before .keys in
     c .alike-from .ensures
-    ∙ by-keys s (c .before .before .before .before .before .before .before .before .keys .result) (c .before .before .before .before .before .before .before .before .keys .ensures) (txAt s i .id .0) (txAt s i .csn .0) (s .count - (i + 1)) (i + 1) (omega (arith, c .before .before .before .before .before .before .before .before .before .before .before .pre, c .before .before .before .before .before .before .loop-test .taken))
+    ∙ by-keys s (keys .result) (keys .ensures) (txAt s (at t) .id .0) (txAt s (at t) .csn .0) (s .count - (at t + 1)) (at t + 1) (omega (arith, t .before .before .before .before .before .before .pre, t .before .loop-test .taken))
 
 returns-3 : tie.Need-returns-3 Inv-loop μ-loop
 returns-3 c =
-    let s = c .before .before .before .before .before .before .before .before .before .before .before .before .args .t1 in
-    sym (bad-alike s (c .before .before .before .before .before .before .before .before .loop .inv .3 ∙ distinct-bad s _ _ (c .before .before .before .before .before .before .before .loop-test .taken) (sym (compared (c .before)) ∙ c .if3 .taken)))
+    let t = c .before .before .before .before .before .before in
+    sym (bad-alike (whole t) (t .before .before .loop .inv .3 ∙ distinct-hit (whole t .txs) _ _ (t .before .loop-test .taken) (sym (compared (c .before)) ∙ c .if3 .taken)))
 
 room-requires : tie.Need-room-requires Inv-loop μ-loop
-room-requires c κs = redo-records (txAt (c .before .before .before .before .before .before .before .before .before .before .before .before .args .t1) (c .before .before .before .before .before .before .before .before .loop .i)) (good-undo (c .before .before)) (good-redo (c .before .before))
+room-requires c κs = let t = c .before .before .before .before .before .before in redo-records (txAt (whole t) (at t)) (good-undo (c .before .before .before .before)) (good-redo (c .before .before))
 
 small : (c : tie.After-room Inv-loop μ-loop) → c .room .result ≤ 632
-small c = omega (arith, c .room .ensures, room-bound (txAt (c .before .before .before .before .before .before .before .before .before .before .before .before .before .args .t1) (c .before .before .before .before .before .before .before .before .before .loop .i)) (good-undo (c .before .before .before)) (good-redo (c .before .before .before)))
+small c = let t = c .before .before .before .before .before .before .before in omega (arith, c .room .ensures, room-bound (txAt (whole t) (at t)) (good-undo (c .before .before .before .before .before)) (good-redo (c .before .before .before)))
 
 add-room : tie.Need-add-room Inv-loop μ-loop
-add-room c = let h = small (c) in let g = c .before .before .before .before .before .before .before .before .before .before .before .before .before .pre in omega arith
+add-room c = let g = c .before .before .before .before .before .before .before .before .before .before .before .before .before .pre in omega (arith, small c)
 
 add-i : tie.Need-add-i Inv-loop μ-loop
 add-i c = search needs
@@ -118,15 +129,16 @@ loop-less c = search needs
 
 loop-again : tie.Need-loop-again Inv-loop μ-loop
 loop-again c =
-    let s = c .before .before .before .before .before .before .before .before .before .before .before .before .before .args .t1 in
-    let h = c .before .before .before .before .before .before .before .before .loop-test .taken in
-    let t = sum-turn (txAt s) (s .count) (c .before .before .before .before .before .before .before .before .before .loop .i) h roomOf in (
+    let t = c .before .before .before .before .before .before .before in
+    let s = whole t in
+    let v = t .before .before .loop .inv in
+    let h = t .before .loop-test .taken in (
       omega arith,
-      (let b = small (c) in omega arith),
-      c .before .before .before .before .before .before .before .before .before .loop .inv .2 ∙ every-good (outlineAt s) _ _ h (outlineOk (s .lastid .0) (s .assigned .0)) (sym (c .before .before .before .before .before .before .image-ok .ensures) ∙ not-false _ (c .before .before .before .before .before .if1 .left)),
-      c .before .before .before .before .before .before .before .before .before .loop .inv .3 ∙ distinct-good s _ _ h (sym (compared (c .before .before)) ∙ c .before .if3 .left),
-      c .before .before .before .before .before .before .before .before .before .loop .inv .4 ∙ every-good (txAt s) _ _ h redoOk (good-redo (c .before .before .before)),
-      omega (arith, t, c .before .before .before .before .before .before .before .before .before .loop .inv .5, c .room .ensures),
+      omega (arith, small c),
+      v .2 ∙ every-good (outlineAt s) _ _ h (outlineOk (s .lastid .0) (s .assigned .0)) (good-outline (c .before .before .before .before .before)),
+      v .3 ∙ distinct-miss (s .txs) _ _ h (sym (compared (c .before .before)) ∙ c .before .if3 .left),
+      v .4 ∙ every-good (txAt s) _ _ h redoOk (good-redo (c .before .before .before)),
+      omega (arith, sum-turn (txAt s) (s .count) (at t) h roomOf, v .5, c .room .ensures),
     )
 
 returns-4 : tie.Need-returns-4 Inv-loop μ-loop
