@@ -1,9 +1,9 @@
 -- Stores of which some are past the end of a list.
-use Prim.Native.Nat.{ℕ, suc, _+_, _-_, _≤_}
+use Prim.Native.Nat.{ℕ, suc, _+_, _≤_}
 use native.Mathlib.Omega.{arith}
-use mathlib.Core.List.{List, [], _∷_, _++_}
-use mathlib.Core.Path.{_≡_, refl, sym, ap, ap₂, _∙_}
-use lib.ListN.{length, take, drop, set, take-append-drop, length-set}
+use mathlib.Core.List.{List, [], _∷_}
+use mathlib.Core.Path.{_≡_, refl, sym, ap, _∙_}
+use lib.ListN.{length, take, drop, take-append-drop}
 use lib.Seq.{sets, set-out, length-sets, length-take-le}
 use Rattle.log.proofs.StoreLaws.{sets-append}
 
