@@ -1,7 +1,7 @@
 -- How a restart with 16,384 stores allowed ends: refused or done.
-use Prim.Native.Nat.{ℕ, _-_, _≤_}
+use Prim.Native.Nat.{ℕ, _≤_}
 use native.Mathlib.Omega.{arith}
-use mathlib.Core.Bool.{Bool, true, false, _&&_}
+use mathlib.Core.Bool.{Bool, true, false}
 use mathlib.Core.List.{List, [], _∷_}
 use mathlib.Core.Logic.{⊎-elim}
 use mathlib.Core.Path.{_≡_, refl, sym, ap, _∙_, subst}
@@ -13,7 +13,7 @@ use denote.Enum.Declared.{tagOf}
 use Rattle.log.proofs.Basics.{clash}
 use Rattle.store.proofs.Answer.{the-type}
 use Rattle.store.specs.declared.Answer.{Answer}
-use Rattle.store.specs.declared.Answer.the-variants.{Done, Cut, Refused}
+use Rattle.store.specs.declared.Answer.the-variants.{Done, Refused}
 use Rattle.store.specs.Answer.{cut, answer}
 use Rattle.store.specs.Stored.{DiskOutcome}
 use Rattle.disk.specs.declared.call.Restarted.{Restarted}
@@ -78,7 +78,7 @@ few-undone disk = go (ending disk)
 
 -- ---- the text by cases
 
--- an answer that the code found to be none of the other two
+-- an answer whose tag the code found to be that of another case
 refused-tag : (n : ℕ) (a : Answer) → a ≡ Refused n → OneOf (0 ∷ 1 ∷ []) (tagOf the-type a) → ⊥
 refused-tag n a e k = other (subst (λ (x : Answer). OneOf (0 ∷ 1 ∷ []) (tagOf the-type x)) e k)
   where

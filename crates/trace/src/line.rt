@@ -2,6 +2,9 @@
 use libc::STDOUT_FILENO;
 use store::Answer;
 use store::State;
+ghost use mathlib.Core.Path.{_≡_};
+ghost use Rattle.trace.specs.Adler.{adlerOf};
+ghost use Rattle.trace.specs.Outcome.{storedOf, readOf};
 
 // read prints the length of its part in place of an answer; each other call prints its answer.
 pub struct Outcome {
@@ -14,7 +17,9 @@ pub struct Outcome {
 }
 
 impl Outcome {
-    pub(crate) fn stored(answer: Answer, value: usize, stores: usize, state: State) -> Self {
+    pub(crate) fn stored(answer: Answer, value: usize, stores: usize, state: State) -> Self
+        ensures { λ r. ⌜ r ≡ storedOf answer value stores state ⌝ }
+    {
         Outcome {
             part: false,
             length: 0,
@@ -25,7 +30,9 @@ impl Outcome {
         }
     }
 
-    pub(crate) fn read(part: &[u8], state: State) -> Self {
+    pub(crate) fn read(part: &[u8], state: State) -> Self
+        ensures { λ r. ⌜ r ≡ readOf (now (part .entry)) state ⌝ }
+    {
         Outcome {
             part: true,
             length: part.len(),
@@ -37,25 +44,25 @@ impl Outcome {
     }
 }
 
-fn plus(sum: u32, x: u32) -> u32 {
-    (sum % 65521 + x % 65521) % 65521
-}
-
-fn byte(x: u8) -> u32 {
+fn byte(x: u8) -> u32
+    ensures { λ r. ⌜ r ≡ x ⌝ }
+{
     x as u32
 }
 
 // Adler-32 (RFC 1950).
-pub(crate) fn adler(s: &[u8]) -> u32 {
+pub(crate) fn adler(s: &[u8]) -> u32
+    ensures { λ r. ⌜ r ≡ adlerOf (now (s .entry)) ⌝ }
+{
     let mut a: u32 = 1;
     let mut b: u32 = 0;
     let mut i: usize = 0;
     while i < s.len() {
-        a = plus(a, byte(s[i]));
-        b = plus(b, a);
+        a = (a + byte(s[i])) % 65521;
+        b = (b + a) % 65521;
         i += 1;
     }
-    (b % 65521) * 65536 + a % 65521
+    b * 65536 + a
 }
 
 fn text(s: &[u8]) {

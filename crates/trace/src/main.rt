@@ -11,19 +11,16 @@ use crate::record::read_record;
 use disk::call::restart;
 use libc::STDIN_FILENO;
 use log::stores::copy;
+use log::stores::fill;
 use store::Answer;
 use store::State;
+ghost use mathlib.Core.Path.{_≡_};
+ghost use lib.Seq.{sets};
 
-fn fill(b: &mut [u8], value: u8) {
-    let mut i: usize = 0;
-    while i < b.len() {
-        b[i] = value;
-        i += 1;
-    }
-}
-
-// The bytes of src that lie on the disk from an offset on.
-fn damage(disk: &mut [u8], at: usize, src: &[u8]) {
+// Stores the bytes of src from an offset on, those that lie on the disk: `sets` leaves out what is past the end.
+fn damage(disk: &mut [u8], at: usize, src: &[u8])
+    ensures { λ _. ⌜ now (disk .exit) ≡ sets (now (disk .entry)) at (now (src .entry)) ⌝ }
+{
     if disk.len() <= at {
         return;
     }

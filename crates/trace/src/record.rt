@@ -3,6 +3,7 @@ use log::TxId;
 use log::number::be16;
 use log::number::be32;
 ghost use mathlib.Core.Path.{_≡_};
+ghost use Rattle.trace.specs.Record.{recordOf, dataOf};
 
 pub struct Record {
     pub call: u8,
@@ -14,7 +15,9 @@ pub struct Record {
 }
 
 // All zero, which is no call, where the bytes are not 64.
-pub(crate) fn read_record(b: &[u8]) -> Record {
+pub(crate) fn read_record(b: &[u8]) -> Record
+    ensures { λ r. ⌜ r ≡ recordOf (now (b .entry)) ⌝ }
+{
     if b.len() != 64 {
         return Record {
             call: 0,
@@ -36,7 +39,9 @@ pub(crate) fn read_record(b: &[u8]) -> Record {
 }
 
 // The data bytes; a count above 40 counts as 40.
-pub(crate) fn data_of(b: &[u8]) -> &[u8] {
+pub(crate) fn data_of(b: &[u8]) -> &[u8]
+    ensures { λ r. ⌜ now r ≡ dataOf (now (b .entry)) ⌝ }
+{
     if b.len() != 64 {
         return &b[0..0];
     }

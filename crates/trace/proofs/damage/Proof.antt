@@ -1,11 +1,14 @@
+use Prim.Native.Nat.{_-_}
 use borrow.Author.Needs.{needs}
 use native.Mathlib.Omega.{arith}
-use lib.ListN.{length-take}
+use mathlib.Core.Path.{sym, _∙_}
+use lib.ListN.{length, length-take}
+use Rattle.trace.proofs.PastEnd.{sets-out, sets-room}
 use Rattle.trace.proofs.damage.Statement.{statement}
 use Rattle.trace.proofs.damage.Tie as tie
 
 returns : tie.Need-returns
-returns c = search needs
+returns c = sym (sets-out (c .before .before .before .args .disk .now) (c .before .before .before .args .at) (c .before .before .before .args .src .now) (c .if1 .taken))
 
 sub-room : tie.Need-sub-room
 sub-room c = search needs
@@ -20,7 +23,9 @@ same-length : tie.Need-same-length
 same-length c = search needs
 
 returns-2 : tie.Need-returns-2
-returns-2 c = search needs
+returns-2 c =
+    let a = c .before .before .before .before .before .before .before .before .before .args in
+    c .before .before .copy .ensures ∙ sets-room (a .disk .now) (a .at) (a .src .now) (length (a .disk .now) - a .at) (omega (arith, c .before .before .before .before .before .if2 .taken)) (omega (arith, c .before .before .before .before .before .before .if1 .left))
 
 copy-requires-2 : tie.Need-copy-requires-2
 copy-requires-2 c κs = search needs

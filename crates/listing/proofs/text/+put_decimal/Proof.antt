@@ -1,10 +1,9 @@
-use Prim.Native.Nat.{ℕ, _<_, _≤_, _+_, _/_}
+use Prim.Native.Nat.{ℕ, _<_}
 use native.Mathlib.Omega.{arith}
-use mathlib.Core.Path.{_≡_, ap, _∙_}
+use mathlib.Core.Path.{ap, _∙_}
 use lib.ListN.{length, length-set}
 use borrow.Fn.Kinds.{In}
 use borrow.Fn.PlainCycle.{Measures, is, falls, and}
-use Rattle.listing.specs.Text.{decimal}
 use Rattle.listing.proofs.Decimal.{decimal-one, decimal-more, length-more}
 use Rattle.listing.proofs.Putting.{put-one, put-then}
 use Rattle.listing.proofs.text.put_decimal.Reads as put-decimal

@@ -1,0 +1,4 @@
+-- Laws of Adler-32 (Adler), of a record's parts (Parts) and of stores past a list's end (PastEnd).
+pub mod Adler
+pub mod Parts
+pub mod PastEnd

@@ -1,0 +1,62 @@
+use lib.ListN.{length}
+use borrow.Author.Needs.{needs}
+use borrow.Author.Tests.{eq-eqb, ne-eqb}
+use Rattle.trace.specs.Record.{recordOf}
+use Rattle.trace.proofs.record.read_record.Statement.{statement}
+use Rattle.trace.proofs.record.read_record.Tie as tie
+
+returns : tie.Need-returns
+unfolding recordOf
+returns c = rw (ne-eqb (length (c .before .before .args .b .now)) 64 (c .if1 .taken))
+
+shared-slice-read-t6 : tie.Need-shared-slice-read-t6
+shared-slice-read-t6 c = search needs
+
+be16-requires : tie.Need-be16-requires
+be16-requires c κs = search needs
+
+be32-requires : tie.Need-be32-requires
+be32-requires c κs = search needs
+
+cast-t2 : tie.Need-cast-t2
+cast-t2 c = search needs
+
+be32-requires-2 : tie.Need-be32-requires-2
+be32-requires-2 c κs = search needs
+
+cast-t11 : tie.Need-cast-t11
+cast-t11 c = search needs
+
+be32-requires-3 : tie.Need-be32-requires-3
+be32-requires-3 c κs = search needs
+
+cast-t13 : tie.Need-cast-t13
+cast-t13 c = search needs
+
+be32-requires-4 : tie.Need-be32-requires-4
+be32-requires-4 c κs = search needs
+
+cast-t15 : tie.Need-cast-t15
+cast-t15 c = search needs
+
+returns-2 : tie.Need-returns-2
+unfolding recordOf
+returns-2 c =
+    rw (eq-eqb (length (c .before .before .before .before .before .before .before .before .args .b .now)) 64 (c .before .before .before .before .before .before .if1 .left), c .before .before .before .before .be16 .ensures, c .before .before .before .be32 .ensures, c .before .before .be322 .ensures, c .before .be323 .ensures, c .be324 .ensures)
+
+pub read-record-spec : {M : Type 1} → statement M
+read-record-spec =
+    tie.close
+    (tie.spec
+    returns
+    shared-slice-read-t6
+    be16-requires
+    be32-requires
+    cast-t2
+    be32-requires-2
+    cast-t11
+    be32-requires-3
+    cast-t13
+    be32-requires-4
+    cast-t15
+    returns-2)
