@@ -3,13 +3,13 @@ use Prim.Native.Nat.{ℕ, _+_, _-_, _≤_, _<_}
 use native.Mathlib.Decide.{decLe}
 use native.Mathlib.Omega.{arith}
 use mathlib.Core.Bool.{Bool, true, false, cond}
-use mathlib.Core.List.{List, [], _++_, append-nil, map}
-use mathlib.Core.Path.{_≡_, refl, sym, ap, ap₂, _∙_, subst}
-use lib.ListN.{length, take, drop, getD, replicate, length-replicate}
+use mathlib.Core.List.{List, _++_, append-nil, map}
+use mathlib.Core.Path.{_≡_, refl, sym, ap, _∙_, subst}
+use lib.ListN.{length, take, drop}
 use lib.Seq.{take-append-add, drop-drop}
 use borrow.Author.Tests.{ne-eqb}
 use Rattle.recovery.specs.Group.{groupsSize}
-use Rattle.recovery.specs.Machine.{Disk, Live, System, down, up, Step, checkpoints, checkpointIsCut, afterCheckpoint, withoutRedo}
+use Rattle.recovery.specs.Machine.{Disk, Live, down, up, checkpoints, checkpointIsCut, afterCheckpoint, withoutRedo}
 use Rattle.log.specs.Log.{readLog}
 use Rattle.log.specs.Stores.{apply}
 use Rattle.log.proofs.RoundTrip.{drop-take}
@@ -24,18 +24,18 @@ use Rattle.image.proofs.Lists.{up-map}
 use Rattle.image.proofs.Sizes.{length-content, image-small}
 use Rattle.image.proofs.RoundTrip.{Whole, Restored, image-restored}
 use Rattle.store.specs.declared.State.{State}
-use Rattle.store.specs.State.{imageOf, unrecovered}
+use Rattle.store.specs.State.{imageOf}
 use Rattle.store.specs.Checkpoint as checkpoint-spec
 use Rattle.store.specs.Checkpoint.{intoA, slotName, checkpointStores, checkpointPlan, checkpointOf}
 use Rattle.store.specs.View.{live}
-use Rattle.store.proofs.Fits.{Fit, fit}
+use Rattle.store.proofs.Fits.{fit}
 use Rattle.store.proofs.Storing.{diskNumber, stored-cut, stored-done}
 use Rattle.store.proofs.Checkpointing.{checkpoint-length, kept-pointer, kept-log, kept-a, kept-b, new-pointer, new-image, new-log}
 use Rattle.store.proofs.Stepping.{same-or-other}
 use Rattle.disk.specs.Layout.{pointerOf, slotOf, imagePart}
 use Rattle.disk.specs.Examine.{Loaded, loadOf}
 use Rattle.history.specs.Calls.{checkpoint, stored, World, stepOf}
-use Rattle.history.proofs.OnDisk.{OnDisk, opens, same-image}
+use Rattle.history.proofs.OnDisk.{OnDisk, same-image}
 use Rattle.history.proofs.Shows.{LiveOn, awake, rests, cut-rests, FollowsBy, refused-follows, checkpoint-refuses}
 
 -- what a pointer byte above 0 loads, of the part of a disk that it names

@@ -1,17 +1,16 @@
 -- Flush: refused, or a step of `recovery`'s machine, done or cut.
-use Prim.Native.Nat.{ℕ, zero, suc, _+_, _-_, _≤_, _<_, min}
+use Prim.Native.Nat.{ℕ, _+_, _-_, _≤_, _<_}
 use native.Mathlib.Decide.{decLe}
 use native.Mathlib.Omega.{arith}
-use mathlib.Core.Bool.{true}
-use mathlib.Core.List.{List, [], _∷_, _++_, append-assoc}
+use mathlib.Core.List.{List, _++_, append-assoc}
 use mathlib.Core.Path.{_≡_, refl, sym, ap, ap₂, _∙_, subst}
-use lib.ListN.{length, take, drop, replicate, length-take, length-append, length-replicate, take-append-drop}
-use lib.Seq.{sets, sets-eq, length-sets, length-take-le, take-all, take-at, drop-at, drop-drop}
+use lib.ListN.{length, take, drop, replicate, length-take, length-append, take-append-drop}
+use lib.Seq.{sets, sets-eq, length-take-le, take-all, take-at, drop-at, drop-drop}
 use Rattle.recovery.specs.Group.{Group, groupsSize, lastCsn, fitting}
 use Rattle.recovery.specs.Ledger as ledger
-use Rattle.recovery.specs.Machine.{Disk, Live, System, down, up, Step, flushes, flushIsCut, storing, afterFlush}
+use Rattle.recovery.specs.Machine.{Disk, Live, down, up, flushes, flushIsCut, storing, afterFlush}
 use Rattle.recovery.proofs.Groups.{groupsSize-append, fitting-all}
-use Rattle.log.specs.Log.{readLog, encodeLog, wellFormedLog}
+use Rattle.log.specs.Log.{readLog, encodeLog}
 use Rattle.log.specs.Stores.{apply, shifted}
 use Rattle.log.proofs.Parts.{encode-append, formed-first}
 use Rattle.log.proofs.RoundTrip.{drop-take, length-log, log-same}
@@ -19,19 +18,16 @@ use Rattle.log.proofs.Soundness.{log-formed}
 use Rattle.log.proofs.StoreLaws.{drop-zeros, length-apply, copies-cut, length-shifted}
 use Rattle.log.proofs.Torn.{log-cut}
 use Rattle.store.specs.declared.State.{State}
-use Rattle.store.specs.declared.stored.Stored.{Stored}
-use Rattle.store.specs.State.{unrecovered}
-use Rattle.store.specs.Stored.{DiskOutcome}
 use Rattle.store.specs.Flush.{firstGroups, firstSize, flushedState, flushedTail, flushStores, flushPlan, flushOf}
 use Rattle.store.specs.View.{live}
 use Rattle.store.proofs.Fits.{Fit, fit, unfit-no}
 use Rattle.store.proofs.Storing.{diskNumber, stored-cut, stored-done}
 use Rattle.store.proofs.Flushing.{flush-length, flush-room, flush-tail, flush-keeps}
-use Rattle.store.proofs.Checkpointing.{sets-before, sets-behind}
+use Rattle.store.proofs.Checkpointing.{sets-before}
 use Rattle.store.proofs.Stepping.{same-or-other}
 use Rattle.history.specs.Calls.{flush, stored, World, stepOf}
 use Rattle.history.proofs.Padded.{padded, padded-front, padded-shifted}
-use Rattle.history.proofs.OnDisk.{OnDisk, opens, same-front}
+use Rattle.history.proofs.OnDisk.{OnDisk, same-front}
 use Rattle.history.proofs.Shows.{Neat, LiveOn, awake, rests, cut-rests, FollowsBy, refused-follows, flush-refuses}
 
 module _ (w : World) (d : Disk) (l : Live) (o : OnDisk (w .disk) d) (v : LiveOn w d l) (number : lastCsn 0 (d .before ++ d .after) ≡ w .state .ondisk .0) (k : ℕ) where

@@ -3,18 +3,18 @@ use Prim.Native.Nat.{ℕ, suc, _+_, _-_, _≤_, _<_}
 use native.Mathlib.Omega.{arith}
 use native.Mathlib.Numerals.{add-one}
 use mathlib.Core.Bool.{Bool, true, false, _||_}
-use mathlib.Core.List.{List, [], _∷_, _++_}
+use mathlib.Core.List.{List, [], _∷_}
 use mathlib.Core.Path.{_≡_, refl, sym, ap, ap₂, _∙_, subst}
 use lib.ListN.{length, drop, replicate}
 use lib.Seq.{sets, length-sets}
 use lib.Dec.{eqb, ltb}
-use borrow.Author.Tests.{eq-eqb, ne-eqb, eqb-true, eqb-false, ltb-false}
+use borrow.Author.Tests.{ne-eqb, eqb-false, ltb-false}
 use Rattle.recovery.specs.Group.{Write, Group, aborted, groupsSize}
 use Rattle.recovery.specs.Lists.{any}
 use Rattle.recovery.specs.Transaction.{Tx as Transaction, running, lookup, heldByOther, reserved}
 use Rattle.recovery.specs.Ledger as ledger
 use Rattle.recovery.specs.Machine as machine
-use Rattle.recovery.specs.Machine.{Disk, Live, System, up, Listed, lastAssigned, Step, begins, writes, precommits, rollsBack, settles, afterBegin, afterWrite, afterPrecommit, afterAbort, afterSettle}
+use Rattle.recovery.specs.Machine.{Disk, Live, up, Listed, lastAssigned, Step, begins, writes, precommits, rollsBack, settles, afterBegin, afterWrite, afterPrecommit, afterAbort, afterSettle}
 use Rattle.recovery.proofs.Bool.{or-left, or-right}
 use Rattle.recovery.proofs.Byte.{undo-length}
 use Rattle.recovery.specs.Replay.{undoAll, layBytes}
@@ -29,7 +29,7 @@ use Rattle.store.specs.declared.call.Precommitted.{Precommitted}
 use Rattle.store.specs.declared.call.Returned.{Returned}
 use Rattle.store.specs.State.{imageOf, txsOf, slotOf}
 use Rattle.store.specs.Rules.{tailLength, roomUsed}
-use Rattle.store.specs.Numbers.{Check, check, firstNumber, txOf, check8, check9, check10, beginChecks, writeChecks, precommitChecks, abortChecks, settleChecks}
+use Rattle.store.specs.Numbers.{check, txOf, check8, check9, check10, beginChecks, writeChecks, precommitChecks, abortChecks, settleChecks}
 use Rattle.store.specs.Steps.{begunState, writtenState, precommittedState, droppedState}
 use Rattle.store.specs.Calls.{Outcome, beginNumber, writeNumber, precommitNumber, abortNumber, settleNumber, appended}
 use Rattle.store.specs.View.{live}
@@ -46,7 +46,7 @@ use Rattle.store.proofs.Keeping.{Kept, begin-keeps, write-keeps, precommit-keep
 use Rattle.history.specs.Calls.{Call, begin, write, precommit, abort, settle, World, Stepped, begun, returned, changed, precommitted, stepOf}
 use Rattle.history.specs.Demand.{eventOf}
 use Rattle.history.proofs.OnDisk.{OnDisk, opens}
-use Rattle.history.proofs.Shows.{Neat, LiveOn, awake, Follows, FollowsBy, refused-follows, begin-refuses, write-refuses, precommit-refuses, abort-refuses, settle-refuses, appended-neat}
+use Rattle.history.proofs.Shows.{Neat, LiveOn, awake, FollowsBy, refused-follows, begin-refuses, write-refuses, precommit-refuses, abort-refuses, settle-refuses, appended-neat}
 
 -- ---- the steps leave the log's end and the number on disk
 

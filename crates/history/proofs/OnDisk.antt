@@ -1,9 +1,9 @@
 -- A disk that shows an abstract one: the image that its pointer byte names, and the groups of its log. What restart makes of it then is what
 -- `recovery`'s machine says.
-use Prim.Native.Nat.{ℕ, zero, suc, _+_, _-_, _*_, _≤_}
+use Prim.Native.Nat.{ℕ, zero, _+_, _-_, _*_, _≤_}
 use native.Mathlib.Omega.{arith}
 use mathlib.Core.Bool.{true}
-use mathlib.Core.List.{List, [], _∷_, _++_}
+use mathlib.Core.List.{List, _++_}
 use mathlib.Core.Path.{_≡_, refl, sym, ap, ap₂, _∙_, subst}
 use lib.ListN.{length, take, drop, getD, replicate, length-replicate}
 use lib.Seq.{drop-drop, take-take, getD-take}
@@ -25,7 +25,7 @@ use Rattle.restart.specs.Forward.{groupsOf}
 use Rattle.restart.proofs.Recovery as restarts
 use Rattle.restart.proofs.Recovery.{end-is, csn-is, count-is, memory-is, tail-is}
 use Rattle.restart.proofs.Undos.{aborts-length}
-use Rattle.disk.specs.Layout.{pointerOf, slotOf, imagePart, logFrom}
+use Rattle.disk.specs.Layout.{pointerOf, slotOf, logFrom}
 use Rattle.disk.specs.Examine.{Loaded, loadOf, Meaning, stepsOf, examineOf}
 use Rattle.disk.proofs.Loading.{slot-within}
 use Rattle.disk.proofs.Examining.{keeps, means}

@@ -1,21 +1,19 @@
 -- A tail whose zeros after the groups are left out is read as the whole one is.
-use Prim.Native.Nat.{ℕ, zero, suc, _+_, _-_, _≤_, min}
+use Prim.Native.Nat.{ℕ, _+_, _-_, _≤_, min}
 use native.Mathlib.Omega.{arith}
-use mathlib.Core.Bool.{Bool, true, false, cond, _&&_}
-use mathlib.Core.List.{List, [], _∷_, _++_, append-assoc}
-use mathlib.Core.Path.{_≡_, refl, sym, ap, _∙_}
+use mathlib.Core.Bool.{cond}
+use mathlib.Core.List.{List, [], _++_, append-assoc}
+use mathlib.Core.Path.{_≡_, refl, ap, _∙_}
 use lib.ListN.{length, take, drop, replicate, length-append, length-drop, length-replicate, replicate-append-replicate}
-use lib.Seq.{sets, sets-eq, take-length, take-append-le, take-append-seam, drop-append-le, drop-append-add}
-use lib.Dec.{eqb}
+use lib.Seq.{sets, sets-eq, take-append-le, take-append-seam, drop-append-le, drop-append-add}
 use borrow.Author.Tests.{eq-eqb}
-use Rattle.recovery.specs.Group.{groupsSize}
 use Rattle.log.specs.Log.{readLog}
 use Rattle.log.specs.Stores.{shifted}
 use Rattle.log.proofs.LogLaws.{log-within}
 use Rattle.log.proofs.Parts.{log-padding}
 use Rattle.log.proofs.StoreLaws.{drop-zeros}
 use Rattle.store.specs.declared.State.{State}
-use Rattle.store.specs.Rules.{allZero, tailLength, roomUsed, unfit}
+use Rattle.store.specs.Rules.{allZero, tailLength, unfit}
 use Rattle.store.specs.Numbers.{Check, firstNumber, sharedChecks}
 use Rattle.store.specs.Stored.{diskChecks}
 use Rattle.store.proofs.Zeros.{zeros-behind}

@@ -5,7 +5,7 @@ use native.Mathlib.Omega.{arith}
 use mathlib.Core.Bool.{Bool, true, false, cond, _&&_}
 use mathlib.Core.List.{List, [], _∷_, _++_}
 use mathlib.Core.Option.{Option, none, some}
-use mathlib.Core.Path.{_≡_, refl, sym, ap, ap₂, _∙_, subst}
+use mathlib.Core.Path.{_≡_, refl, sym, ap, ap₂, _∙_}
 use lib.ListN.{length, take, drop, getD, set, replicate, length-append, length-take, length-drop, length-set, length-replicate}
 use lib.Seq.{sets, sets-eq, length-sets, length-take-le, take-take, take-all}
 use lib.Dec.{eqb, leb, ltb}
@@ -15,15 +15,15 @@ use Rattle.recovery.specs.Replay.{undoAll, layBytes}
 use Rattle.recovery.specs.Restart.{aborts}
 use Rattle.recovery.proofs.Byte.{undo-length}
 use Rattle.log.specs.Group.{encodeGroup}
-use Rattle.log.specs.Log.{readLog, encodeLog}
-use Rattle.log.specs.Stores.{Store, apply, copies}
+use Rattle.log.specs.Log.{encodeLog}
+use Rattle.log.specs.Stores.{apply, copies}
 use Rattle.log.proofs.Basics.{and-left, and-right}
 use Rattle.log.proofs.StoreLaws.{length-apply, length-copies, length-clears, copies-cut}
 use Rattle.transaction.specs.Lists.{sumOf}
 use Rattle.transaction.specs.View.{writesOf}
 use Rattle.transaction.specs.Rules.{roomOf}
 use Rattle.image.specs.Content.{contentOf}
-use Rattle.image.specs.Format.{encodeImage, imageSize}
+use Rattle.image.specs.Format.{encodeImage}
 use Rattle.image.proofs.Rules.{image-count}
 use Rattle.image.proofs.Sizes.{length-content}
 use Rattle.restart.proofs.Undos.{aborts-length}
@@ -37,7 +37,7 @@ use Rattle.store.specs.Steps.{begunState, writtenState, precommittedState, drop
 use Rattle.store.specs.Calls.{decided, beginNumber, writeNumber, appended}
 use Rattle.store.specs.Stored.{Plan, storedBy}
 use Rattle.store.specs.Flush.{firstSize, flushedState, flushPlan, flushOf}
-use Rattle.store.specs.Checkpoint.{slotAt, slotName, checkpointStores, checkpointPlan, checkpointOf}
+use Rattle.store.specs.Checkpoint.{slotAt, slotName, checkpointPlan, checkpointOf}
 use Rattle.store.proofs.Calling.{begin-done, begin-refused, write-done, write-refused, read-done, read-refused, answer-done, answer-refused, precommit-done, precommit-refused, abort-done, abort-refused, settle-done, settle-refused}
 use Rattle.store.proofs.Storing.{diskNumber, stored-refused, stored-cut, stored-done}
 use Rattle.store.proofs.Flushing.{first-length}

@@ -1,10 +1,10 @@
 -- Restart: never refused, and a step of `recovery`'s machine, done or cut.
-use Prim.Native.Nat.{ℕ, _+_, _-_, _*_, _≤_, _<_, min}
+use Prim.Native.Nat.{ℕ, _+_, _-_, _*_, _≤_, _<_}
 use native.Mathlib.Decide.{decLe}
 use native.Mathlib.Omega.{arith}
 use mathlib.Core.List.{List, [], _++_}
 use mathlib.Core.Path.{_≡_, refl, sym, ap, ap₂, _∙_, subst}
-use lib.ListN.{length, take, drop, replicate, length-take, length-replicate}
+use lib.ListN.{length, take, drop, replicate, length-replicate}
 use lib.Seq.{length-take-le, take-append-le, drop-append-le, take-take, drop-at}
 use Rattle.recovery.specs.Group.{Group, groupsSize, lastCsn}
 use Rattle.recovery.specs.Lists.{All}

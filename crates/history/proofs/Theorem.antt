@@ -1,14 +1,14 @@
 -- Demand 3 for the calls themselves. A call added later adds a constructor of Call, a lemma that it is a step of the machine, and a line of
 -- `follows`.
-use Prim.Native.Nat.{ℕ, _+_, _-_, _*_, _≤_}
+use Prim.Native.Nat.{ℕ, _+_, _*_, _≤_}
 use native.Mathlib.Omega.{arith}
 use mathlib.Core.List.{List, [], _∷_, _++_}
 use mathlib.Core.Path.{_≡_, refl, sym, ap, _∙_}
 use lib.ListN.{length}
-use Rattle.recovery.specs.Group.{Group, groupsSize, lastCsn}
+use Rattle.recovery.specs.Group.{groupsSize, lastCsn}
 use Rattle.recovery.specs.Ledger.{Ledger}
 use Rattle.recovery.specs.Machine.{Disk, Live, System, down, up, diskOf, openingDisk, undoneBy, Run, opened, next}
-use Rattle.recovery.specs.Claim.{commits, Claim}
+use Rattle.recovery.specs.Claim.{commits}
 use Rattle.recovery.proofs.Numbers.{Numbers, last-on-disk}
 use Rattle.recovery.proofs.Invariant.{Inv}
 use Rattle.recovery.proofs.Theorem.{holds, theorem}
@@ -17,9 +17,9 @@ use Rattle.store.specs.Stored.{DiskOutcome}
 use Rattle.disk.specs.declared.call.Restarted.{Restarted}
 use Rattle.disk.specs.Layout.{logFrom}
 use Rattle.history.specs.Calls.{Call, begin, write, read, readAnswer, precommit, abort, flush, settle, checkpoint, restart, World, stepOf}
-use Rattle.history.specs.Demand.{Happening, called, powerFails, Watched, happen, happenAll, opening, Restarts, Demand3}
+use Rattle.history.specs.Demand.{Happening, called, powerFails, Watched, happen, happenAll, opening, Demand3}
 use Rattle.history.proofs.OnDisk.{OnDisk, opens, fresh-shows, end-shown, memory-shown}
-use Rattle.history.proofs.Shows.{LiveOn, Resting, Beside, awake, rests, Shows, FollowsBy, Refuses, refused-follows, read-refuses, answer-refuses, begin-idle, write-idle, precommit-idle, abort-idle, settle-idle, flush-idle, checkpoint-idle}
+use Rattle.history.proofs.Shows.{LiveOn, Beside, awake, rests, Shows, FollowsBy, refused-follows, read-refuses, answer-refuses, begin-idle, write-idle, precommit-idle, abort-idle, settle-idle, flush-idle, checkpoint-idle}
 use Rattle.history.proofs.MemorySteps.{begin-follows, write-follows, precommit-follows, abort-follows, settle-follows}
 use Rattle.history.proofs.FlushSteps.{flush-follows}
 use Rattle.history.proofs.CheckpointSteps.{checkpoint-follows}

@@ -1,5 +1,5 @@
 -- The cases of numbers 1 and 2, each from the tests that lead there.
-use Prim.Native.Nat.{ℕ, zero, suc, _+_, _-_, _*_, _≤_, _<_}
+use Prim.Native.Nat.{ℕ, zero, suc, _+_, _*_, _≤_, _<_}
 use native.Mathlib.Decide.{decLt}
 use native.Mathlib.Omega.{arith}
 use mathlib.Core.Bool.{Bool, true, false, cond, not, _&&_, _||_, or-true, and-false}
@@ -8,7 +8,7 @@ use mathlib.Core.Path.{_≡_, refl, sym, ap, ap₂, _∙_, subst}
 use lib.ListN.{length, getD, drop, set}
 use lib.Seq.{getD-set-same, getD-set-other}
 use lib.Dec.{eqb, leb, ltb}
-use borrow.Author.Tests.{eq-eqb, ne-eqb, lt-ltb, leb-true, eqb-true, not-false}
+use borrow.Author.Tests.{eq-eqb, ne-eqb, lt-ltb, leb-true, eqb-true, eqb-false, not-false}
 use Rattle.recovery.specs.Group.{lastCsn}
 use Rattle.recovery.specs.Lists.{any}
 use Rattle.log.specs.Log.{readLog}
@@ -27,7 +27,7 @@ use Rattle.store.specs.State.{txAt, txsOf, outlineAt, outlinesOf}
 use Rattle.image.specs.Rules.{distinct, outlinesOk}
 use Rattle.store.specs.Rules.{allZero, tailLength, tailOk, roomUsed, unfit}
 use Rattle.store.specs.Numbers.{Check, check, firstNumber, sharedChecks, numberBy}
-use Rattle.store.specs.Admission.{headOk, keyAt, measuredIf, measuredTxs, measuredTail, admission}
+use Rattle.store.specs.Admission.{headOk, keyAt, measuredIf, measuredTxs, measuredTail, admission, numberAfter, Seen}
 use Rattle.store.proofs.Fits.{Fit, fit, unfit-no, running-redo}
 use Rattle.store.proofs.Checks.{stops, passes, passed}
 
@@ -273,3 +273,14 @@ module _ (s : State) (m : ℕ) (t : List ℕ) where
           end = ap (λ (y : Admission). y .end) e ∙ rw z;
           room = ap (λ (y : Admission). y .room) e ∙ rw z;
         }
+
+    -- the number by which the call is refused, where its own checks are made with the room that was measured
+    pub number-after : (cs : ℕ → List Check) → numberBy s m t (cs (roomUsed s t)) ≡ numberAfter x (cs (x .room))
+    number-after cs = go (eqb (x .number) 0) refl
+      where
+        go : (b : Bool) → eqb (x .number) 0 ≡ b → numberBy s m t (cs (roomUsed s t)) ≡ cond b (firstNumber (cs (x .room))) (x .number)
+        go true q = let a = admitted (eqb-true (x .number) 0 q) in a .own (cs (roomUsed s t)) ∙ ap (λ (n : ℕ). firstNumber (cs n)) (sym (a .room))
+        go false q = shared-stops (cs (roomUsed s t)) (eqb-false (x .number) 0 q)
+
+    pub seen : Seen x s
+    seen h = let a = admitted h in (a .fits .image, omega (arith, a .room, a .fits .room))

@@ -21,15 +21,18 @@ use Rattle.transaction.proofs.Ranges.{counted}
 use Rattle.image.proofs.Rules.{image-count, undo-at}
 use Rattle.store.specs.declared.State.{State}
 use Rattle.store.specs.declared.choose.Choice.{Choice}
+use Rattle.store.specs.declared.admit.Admission.{Admission}
 use Rattle.store.specs.State.{txAt, txsOf, slotOf, imageOf}
 use Rattle.store.specs.Answer.{done, refused, answer}
-use Rattle.store.specs.Rules.{tailLength}
-use Rattle.store.specs.Numbers.{Check, check, firstNumber, txOf, check7, check8, check9, check10, writeChecks}
+use Rattle.store.specs.Rules.{tailLength, roomUsed}
+use Rattle.store.specs.Numbers.{Check, check, firstNumber, txOf, check6, check7, check8, check9, check10, writeChecks}
+use Rattle.store.specs.Admission.{admission, choice}
 use Rattle.store.specs.Steps.{begunState, writtenState, precommittedState, droppedState}
 use Rattle.store.specs.Calls.{refusedReturn, doneReturn, beginNumber, beginOf, writeNumber, writeOf, readNumber, readOf, readAnswerOf, appended, precommitNumber, precommitOf, abortNumber, abortOf, settleNumber, settleOf}
 use Rattle.store.proofs.Checks.{passed}
 use Rattle.store.proofs.Fits.{Fit, status-at, redo-at, room-at}
-use Rattle.store.proofs.Choosing.{Slotted, Running, running, ranged-by-8}
+use Rattle.store.proofs.Admitting.{accepted, admitted, seen}
+use Rattle.store.proofs.Choosing.{slotted, Running, running, ranged-by-8}
 
 -- ---- outcomes, by the number
 
@@ -135,8 +138,36 @@ usable s t id f r =
       fits = omega (arith, room, f .room);
     }
 
-pub usable-at : (s : State) (m : ℕ) (t : List ℕ) (id : ℕ) (x : Choice) (cs : List Check) → Slotted s m t id x (check7 s id ∷ cs) → Usable s t (x .slot)
-usable-at s m t id x cs w = subst (Usable s t) (sym (w .slot)) (usable s t id (w .fits) (running s id cs (w .own) .0))
+-- what a call may rely on that is not refused; its own checks may look at the room used
+pub record Placed (s : State) (m : ℕ) (t : List ℕ) (id : ℕ) (r : Choice) (cs : ℕ → List Check) : Type 0 where
+  pub memory : m ≡ 4096
+  pub tail : length t ≡ 16384
+  pub fits : Fit s t
+  pub few : s .count ≤ 8
+  pub own : firstNumber (check6 s id ∷ cs (roomUsed s t)) ≡ 0
+  pub listed : r .slot < s .count
+  pub slot : r .slot ≡ slotOf s id
+  pub end : r .end ≡ tailLength (s .ondisk .0) t
+
+pub placed : (s : State) (m : ℕ) (t : List ℕ) (id : ℕ) (x : Admission) (r : Choice) (cs : ℕ → List Check) → x ≡ admission s m t
+    → r ≡ choice s x id (check6 s id ∷ cs (x .room)) → r .number ≡ 0 → Placed s m t id r cs
+placed s m t id x r cs e f h =
+    let w = slotted s x id r (cs (x .room)) (seen s m t x e) f h in
+    let a = admitted s m t x e (w .admits) in
+    let b = accepted s m t [] (a .own []) in
+    record {
+      memory = b .memory;
+      tail = b .tail;
+      fits = a .fits;
+      few = w .few;
+      own = subst (λ (n : ℕ). firstNumber (check6 s id ∷ cs n) ≡ 0) (a .room) (w .own);
+      listed = w .listed;
+      slot = w .slot;
+      end = w .end ∙ a .end;
+    }
+
+pub usable-at : (s : State) (m : ℕ) (t : List ℕ) (id : ℕ) (r : Choice) (cs : ℕ → List Check) → Placed s m t id r (λ n. check7 s id ∷ cs n) → Usable s t (r .slot)
+usable-at s m t id r cs w = subst (Usable s t) (sym (w .slot)) (usable s t id (w .fits) (running s id (cs (roomUsed s t)) (w .own) .0))
 
 -- what write may rely on
 pub record Writable (s : State) (k a n : ℕ) : Type 0 where

@@ -2,9 +2,8 @@
 use Prim.Native.Nat.{ℕ, _+_, _≤_, _<_}
 use native.Mathlib.Omega.{arith}
 use mathlib.Core.Bool.{Bool, true, false, cond, not, _&&_, _||_}
-use mathlib.Core.List.{List, _∷_, _++_}
+use mathlib.Core.List.{List, [], _∷_, _++_}
 use mathlib.Core.Path.{_≡_, refl, sym, ap, _∙_}
-use lib.ListN.{length}
 use lib.Dec.{eqb, leb, ltb}
 use native.Mathlib.Decide.{decLe, decLt}
 use borrow.Author.Tests.{eq-eqb, ne-eqb, eqb-true, eqb-false, le-leb, lt-leb, le-ltb, lt-ltb, not-false}
@@ -15,59 +14,80 @@ use Rattle.image.proofs.Rules.{image-count}
 use Rattle.store.specs.declared.State.{State}
 use Rattle.store.specs.State.{imageOf, txAt, txsOf, hasId, slotOf}
 use Rattle.store.specs.declared.choose.Choice.{Choice}
-use Rattle.store.specs.Rules.{tailLength, roomUsed}
-use Rattle.store.specs.Numbers.{Check, firstNumber, txOf, sharedChecks, numberBy, refusal, chosen, choice, check6, check7, check8}
+use Rattle.store.specs.declared.admit.Admission.{Admission}
+use Rattle.store.specs.Rules.{keepsImageRules}
+use Rattle.store.specs.Numbers.{Check, firstNumber, txOf, check6, check7, check8}
+use Rattle.store.specs.Admission.{numberAfter, refusal, chosen, choice, Seen}
 use Rattle.store.proofs.Checks.{positive, stops, passes, passed}
-use Rattle.store.proofs.Fits.{Fit}
-use Rattle.store.proofs.Admitting.{accepted}
 use Rattle.store.proofs.Slots.{slot as find}
+
+-- ---- numbers after an admission
+
+module _ (x : Admission) (cs ds : List Check) where
+  -- the admission did not refuse, nor did the call's own checks
+  pub after-none : numberAfter x cs ≡ 0 → (x .number ≡ 0) × (firstNumber cs ≡ 0)
+  after-none z = go (eqb (x .number) 0) refl z
+    where
+      go : (b : Bool) → eqb (x .number) 0 ≡ b → cond b (firstNumber cs) (x .number) ≡ 0 → (x .number ≡ 0) × (firstNumber cs ≡ 0)
+      go true e z = (eqb-true (x .number) 0 e, z)
+      go false e z = absurd (eqb-false (x .number) 0 e z)
+
+  after-stops : (numberAfter x cs ≡ 0 → ⊥) → numberAfter x (cs ++ ds) ≡ numberAfter x cs
+  after-stops h = go (eqb (x .number) 0) h
+    where
+      go : (b : Bool) → (cond b (firstNumber cs) (x .number) ≡ 0 → ⊥) → cond b (firstNumber (cs ++ ds)) (x .number) ≡ cond b (firstNumber cs) (x .number)
+      go true h = stops cs ds h
+      go false h = refl
+
+  after-passes : positive cs ≡ true → numberAfter x cs ≡ 0 → numberAfter x (cs ++ ds) ≡ firstNumber ds
+  after-passes p z = let a = after-none z in rw (eq-eqb (x .number) 0 (a .0)) (passes cs ds p (a .1))
 
 -- ---- a choice by its number
 
-module _ (s : State) (m : ℕ) (t : List ℕ) (id : ℕ) where
-  by-number : (n k : ℕ) → n ≡ k → cond (eqb n 0) (chosen s t id) (refusal n) ≡ cond (eqb k 0) (chosen s t id) (refusal k)
-  by-number n k e = ap (λ (j : ℕ). cond (eqb j 0) (chosen s t id) (refusal j)) e
+module _ (s : State) (x : Admission) (id : ℕ) where
+  by-number : (n k : ℕ) → n ≡ k → cond (eqb n 0) (chosen s x id) (refusal n) ≡ cond (eqb k 0) (chosen s x id) (refusal k)
+  by-number n k e = ap (λ (j : ℕ). cond (eqb j 0) (chosen s x id) (refusal j)) e
 
-  pub choice-none : (cs : List Check) → numberBy s m t cs ≡ 0 → choice s m t id cs ≡ chosen s t id
+  pub choice-none : (cs : List Check) → numberAfter x cs ≡ 0 → choice s x id cs ≡ chosen s x id
   unfolding choice
-  choice-none cs e = by-number (numberBy s m t cs) 0 e
+  choice-none cs e = by-number (numberAfter x cs) 0 e
 
-  pub choice-some : (cs : List Check) (n : ℕ) → numberBy s m t cs ≡ n → (n ≡ 0 → ⊥) → choice s m t id cs ≡ refusal n
+  pub choice-some : (cs : List Check) (n : ℕ) → numberAfter x cs ≡ n → (n ≡ 0 → ⊥) → choice s x id cs ≡ refusal n
   unfolding choice
-  choice-some cs n e h = by-number (numberBy s m t cs) n e ∙ rw (ne-eqb n 0 h)
+  choice-some cs n e h = by-number (numberAfter x cs) n e ∙ rw (ne-eqb n 0 h)
 
-  choice-number : (cs : List Check) → choice s m t id cs .number ≡ numberBy s m t cs
+  choice-number : (cs : List Check) → choice s x id cs .number ≡ numberAfter x cs
   unfolding choice
-  choice-number cs = go (numberBy s m t cs) (eqb (numberBy s m t cs) 0) refl
+  choice-number cs = go (numberAfter x cs) (eqb (numberAfter x cs) 0) refl
     where
-      go : (n : ℕ) (b : Bool) → eqb n 0 ≡ b → cond b (chosen s t id) (refusal n) .number ≡ n
+      go : (n : ℕ) (b : Bool) → eqb n 0 ≡ b → cond b (chosen s x id) (refusal n) .number ≡ n
       go n true e = sym (eqb-true n 0 e)
       go n false e = refl
 
-  -- x is what was answered of the checks cs
-  module _ (x : Choice) (cs : List Check) (e : x ≡ choice s m t id cs) where
-    pub choice-own : numberBy s m t cs ≡ x .number
+  -- r is what was answered of the checks cs
+  module _ (r : Choice) (cs : List Check) (e : r ≡ choice s x id cs) where
+    pub choice-own : numberAfter x cs ≡ r .number
     choice-own = sym (ap (λ (y : Choice). y .number) e ∙ choice-number cs)
 
-    pub choice-chosen : x .number ≡ 0 → x ≡ chosen s t id
+    pub choice-chosen : r .number ≡ 0 → r ≡ chosen s x id
     choice-chosen h = e ∙ choice-none cs (choice-own ∙ h)
 
     -- more checks after those that were made
     module _ (p : positive cs ≡ true) (ds : List Check) where
-      pub choice-stops : (x .number ≡ 0 → ⊥) → x ≡ choice s m t id (cs ++ ds)
+      pub choice-stops : (r .number ≡ 0 → ⊥) → r ≡ choice s x id (cs ++ ds)
       choice-stops h =
-          let z : numberBy s m t cs ≡ 0 → ⊥ = λ q. h (sym choice-own ∙ q) in
-          e ∙ choice-some cs (numberBy s m t cs) refl z ∙ sym (choice-some (cs ++ ds) (numberBy s m t cs) (stops (sharedChecks s m t ++ cs) ds z) z)
+          let z : numberAfter x cs ≡ 0 → ⊥ = λ q. h (sym choice-own ∙ q) in
+          e ∙ choice-some cs (numberAfter x cs) refl z ∙ sym (choice-some (cs ++ ds) (numberAfter x cs) (after-stops x cs ds z) z)
 
-      module _ (h : x .number ≡ 0) where
-        next : numberBy s m t (cs ++ ds) ≡ firstNumber ds
-        next = passes (sharedChecks s m t ++ cs) ds p (choice-own ∙ h)
+      module _ (h : r .number ≡ 0) where
+        next : numberAfter x (cs ++ ds) ≡ firstNumber ds
+        next = after-passes x cs ds p (choice-own ∙ h)
 
-        pub choice-goes : firstNumber ds ≡ 0 → x ≡ choice s m t id (cs ++ ds)
+        pub choice-goes : firstNumber ds ≡ 0 → r ≡ choice s x id (cs ++ ds)
         choice-goes d = choice-chosen h ∙ sym (choice-none (cs ++ ds) (next ∙ d))
 
-        pub choice-refuses : (n : ℕ) → firstNumber ds ≡ n → (n ≡ 0 → ⊥) → {y : Choice} → y ≡ refusal n → y ≡ choice s m t id (cs ++ ds)
-        choice-refuses n d z r = r ∙ sym (choice-some (cs ++ ds) n (next ∙ d) z)
+        pub choice-refuses : (n : ℕ) → firstNumber ds ≡ n → (n ≡ 0 → ⊥) → {y : Choice} → y ≡ refusal n → y ≡ choice s x id (cs ++ ds)
+        choice-refuses n d z q = q ∙ sym (choice-some (cs ++ ds) n (next ∙ d) z)
 
 -- ---- 6 and 7
 
@@ -95,17 +115,17 @@ module _ (s : State) (id slot : ℕ) (e : slot ≡ slotOf s id) where
   pub passes-7 : (cs : List Check) → (txAt s slot .status ≡ 2 → ⊥) → firstNumber (check7 s id ∷ cs) ≡ firstNumber cs
   passes-7 cs h = rw (ne-eqb _ _ (λ z. h (sym status-of ∙ z)))
 
--- what a call may rely on that numbers 1, 2 and 6 do not refuse
-pub record Slotted (s : State) (m : ℕ) (t : List ℕ) (id : ℕ) (x : Choice) (cs : List Check) : Type 0 where
-  pub memory : m ≡ 4096
-  pub tail : length t ≡ 16384
-  pub fits : Fit s t
+-- what may be relied on where neither the admission nor number 6 refuses
+pub record Slotted (s : State) (x : Admission) (id : ℕ) (r : Choice) (cs : List Check) : Type 0 where
+  pub admits : x .number ≡ 0
+  pub rules : keepsImageRules s ≡ true
   pub few : s .count ≤ 8
   pub own : firstNumber (check6 s id ∷ cs) ≡ 0
-  pub listed : x .slot < s .count
-  pub slot : x .slot ≡ slotOf s id
-  pub end : x .end ≡ tailLength (s .ondisk .0) t
-  pub room : x .room ≡ roomUsed s t
+  pub listed : r .slot < s .count
+  pub slot : r .slot ≡ slotOf s id
+  pub end : r .end ≡ x .end
+  pub room : r .room ≡ x .room
+  pub small : x .room ≤ 16384
 
 -- a listed transaction that is not committing: what passing 6 and 7 says
 pub record Running (s : State) (id : ℕ) : Type 0 where
@@ -125,21 +145,22 @@ listed-slot s id cs z =
     ] in
     (l, sym (eqb-true _ _ (x .there (omega arith))), p .1)
 
-pub slotted : (s : State) (m : ℕ) (t : List ℕ) (id : ℕ) (x : Choice) (cs : List Check) → x ≡ choice s m t id (check6 s id ∷ cs) → x .number ≡ 0 → Slotted s m t id x cs
-slotted s m t id x cs e h =
-    let a = accepted s m t (check6 s id ∷ cs) (choice-own s m t id x (check6 s id ∷ cs) e ∙ h) in
-    let c = choice-chosen s m t id x (check6 s id ∷ cs) e h in
-    let k : x .slot ≡ slotOf s id = ap (λ (y : Choice). y .slot) c in
+pub slotted : (s : State) (x : Admission) (id : ℕ) (r : Choice) (cs : List Check) → Seen x s → r ≡ choice s x id (check6 s id ∷ cs) → r .number ≡ 0 → Slotted s x id r cs
+slotted s x id r cs seen e h =
+    let a = after-none x (check6 s id ∷ cs) [] (choice-own s x id r (check6 s id ∷ cs) e ∙ h) in
+    let c = choice-chosen s x id r (check6 s id ∷ cs) e h in
+    let k : r .slot ≡ slotOf s id = ap (λ (y : Choice). y .slot) c in
+    let w = seen (a .0) in
     record {
-      memory = a .memory;
-      tail = a .tail;
-      fits = a .fits;
-      few = image-count (imageOf s) (a .fits .image);
-      own = a .own;
-      listed = omega (arith, k, listed-slot s id cs (a .own) .0);
+      admits = a .0;
+      rules = w .0;
+      few = image-count (imageOf s) (w .0);
+      own = a .1;
+      listed = omega (arith, k, listed-slot s id cs (a .1) .0);
       slot = k;
       end = ap (λ (y : Choice). y .end) c;
       room = ap (λ (y : Choice). y .room) c;
+      small = w .1;
     }
 
 pub running : (s : State) (id : ℕ) (cs : List Check) → firstNumber (check6 s id ∷ check7 s id ∷ cs) ≡ 0 → Running s id × (firstNumber cs ≡ 0)

@@ -1,7 +1,9 @@
--- Numbers 1 and 2 as the code goes about them: what it measures on the way is handed on to the call.
-use Prim.Native.Nat.{ℕ}
+-- Numbers 1 and 2 as the code goes about them: what it measures on the way is handed on to the call, and to what decides of the call's own
+-- numbers.
+use Prim.Native.Nat.{ℕ, _≤_}
 use mathlib.Core.Bool.{Bool, true, false, cond, _&&_}
 use mathlib.Core.List.{List, []}
+use mathlib.Core.Path.{_≡_}
 use lib.ListN.{getD}
 use lib.Dec.{eqb, leb}
 use Rattle.transaction.specs.Lists.{every, sumOf}
@@ -11,10 +13,11 @@ use Rattle.store.specs.declared.State.{State}
 use Rattle.store.specs.declared.admit.Measured.{Measured}
 use Rattle.store.specs.declared.admit.Keys.{Keys}
 use Rattle.store.specs.declared.admit.Admission.{Admission}
-use Rattle.store.specs.State.{txsOf, outlinesOf}
+use Rattle.store.specs.declared.choose.Choice.{Choice}
+use Rattle.store.specs.State.{txsOf, outlinesOf, slotOf}
 use Rattle.image.specs.Rules.{outlinesOk}
-use Rattle.store.specs.Rules.{tailLength, tailOk, roomUsed}
-use Rattle.store.specs.Numbers.{firstNumber, sharedChecks}
+use Rattle.store.specs.Rules.{keepsImageRules, tailLength, tailOk, roomUsed}
+use Rattle.store.specs.Numbers.{Check, firstNumber, sharedChecks}
 
 -- recovered, and the image rules of the counters
 unfoldable pub headOk : Bool → ℕ → ℕ → ℕ → ℕ → Bool
@@ -38,3 +41,23 @@ unfoldable pub admission : State → ℕ → List ℕ → Admission
 admission s m tail =
     let n = firstNumber (sharedChecks s m tail) in
     record { number = n; end = cond (eqb n 0) (tailLength (s .ondisk .0) tail) 0; room = cond (eqb n 0) (roomUsed s tail) 0 }
+
+-- ---- what is decided of a call about the transaction of an id
+
+-- numbers 1 and 2 come before the call's own
+abbrev pub numberAfter : Admission → List Check → ℕ
+numberAfter x cs = cond (eqb (x .number) 0) (firstNumber cs) (x .number)
+
+abbrev pub refusal : ℕ → Choice
+refusal n = record { number = n; slot = 0; end = 0; room = 0 }
+
+-- if nothing refuses: the transaction's slot, and what admission measured
+abbrev pub chosen : State → Admission → ℕ → Choice
+chosen s x id = record { number = 0; slot = slotOf s id; end = x .end; room = x .room }
+
+unfoldable pub choice : State → Admission → ℕ → List Check → Choice
+choice s x id cs = cond (eqb (numberAfter x cs) 0) (chosen s x id) (refusal (numberAfter x cs))
+
+-- what deciding rests on: an admission that does not refuse has seen the image rules kept, and room used that lies within the log
+abbrev pub Seen : Admission → State → Type 0
+Seen x s = x .number ≡ 0 → (keepsImageRules s ≡ true) × (x .room ≤ 16384)

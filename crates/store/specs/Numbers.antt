@@ -8,9 +8,8 @@ use Rattle.recovery.specs.Lists.{any}
 use Rattle.transaction.specs.declared.Tx.{Tx}
 use Rattle.transaction.specs.Rules.{heldAgainst}
 use Rattle.store.specs.declared.State.{State}
-use Rattle.store.specs.declared.choose.Choice.{Choice}
 use Rattle.store.specs.State.{txAt, txsOf, hasId, slotOf}
-use Rattle.store.specs.Rules.{tailLength, roomUsed, unfit}
+use Rattle.store.specs.Rules.{unfit}
 
 -- a number and the condition under which it refuses
 pub data Check : Type 0 where
@@ -32,17 +31,6 @@ sharedChecks s m tail = check 1 (not (eqb m 4096 && eqb (length tail) 16384)) �
 -- the number that refuses a call whose own checks these are
 abbrev pub numberBy : State → ℕ → List ℕ → List Check → ℕ
 numberBy s m tail cs = firstNumber (sharedChecks s m tail ++ cs)
-
--- what the code answers of a call about the transaction of an id: the number; if there is none, the transaction's slot, where the tail's
--- groups end and the log room used
-abbrev pub refusal : ℕ → Choice
-refusal n = record { number = n; slot = 0; end = 0; room = 0 }
-
-abbrev pub chosen : State → List ℕ → ℕ → Choice
-chosen s tail id = record { number = 0; slot = slotOf s id; end = tailLength (s .ondisk .0) tail; room = roomUsed s tail }
-
-unfoldable pub choice : State → ℕ → List ℕ → ℕ → List Check → Choice
-choice s m tail id cs = cond (eqb (numberBy s m tail cs) 0) (chosen s tail id) (refusal (numberBy s m tail cs))
 
 -- "6. .. the id isn't in the list."
 abbrev pub check6 : State → ℕ → Check

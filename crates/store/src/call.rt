@@ -64,7 +64,8 @@ impl State {
         ensures { λ r. ⌜ r ≡ writeOf self (now (memory .entry)) (now (tail .entry)) id addr (now (bytes .entry)) .result ⌝ }
         ensures { λ _. ⌜ now (memory .exit) ≡ writeOf self (now (memory .entry)) (now (tail .entry)) id addr (now (bytes .entry)) .memory ⌝ }
     {
-        let chosen = self.choose_write(memory.len(), tail, id, addr, bytes.len());
+        let admitted = self.admit(memory.len(), tail);
+        let chosen = self.choose_write(admitted, id, addr, bytes.len());
         if chosen.number != 0 {
             return Returned {
                 answer: Answer::Refused(chosen.number),
@@ -89,7 +90,8 @@ impl State {
     ) -> &'a [u8]
         ensures { λ r. ⌜ now r ≡ readOf self (now (memory .entry)) (now (tail .entry)) id addr len ⌝ }
     {
-        let chosen = self.choose_read(memory.len(), tail, id, addr, len);
+        let admitted = self.admit(memory.len(), tail);
+        let chosen = self.choose_read(admitted, id, addr, len);
         if chosen.number != 0 {
             return &memory[0..0];
         }
@@ -107,7 +109,8 @@ impl State {
     ) -> Returned
         ensures { λ r. ⌜ r ≡ readAnswerOf self (now (memory .entry)) (now (tail .entry)) id addr len ⌝ }
     {
-        let chosen = self.choose_read(memory.len(), tail, id, addr, len);
+        let admitted = self.admit(memory.len(), tail);
+        let chosen = self.choose_read(admitted, id, addr, len);
         if chosen.number != 0 {
             return Returned {
                 answer: Answer::Refused(chosen.number),
@@ -124,7 +127,8 @@ impl State {
         ensures { λ r. ⌜ r ≡ precommitOf self (now (memory .entry)) (now (tail .entry)) id .result ⌝ }
         ensures { λ _. ⌜ now (tail .exit) ≡ precommitOf self (now (memory .entry)) (now (tail .entry)) id .tail ⌝ }
     {
-        let chosen = self.choose_precommit(memory.len(), &*tail, id);
+        let admitted = self.admit(memory.len(), &*tail);
+        let chosen = self.choose_precommit(admitted, id);
         if chosen.number != 0 {
             return Precommitted {
                 answer: Answer::Refused(chosen.number),
@@ -146,7 +150,8 @@ impl State {
         ensures { λ _. ⌜ now (memory .exit) ≡ abortOf self (now (memory .entry)) (now (tail .entry)) id .memory ⌝ }
         ensures { λ _. ⌜ now (tail .exit) ≡ abortOf self (now (memory .entry)) (now (tail .entry)) id .tail ⌝ }
     {
-        let chosen = self.choose_running(memory.len(), &*tail, id);
+        let admitted = self.admit(memory.len(), &*tail);
+        let chosen = self.choose_running(admitted, id);
         if chosen.number != 0 {
             return Returned {
                 answer: Answer::Refused(chosen.number),
@@ -163,7 +168,8 @@ impl State {
     pub fn settle(mut self, memory: &[u8], tail: &[u8], id: TxId) -> Returned
         ensures { λ r. ⌜ r ≡ settleOf self (now (memory .entry)) (now (tail .entry)) id ⌝ }
     {
-        let chosen = self.choose_settle(memory.len(), tail, id);
+        let admitted = self.admit(memory.len(), tail);
+        let chosen = self.choose_settle(admitted, id);
         if chosen.number != 0 {
             return Returned {
                 answer: Answer::Refused(chosen.number),

@@ -1,5 +1,6 @@
-// The numbers that refuse a call, and the slot of the transaction that it is about.
+// The numbers that refuse a call, after those of its admission, and the slot of the transaction that it is about.
 use crate::State;
+use crate::admit::Admission;
 use log::TxId;
 use log::record::in_range;
 ghost use mathlib.Core.Path.{_≡_};
@@ -8,8 +9,9 @@ ghost use Prim.Native.Nat.{_≤_};
 ghost use Rattle.recovery.specs.Lists.{any};
 ghost use Rattle.transaction.specs.Rules.{heldAgainst};
 ghost use Rattle.store.specs.State.{txsOf, slotOf};
-ghost use Rattle.store.specs.Rules.{keepsImageRules, roomUsed};
-ghost use Rattle.store.specs.Numbers.{firstNumber, refusal, choice, beginChecks, listedChecks, readChecks, writeChecks, precommitChecks, abortChecks, settleChecks};
+ghost use Rattle.store.specs.Rules.{keepsImageRules};
+ghost use Rattle.store.specs.Numbers.{firstNumber, beginChecks, listedChecks, readChecks, writeChecks, precommitChecks, abortChecks, settleChecks};
+ghost use Rattle.store.specs.Admission.{refusal, choice, Seen};
 
 // The number that refuses, 0 for none; if none, the slot, where the tail's groups end and the log room used.
 pub struct Choice {
@@ -81,11 +83,11 @@ impl State {
         false
     }
 
-    // Numbers 1, 2 and 6.
-    fn choose_listed(self, memory: usize, tail: &[u8], id: TxId) -> Choice
-        ensures { λ r. ⌜ r ≡ choice self memory (now (tail .entry)) (id .0) (listedChecks self (id .0)) ⌝ }
+    // Number 6.
+    fn choose_listed(self, admitted: Admission, id: TxId) -> Choice
+        requires { ⌜ Seen admitted self ⌝ }
+        ensures { λ r. ⌜ r ≡ choice self admitted (id .0) (listedChecks self (id .0)) ⌝ }
     {
-        let admitted = self.admit(memory, tail);
         if admitted.number != 0 {
             return refuse(admitted.number);
         }
@@ -101,11 +103,12 @@ impl State {
         }
     }
 
-    // Numbers 1, 2, 6 and 7.
-    pub(crate) fn choose_running(self, memory: usize, tail: &[u8], id: TxId) -> Choice
-        ensures { λ r. ⌜ r ≡ choice self memory (now (tail .entry)) (id .0) (abortChecks self (id .0)) ⌝ }
+    // Numbers 6 and 7.
+    pub(crate) fn choose_running(self, admitted: Admission, id: TxId) -> Choice
+        requires { ⌜ Seen admitted self ⌝ }
+        ensures { λ r. ⌜ r ≡ choice self admitted (id .0) (abortChecks self (id .0)) ⌝ }
     {
-        let listed = self.choose_listed(memory, tail, id);
+        let listed = self.choose_listed(admitted, id);
         if listed.number != 0 {
             return listed;
         }
@@ -116,18 +119,18 @@ impl State {
         listed
     }
 
-    // Numbers 1, 2, 6, 7, 8 and 9.
+    // Numbers 6 to 9.
     pub(crate) fn choose_read(
         self,
-        memory: usize,
-        tail: &[u8],
+        admitted: Admission,
         id: TxId,
         addr: usize,
         len: usize,
     ) -> Choice
-        ensures { λ r. ⌜ r ≡ choice self memory (now (tail .entry)) (id .0) (readChecks self (id .0) addr len) ⌝ }
+        requires { ⌜ Seen admitted self ⌝ }
+        ensures { λ r. ⌜ r ≡ choice self admitted (id .0) (readChecks self (id .0) addr len) ⌝ }
     {
-        let running = self.choose_running(memory, tail, id);
+        let running = self.choose_running(admitted, id);
         if running.number != 0 {
             return running;
         }
@@ -140,18 +143,18 @@ impl State {
         running
     }
 
-    // Numbers 1, 2, 6 to 10 and 13.
+    // Numbers 6 to 10 and 13.
     pub(crate) fn choose_write(
         self,
-        memory: usize,
-        tail: &[u8],
+        admitted: Admission,
         id: TxId,
         addr: usize,
         len: usize,
     ) -> Choice
-        ensures { λ r. ⌜ r ≡ choice self memory (now (tail .entry)) (id .0) (writeChecks self (roomUsed self (now (tail .entry))) (id .0) addr len) ⌝ }
+        requires { ⌜ Seen admitted self ⌝ }
+        ensures { λ r. ⌜ r ≡ choice self admitted (id .0) (writeChecks self (admitted .room) (id .0) addr len) ⌝ }
     {
-        let free = self.choose_read(memory, tail, id, addr, len);
+        let free = self.choose_read(admitted, id, addr, len);
         if free.number != 0 {
             return free;
         }
@@ -165,11 +168,12 @@ impl State {
         free
     }
 
-    // Numbers 1, 2, 6, 7 and 12.
-    pub(crate) fn choose_precommit(self, memory: usize, tail: &[u8], id: TxId) -> Choice
-        ensures { λ r. ⌜ r ≡ choice self memory (now (tail .entry)) (id .0) (precommitChecks self (id .0)) ⌝ }
+    // Numbers 6, 7 and 12.
+    pub(crate) fn choose_precommit(self, admitted: Admission, id: TxId) -> Choice
+        requires { ⌜ Seen admitted self ⌝ }
+        ensures { λ r. ⌜ r ≡ choice self admitted (id .0) (precommitChecks self (id .0)) ⌝ }
     {
-        let running = self.choose_running(memory, tail, id);
+        let running = self.choose_running(admitted, id);
         if running.number != 0 {
             return running;
         }
@@ -179,11 +183,12 @@ impl State {
         running
     }
 
-    // Numbers 1, 2, 6 and 14.
-    pub(crate) fn choose_settle(self, memory: usize, tail: &[u8], id: TxId) -> Choice
-        ensures { λ r. ⌜ r ≡ choice self memory (now (tail .entry)) (id .0) (settleChecks self (id .0)) ⌝ }
+    // Numbers 6 and 14.
+    pub(crate) fn choose_settle(self, admitted: Admission, id: TxId) -> Choice
+        requires { ⌜ Seen admitted self ⌝ }
+        ensures { λ r. ⌜ r ≡ choice self admitted (id .0) (settleChecks self (id .0)) ⌝ }
     {
-        let listed = self.choose_listed(memory, tail, id);
+        let listed = self.choose_listed(admitted, id);
         if listed.number != 0 {
             return listed;
         }

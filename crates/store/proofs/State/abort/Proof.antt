@@ -14,31 +14,35 @@ use Rattle.store.specs.State.{txAt}
 use Rattle.store.specs.Numbers.{abortChecks, check7}
 use Rattle.store.specs.Steps.{droppedState}
 use Rattle.store.specs.Calls.{Outcome, doneReturn, abortNumber}
-use Rattle.store.proofs.Choosing.{choice-own, Slotted, slotted, running}
-use Rattle.store.proofs.Calling.{abort-refused, abort-done, usable-at}
+use Rattle.store.proofs.Admitting.{number-after, seen}
+use Rattle.store.proofs.Choosing.{choice-own, running}
+use Rattle.store.proofs.Calling.{Placed, placed, abort-refused, abort-done, usable-at}
 use Rattle.store.proofs.State.abort.Statement.{statement}
 use Rattle.store.proofs.State.abort.Tie as tie
 
+admit-requires : tie.Need-admit-requires
+admit-requires c κs = search needs
+
 choose-running-requires : tie.Need-choose-running-requires
-choose-running-requires c κs = search needs
+choose-running-requires c κs = seen _ _ _ _ (c .admit .ensures)
 
 same-length : tie.Need-same-length
 same-length c = search needs
 
 -- the number is abort's own
-own : (c : tie.After-choose-running) → let a = c .before .before .before .before .args in
+own : (c : tie.After-choose-running) → let a = c .before .before .before .before .before .args in
     abortNumber (a .self) (a .memory .now) (a .tail .now) (a .id) ≡ c .choose-running .result .number
-own c = let a = c .before .before .before .before .args in choice-own _ _ _ _ _ (abortChecks (a .self) (a .id .0)) (c .choose-running .ensures)
+own c = let a = c .before .before .before .before .before .args in number-after _ _ _ _ (c .before .admit .ensures) (λ n. abortChecks (a .self) (a .id .0)) ∙ choice-own _ _ _ _ (abortChecks (a .self) (a .id .0)) (c .choose-running .ensures)
 
 returns : tie.Need-returns
 returns c =
-    let a = c .before .before .before .before .before .before .args in
+    let a = c .before .before .before .before .before .before .before .args in
     let o = abort-refused (a .self) (a .memory .now) (a .tail .now) (a .id) _ (own (c .before .before)) (c .if1 .taken) in
     (ap (λ (x : Outcome Returned). x .result) (sym o), (ap (λ (x : Outcome Returned). x .memory) (sym o), ap (λ (x : Outcome Returned). x .tail) (sym o)))
 
-found : (c : tie.Else1) → let a = c .before .before .before .before .before .before .args in
-    Slotted (a .self) (length (a .memory .now)) (a .tail .now) (a .id .0) (c .before .before .choose-running .result) (check7 (a .self) (a .id .0) ∷ [])
-found c = slotted _ _ _ _ _ _ (c .before .before .choose-running .ensures) (c .if1 .left)
+found : (c : tie.Else1) → let a = c .before .before .before .before .before .before .before .args in
+    Placed (a .self) (length (a .memory .now)) (a .tail .now) (a .id .0) (c .before .before .choose-running .result) (λ k. check7 (a .self) (a .id .0) ∷ [])
+found c = placed _ _ _ _ _ _ _ (c .before .before .before .admit .ensures) (c .before .before .choose-running .ensures) (c .if1 .left)
 
 abort-step-requires : tie.Need-abort-step-requires
 abort-step-requires c κs =
@@ -55,7 +59,7 @@ same-length-3 c = search needs
 returns-2 : tie.Need-returns-2
 returns-2 c =
     let else = c .before .before .before .before .before .before .before in
-    let a = else .before .before .before .before .before .before .args in
+    let a = else .before .before .before .before .before .before .before .args in
     let s = a .self in
     let m = a .memory .now in
     let t = a .tail .now in
@@ -75,6 +79,7 @@ pub abort-spec : {M : Type 1} → statement M
 abort-spec =
     tie.close
     (tie.spec
+    admit-requires
     choose-running-requires
     same-length
     returns

@@ -9,26 +9,26 @@ use Rattle.store.proofs.State.choose_precommit.Statement.{statement}
 use Rattle.store.proofs.State.choose_precommit.Tie as tie
 
 choose-running-requires : tie.Need-choose-running-requires
-choose-running-requires c κs = search needs
+choose-running-requires c κs = c .pre
 
 returns : tie.Need-returns
 returns c =
-    let a = c .before .before .before .before .args in
-    choice-stops _ _ _ _ _ (abortChecks (a .self) (a .id .0)) (c .before .before .choose-running .ensures) refl (check12 (a .self) ∷ []) (c .if1 .taken)
+    let a = c .before .before .before .args in
+    choice-stops _ _ _ _ (abortChecks (a .self) (a .id .0)) (c .before .before .choose-running .ensures) refl (check12 (a .self) ∷ []) (c .if1 .taken)
 
 refuse-requires : tie.Need-refuse-requires
 refuse-requires c κs = search needs
 
 returns-2 : tie.Need-returns-2
 returns-2 c =
-    let a = c .before .before .before .before .before .before .before .args in
-    choice-refuses _ _ _ _ _ (abortChecks (a .self) (a .id .0)) (c .before .before .before .before .before .choose-running .ensures) refl (check12 (a .self) ∷ []) (c .before .before .before .if1 .left) 12
+    let a = c .before .before .before .before .before .before .args in
+    choice-refuses _ _ _ _ (abortChecks (a .self) (a .id .0)) (c .before .before .before .before .before .choose-running .ensures) refl (check12 (a .self) ∷ []) (c .before .before .before .if1 .left) 12
     (rw (eq-eqb (a .self .assigned .0) 4294967295 (c .before .if2 .taken))) (λ e. omega (arith, e)) (c .refuse .ensures)
 
 returns-3 : tie.Need-returns-3
 returns-3 c =
-    let a = c .before .before .before .before .before .before .args in
-    choice-goes _ _ _ _ _ (abortChecks (a .self) (a .id .0)) (c .before .before .before .before .choose-running .ensures) refl (check12 (a .self) ∷ []) (c .before .before .if1 .left)
+    let a = c .before .before .before .before .before .args in
+    choice-goes _ _ _ _ (abortChecks (a .self) (a .id .0)) (c .before .before .before .before .choose-running .ensures) refl (check12 (a .self) ∷ []) (c .before .before .if1 .left)
     (rw (ne-eqb (a .self .assigned .0) 4294967295 (c .if2 .left)))
 
 pub choose-precommit-spec : {M : Type 1} → statement M

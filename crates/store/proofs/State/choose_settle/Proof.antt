@@ -10,17 +10,17 @@ use Rattle.store.proofs.State.choose_settle.Statement.{statement}
 use Rattle.store.proofs.State.choose_settle.Tie as tie
 
 choose-listed-requires : tie.Need-choose-listed-requires
-choose-listed-requires c κs = search needs
+choose-listed-requires c κs = c .pre
 
 returns : tie.Need-returns
 returns c =
-    let a = c .before .before .before .before .args in
-    choice-stops _ _ _ _ _ (listedChecks (a .t1) (a .id .0)) (c .before .before .choose-listed .ensures) refl (check14 (a .t1) (a .id .0) ∷ []) (c .if1 .taken)
+    let a = c .before .before .before .args in
+    choice-stops _ _ _ _ (listedChecks (a .t1) (a .id .0)) (c .before .before .choose-listed .ensures) refl (check14 (a .t1) (a .id .0) ∷ []) (c .if1 .taken)
 
 -- numbers 1, 2 and 6 do not refuse
-found : (c : tie.Else1) → let a = c .before .before .before .before .args in
-    Slotted (a .t1) (a .memory) (a .tail .now) (a .id .0) (c .before .before .choose-listed .result) []
-found c = slotted _ _ _ _ _ _ (c .before .before .choose-listed .ensures) (c .if1 .left)
+found : (c : tie.Else1) → let a = c .before .before .before .args in
+    Slotted (a .t1) (a .admitted) (a .id .0) (c .before .before .choose-listed .result) []
+found c = slotted _ _ _ _ _ (c .before .before .before .pre) (c .before .before .choose-listed .ensures) (c .if1 .left)
 
 mul-if2 : tie.Need-mul-if2
 mul-if2 c = let w = found c in omega (arith, w .listed, w .few)
@@ -33,11 +33,11 @@ refuse-requires c κs = search needs
 
 returns-2 : tie.Need-returns-2
 returns-2 c =
-    let a = c .before .before .before .before .before .before .args in
+    let a = c .before .before .before .before .before .args in
     let s = a .t1 in
     let id = a .id .0 in
     let e : txOf s id .status ≡ 1 = status-of s id _ (found (c .before .before) .slot) ∙ c .before .if2 .taken in
-    choice-refuses _ _ _ _ _ (listedChecks s id) (c .before .before .before .before .choose-listed .ensures) refl (check14 s id ∷ []) (c .before .before .if1 .left) 14
+    choice-refuses _ _ _ _ (listedChecks s id) (c .before .before .before .before .choose-listed .ensures) refl (check14 s id ∷ []) (c .before .before .if1 .left) 14
     (rw (eq-eqb (txOf s id .status) 1 e)) (λ z. omega (arith, z)) (c .refuse .ensures)
 
 mul-if3 : tie.Need-mul-if3
@@ -50,27 +50,27 @@ refuse-requires-2 : tie.Need-refuse-requires-2
 refuse-requires-2 c κs = search needs
 
 -- it is committing
-settling : (c : tie.Else2) → let a = c .before .before .before .before .before .args in txOf (a .t1) (a .id .0) .status ≡ 1 → ⊥
+settling : (c : tie.Else2) → let a = c .before .before .before .before .args in txOf (a .t1) (a .id .0) .status ≡ 1 → ⊥
 settling c e =
-    let a = c .before .before .before .before .before .args in
+    let a = c .before .before .before .before .args in
     c .if2 .left (sym (status-of (a .t1) (a .id .0) _ (found (c .before) .slot)) ∙ e)
 
 returns-3 : tie.Need-returns-3
 returns-3 c =
-    let a = c .before .before .before .before .before .before .before .args in
+    let a = c .before .before .before .before .before .before .args in
     let s = a .t1 in
     let id = a .id .0 in
     let f : s .ondisk .0 < txOf s id .csn .0 = rw (found (c .before .before .before) .slot) at (c .before .if3 .taken) in
-    choice-refuses _ _ _ _ _ (listedChecks s id) (c .before .before .before .before .before .choose-listed .ensures) refl (check14 s id ∷ []) (c .before .before .before .if1 .left) 14
+    choice-refuses _ _ _ _ (listedChecks s id) (c .before .before .before .before .before .choose-listed .ensures) refl (check14 s id ∷ []) (c .before .before .before .if1 .left) 14
     (rw (ne-eqb (txOf s id .status) 1 (settling (c .before .before)), lt-ltb _ _ f)) (λ z. omega (arith, z)) (c .refuse2 .ensures)
 
 returns-4 : tie.Need-returns-4
 returns-4 c =
-    let a = c .before .before .before .before .before .before .args in
+    let a = c .before .before .before .before .before .args in
     let s = a .t1 in
     let id = a .id .0 in
     let f : txOf s id .csn .0 ≤ s .ondisk .0 = rw (found (c .before .before) .slot) at (c .if3 .left) in
-    choice-goes _ _ _ _ _ (listedChecks s id) (c .before .before .before .before .choose-listed .ensures) refl (check14 s id ∷ []) (c .before .before .if1 .left)
+    choice-goes _ _ _ _ (listedChecks s id) (c .before .before .before .before .choose-listed .ensures) refl (check14 s id ∷ []) (c .before .before .if1 .left)
     (rw (ne-eqb (txOf s id .status) 1 (settling (c .before)), le-ltb _ _ f))
 
 pub choose-settle-spec : {M : Type 1} → statement M

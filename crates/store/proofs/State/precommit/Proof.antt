@@ -20,35 +20,39 @@ use Rattle.store.specs.Numbers.{txOf, precommitChecks, check7, check12}
 use Rattle.store.specs.Steps.{precommittedState}
 use Rattle.store.specs.Calls.{Outcome, precommitNumber}
 use Rattle.store.proofs.Checks.{passed}
-use Rattle.store.proofs.Choosing.{choice-own, Slotted, slotted, running}
-use Rattle.store.proofs.Calling.{precommit-refused, precommit-done, usable-at}
+use Rattle.store.proofs.Admitting.{number-after, seen}
+use Rattle.store.proofs.Choosing.{choice-own, running}
+use Rattle.store.proofs.Calling.{Placed, placed, precommit-refused, precommit-done, usable-at}
 use Rattle.store.proofs.State.precommit.Statement.{statement}
 use Rattle.store.proofs.State.precommit.Tie as tie
 
+admit-requires : tie.Need-admit-requires
+admit-requires c κs = search needs
+
 choose-precommit-requires : tie.Need-choose-precommit-requires
-choose-precommit-requires c κs = search needs
+choose-precommit-requires c κs = seen _ _ _ _ (c .admit .ensures)
 
 same-length : tie.Need-same-length
 same-length c = search needs
 
 -- the number is precommit's own
-own : (c : tie.After-choose-precommit) → let a = c .before .before .before .before .args in
+own : (c : tie.After-choose-precommit) → let a = c .before .before .before .before .before .args in
     precommitNumber (a .self) (a .memory .now) (a .tail .now) (a .id) ≡ c .choose-precommit .result .number
-own c = let a = c .before .before .before .before .args in choice-own _ _ _ _ _ (precommitChecks (a .self) (a .id .0)) (c .choose-precommit .ensures)
+own c = let a = c .before .before .before .before .before .args in number-after _ _ _ _ (c .before .admit .ensures) (λ n. precommitChecks (a .self) (a .id .0)) ∙ choice-own _ _ _ _ (precommitChecks (a .self) (a .id .0)) (c .choose-precommit .ensures)
 
 returns : tie.Need-returns
 returns c =
-    let a = c .before .before .before .before .before .before .args in
+    let a = c .before .before .before .before .before .before .before .args in
     let o = precommit-refused (a .self) (a .memory .now) (a .tail .now) (a .id) _ (own (c .before .before)) (c .if1 .taken) in
     (ap (λ (x : Outcome Precommitted). x .result) (sym o), ap (λ (x : Outcome Precommitted). x .tail) (sym o))
 
-found : (c : tie.Else1) → let a = c .before .before .before .before .before .before .args in
-    Slotted (a .self) (length (a .memory .now)) (a .tail .now) (a .id .0) (c .before .before .choose-precommit .result) (check7 (a .self) (a .id .0) ∷ check12 (a .self) ∷ [])
-found c = slotted _ _ _ _ _ _ (c .before .before .choose-precommit .ensures) (c .if1 .left)
+found : (c : tie.Else1) → let a = c .before .before .before .before .before .before .before .args in
+    Placed (a .self) (length (a .memory .now)) (a .tail .now) (a .id .0) (c .before .before .choose-precommit .result) (λ k. check7 (a .self) (a .id .0) ∷ check12 (a .self) ∷ [])
+found c = placed _ _ _ _ _ _ _ (c .before .before .before .admit .ensures) (c .before .before .choose-precommit .ensures) (c .if1 .left)
 
-unspent : (c : tie.Else1) → c .before .before .before .before .before .before .args .self .assigned .0 < 4294967295
+unspent : (c : tie.Else1) → c .before .before .before .before .before .before .before .args .self .assigned .0 < 4294967295
 unspent c =
-    let a = c .before .before .before .before .before .before .args in
+    let a = c .before .before .before .before .before .before .before .args in
     let w : Fits w32 (a .self .assigned .0) = search needs in
     let p = passed 12 (eqb (a .self .assigned .0) 4294967295) [] (omega arith) (running (a .self) (a .id .0) (check12 (a .self) ∷ []) (found c .own) .1) in
     omega (arith, w, eqb-false (a .self .assigned .0) 4294967295 (p .0))
@@ -66,7 +70,7 @@ returns-2 : tie.Need-returns-2
 unfolding precommittedState
 returns-2 c =
     let else = c .before .before .before .before .before in
-    let a = else .before .before .before .before .before .before .args in
+    let a = else .before .before .before .before .before .before .before .args in
     let s = a .self in
     let t = a .tail .now in
     let w = found else in
@@ -85,6 +89,7 @@ pub precommit-spec : {M : Type 1} → statement M
 precommit-spec =
     tie.close
     (tie.spec
+    admit-requires
     choose-precommit-requires
     same-length
     returns

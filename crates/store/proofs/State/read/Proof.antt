@@ -6,13 +6,17 @@ use mathlib.Core.Path.{_≡_, sym, ap, _∙_}
 use lib.ListN.{length, take, drop}
 use Rattle.store.specs.Numbers.{readChecks, check7, check8, check9}
 use Rattle.store.specs.Calls.{readNumber}
-use Rattle.store.proofs.Choosing.{choice-own, Slotted, slotted, running, ranged-by-8}
-use Rattle.store.proofs.Calling.{read-refused, read-done}
+use Rattle.store.proofs.Admitting.{number-after, seen}
+use Rattle.store.proofs.Choosing.{choice-own, running, ranged-by-8}
+use Rattle.store.proofs.Calling.{Placed, placed, read-refused, read-done}
 use Rattle.store.proofs.State.read.Statement.{statement}
 use Rattle.store.proofs.State.read.Tie as tie
 
+admit-requires : tie.Need-admit-requires
+admit-requires c κs = search needs
+
 choose-read-requires : tie.Need-choose-read-requires
-choose-read-requires c κs = search needs
+choose-read-requires c κs = seen _ _ _ _ (c .admit .ensures)
 
 sub-result : tie.Need-sub-result
 sub-result c = search needs
@@ -24,23 +28,23 @@ part-result-end : tie.Need-part-result-end
 part-result-end c = search needs
 
 -- the number is read's own
-own : (c : tie.After-choose-read) → let a = c .before .before .before .args in
+own : (c : tie.After-choose-read) → let a = c .before .before .before .before .args in
     readNumber (a .self) (a .memory .now) (a .tail .now) (a .id) (a .addr) (a .len) ≡ c .choose-read .result .number
-own c = let a = c .before .before .before .args in choice-own _ _ _ _ _ (readChecks (a .self) (a .id .0) (a .addr) (a .len)) (c .choose-read .ensures)
+own c = let a = c .before .before .before .before .args in number-after _ _ _ _ (c .before .admit .ensures) (λ n. readChecks (a .self) (a .id .0) (a .addr) (a .len)) ∙ choice-own _ _ _ _ (readChecks (a .self) (a .id .0) (a .addr) (a .len)) (c .choose-read .ensures)
 
 returns : tie.Need-returns
 returns c =
-    let a = c .before .before .before .before .before .before .args in
+    let a = c .before .before .before .before .before .before .before .args in
     sym (read-refused (a .self) (a .memory .now) (a .tail .now) (a .id) (a .addr) (a .len) _ (own (c .before .before .before)) (c .before .if1 .taken))
 
-found : (c : tie.Else1) → let a = c .before .before .before .before .before .args in
-    Slotted (a .self) (length (a .memory .now)) (a .tail .now) (a .id .0) (c .before .before .choose-read .result) (check7 (a .self) (a .id .0) ∷ check8 (a .addr) (a .len) ∷ check9 (a .self) (a .id .0) (a .addr) (a .len) ∷ [])
-found c = slotted _ _ _ _ _ _ (c .before .before .choose-read .ensures) (c .if1 .left)
+found : (c : tie.Else1) → let a = c .before .before .before .before .before .before .args in
+    Placed (a .self) (length (a .memory .now)) (a .tail .now) (a .id .0) (c .before .before .choose-read .result) (λ k. check7 (a .self) (a .id .0) ∷ check8 (a .addr) (a .len) ∷ check9 (a .self) (a .id .0) (a .addr) (a .len) ∷ [])
+found c = placed _ _ _ _ _ _ _ (c .before .before .before .admit .ensures) (c .before .before .choose-read .ensures) (c .if1 .left)
 
 -- the range lies within memory
-ranged : (c : tie.Else1) → let a = c .before .before .before .before .before .args in a .addr + a .len ≤ 4096
+ranged : (c : tie.Else1) → let a = c .before .before .before .before .before .before .args in a .addr + a .len ≤ 4096
 ranged c =
-    let a = c .before .before .before .before .before .args in
+    let a = c .before .before .before .before .before .before .args in
     let last = check9 (a .self) (a .id .0) (a .addr) (a .len) ∷ [] in
     ranged-by-8 (a .addr) (a .len) last (running (a .self) (a .id .0) (check8 (a .addr) (a .len) ∷ last) (found c .own) .1) .2
 
@@ -58,7 +62,7 @@ part-result-end-2 c = omega (arith, ranged c, found c .memory)
 
 returns-2 : tie.Need-returns-2
 returns-2 c =
-    let a = c .before .before .before .before .before .before .args in
+    let a = c .before .before .before .before .before .before .before .args in
     let e : a .addr + a .len - a .addr ≡ a .len = omega arith in
     ap (λ (k : ℕ). take k (drop (a .addr) (a .memory .now))) e
     ∙ sym (read-done (a .self) (a .memory .now) (a .tail .now) (a .id) (a .addr) (a .len) (own (c .before .before .before) ∙ c .before .if1 .left))
@@ -67,6 +71,7 @@ pub read-spec : {M : Type 1} → statement M
 read-spec =
     tie.close
     (tie.spec
+    admit-requires
     choose-read-requires
     sub-result
     part-result-start

@@ -2,28 +2,32 @@ use borrow.Author.Needs.{needs}
 use mathlib.Core.Path.{_≡_, sym, _∙_}
 use Rattle.store.specs.Numbers.{readChecks}
 use Rattle.store.specs.Calls.{readNumber}
+use Rattle.store.proofs.Admitting.{number-after, seen}
 use Rattle.store.proofs.Choosing.{choice-own}
 use Rattle.store.proofs.Calling.{answer-refused, answer-done}
 use Rattle.store.proofs.State.read_answer.Statement.{statement}
 use Rattle.store.proofs.State.read_answer.Tie as tie
 
+admit-requires : tie.Need-admit-requires
+admit-requires c κs = search needs
+
 choose-read-requires : tie.Need-choose-read-requires
-choose-read-requires c κs = search needs
+choose-read-requires c κs = seen _ _ _ _ (c .admit .ensures)
 
 -- the number is read's own
-own : (c : tie.After-choose-read) → let a = c .before .before .before .args in
+own : (c : tie.After-choose-read) → let a = c .before .before .before .before .args in
     readNumber (a .self) (a .memory .now) (a .tail .now) (a .id) (a .addr) (a .len) ≡ c .choose-read .result .number
-own c = let a = c .before .before .before .args in choice-own _ _ _ _ _ (readChecks (a .self) (a .id .0) (a .addr) (a .len)) (c .choose-read .ensures)
+own c = let a = c .before .before .before .before .args in number-after _ _ _ _ (c .before .admit .ensures) (λ n. readChecks (a .self) (a .id .0) (a .addr) (a .len)) ∙ choice-own _ _ _ _ (readChecks (a .self) (a .id .0) (a .addr) (a .len)) (c .choose-read .ensures)
 
 returns : tie.Need-returns
 returns c =
-    let a = c .before .before .before .before .before .args in
+    let a = c .before .before .before .before .before .before .args in
     sym (answer-refused (a .self) (a .memory .now) (a .tail .now) (a .id) (a .addr) (a .len) _ (own (c .before .before)) (c .if1 .taken))
 
 returns-2 : tie.Need-returns-2
 returns-2 c =
-    let a = c .before .before .before .before .before .args in
+    let a = c .before .before .before .before .before .before .args in
     sym (answer-done (a .self) (a .memory .now) (a .tail .now) (a .id) (a .addr) (a .len) (own (c .before .before) ∙ c .if1 .left))
 
 pub read-answer-spec : {M : Type 1} → statement M
-read-answer-spec = tie.close (tie.spec choose-read-requires returns returns-2)
+read-answer-spec = tie.close (tie.spec admit-requires choose-read-requires returns returns-2)

@@ -5,37 +5,41 @@ use lib.ListN.{length}
 use Rattle.store.specs.Numbers.{settleChecks, check14}
 use Rattle.store.specs.Steps.{droppedState}
 use Rattle.store.specs.Calls.{doneReturn, settleNumber}
-use Rattle.store.proofs.Choosing.{choice-own, Slotted, slotted}
-use Rattle.store.proofs.Calling.{settle-refused, settle-done}
+use Rattle.store.proofs.Admitting.{number-after, seen}
+use Rattle.store.proofs.Choosing.{choice-own}
+use Rattle.store.proofs.Calling.{Placed, placed, settle-refused, settle-done}
 use Rattle.store.proofs.State.settle.Statement.{statement}
 use Rattle.store.proofs.State.settle.Tie as tie
 
+admit-requires : tie.Need-admit-requires
+admit-requires c κs = search needs
+
 choose-settle-requires : tie.Need-choose-settle-requires
-choose-settle-requires c κs = search needs
+choose-settle-requires c κs = seen _ _ _ _ (c .admit .ensures)
 
 -- the number is settle's own
-own : (c : tie.After-choose-settle) → let a = c .before .before .before .args in
+own : (c : tie.After-choose-settle) → let a = c .before .before .before .before .args in
     settleNumber (a .self) (a .memory .now) (a .tail .now) (a .id) ≡ c .choose-settle .result .number
-own c = let a = c .before .before .before .args in choice-own _ _ _ _ _ (settleChecks (a .self) (a .id .0)) (c .choose-settle .ensures)
+own c = let a = c .before .before .before .before .args in number-after _ _ _ _ (c .before .admit .ensures) (λ n. settleChecks (a .self) (a .id .0)) ∙ choice-own _ _ _ _ (settleChecks (a .self) (a .id .0)) (c .choose-settle .ensures)
 
 returns : tie.Need-returns
 returns c =
-    let a = c .before .before .before .before .before .args in
+    let a = c .before .before .before .before .before .before .args in
     sym (settle-refused (a .self) (a .memory .now) (a .tail .now) (a .id) _ (own (c .before .before)) (c .if1 .taken))
 
-found : (c : tie.Else1) → let a = c .before .before .before .before .before .args in
-    Slotted (a .self) (length (a .memory .now)) (a .tail .now) (a .id .0) (c .before .before .choose-settle .result) (check14 (a .self) (a .id .0) ∷ [])
-found c = slotted _ _ _ _ _ _ (c .before .before .choose-settle .ensures) (c .if1 .left)
+found : (c : tie.Else1) → let a = c .before .before .before .before .before .before .args in
+    Placed (a .self) (length (a .memory .now)) (a .tail .now) (a .id .0) (c .before .before .choose-settle .result) (λ k. check14 (a .self) (a .id .0) ∷ [])
+found c = placed _ _ _ _ _ _ _ (c .before .before .before .admit .ensures) (c .before .before .choose-settle .ensures) (c .if1 .left)
 
 drop-step-requires : tie.Need-drop-step-requires
 drop-step-requires c κs = let w = found c in (w .listed, w .few)
 
 returns-2 : tie.Need-returns-2
 returns-2 c =
-    let a = c .before .before .before .before .before .before .args in
+    let a = c .before .before .before .before .before .before .before .args in
     ap doneReturn (c .drop-step .ensures ∙ ap (droppedState (a .self)) (found (c .before) .slot))
     ∙ sym (settle-done (a .self) (a .memory .now) (a .tail .now) (a .id) (own (c .before .before .before) ∙ c .before .if1 .left))
 
 pub settle-spec : {M : Type 1} → statement M
 settle-spec =
-    tie.close (tie.spec choose-settle-requires returns drop-step-requires returns-2)
+    tie.close (tie.spec admit-requires choose-settle-requires returns drop-step-requires returns-2)
