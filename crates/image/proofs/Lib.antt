@@ -1,6 +1,7 @@
--- The laws of the checkpoint image: of the image rules (Rules), of the layout in flat arrays (Pushing, Packing), of the readers (Readings,
+-- The laws of the checkpoint image: of the image rules (KeyLaws, Rules), of the layout in flat arrays (Pushing, Packing), of the readers (Readings,
 -- TxReadings) and writers (Sizes, Writings); round trip, soundness, worked cases.
 pub mod Lists
+pub mod KeyLaws
 pub mod Rules
 pub mod Pushing
 pub mod Packing

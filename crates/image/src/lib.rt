@@ -1,17 +1,18 @@
 // The checkpoint image: the counters and transactions that it holds beside the memory, and the image rules.
+pub mod keys;
 pub mod read;
 pub mod write;
 
+use crate::keys::alike_from;
+use crate::keys::keys_of;
 use log::Csn;
 use log::TxId;
 use transaction::Tx;
-use transaction::alike;
 ghost use mathlib.Core.Path.{_≡_};
-ghost use Prim.Native.Nat.{_-_, _≤_};
-ghost use Rattle.recovery.specs.Lists.{any};
-ghost use Rattle.transaction.specs.Lists.{upFrom, every};
-ghost use Rattle.transaction.specs.Rules.{outlineOk, alike};
-ghost use Rattle.image.specs.Slots.{outlineAt, outlined};
+ghost use Prim.Native.Nat.{_≤_};
+ghost use Rattle.transaction.specs.Lists.{every};
+ghost use Rattle.transaction.specs.Rules.{outlineOk};
+ghost use Rattle.image.specs.Slots.{outlined};
 ghost use Rattle.image.specs.Rules.{distinct, keepsRules};
 ghost use Rattle.image.specs.Pack.{emptyImage};
 
@@ -84,31 +85,16 @@ impl Image {
         ensures { λ r. ⌜ r ≡ distinct (outlined (self .txs) (self .count)) ⌝ }
     {
         let n = self.count as usize;
+        let txs = self.txs;
+        let keys = keys_of(txs);
         let mut i: usize = 0;
         while i < n {
             let t = self.txs[i];
-            if self.alike_from(i + 1, t.id, t.csn) {
+            if alike_from(keys, n, i + 1, t.id, t.csn) {
                 return false;
             }
             i += 1;
         }
         true
-    }
-
-    // Whether a transaction from slot i on has this id, or this commit number where that is one.
-    fn alike_from(self, i: usize, id: TxId, csn: Csn) -> bool
-        requires { ⌜ (i ≤ self .count) × (self .count ≤ 8) ⌝ }
-        ensures { λ r. ⌜ r ≡ any (alike (id .0) (csn .0)) (upFrom (outlineAt (self .txs)) (self .count - i) i) ⌝ }
-    {
-        let n = self.count as usize;
-        let mut j = i;
-        while j < n {
-            let t = self.txs[j];
-            if alike(id, csn, t.id, t.csn) {
-                return true;
-            }
-            j += 1;
-        }
-        false
     }
 }

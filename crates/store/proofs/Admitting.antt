@@ -1,33 +1,29 @@
 -- The cases of numbers 1 and 2, each from the tests that lead there.
-use Prim.Native.Nat.{ℕ, zero, suc, _+_, _*_, _≤_, _<_}
-use native.Mathlib.Decide.{decLt}
+use Prim.Native.Nat.{ℕ, zero, suc, _+_, _-_, _*_, _≤_, _<_}
 use native.Mathlib.Omega.{arith}
 use mathlib.Core.Bool.{Bool, true, false, cond, not, _&&_, _||_, or-true, and-false}
 use mathlib.Core.List.{List, [], _∷_}
-use mathlib.Core.Path.{_≡_, refl, sym, ap, ap₂, _∙_, subst}
-use lib.ListN.{length, getD, drop, set}
-use lib.Seq.{getD-set-same, getD-set-other}
+use mathlib.Core.Path.{_≡_, refl, sym, ap, _∙_, subst}
+use lib.ListN.{length, drop}
 use lib.Dec.{eqb, leb, ltb}
 use borrow.Author.Tests.{eq-eqb, ne-eqb, lt-ltb, leb-true, eqb-true, eqb-false, not-false}
 use Rattle.recovery.specs.Group.{lastCsn}
-use Rattle.recovery.specs.Lists.{any}
 use Rattle.log.specs.Log.{readLog}
 use Rattle.log.proofs.Basics.{and-left, and-right}
 use Rattle.transaction.specs.Lists.{upFrom, every, sumOf}
 use Rattle.transaction.specs.declared.Tx.{Tx}
 use Rattle.transaction.specs.View.{Range, rangesOf}
-use Rattle.transaction.specs.Rules.{headOk as headRules, recordsOk, outlineOk, alike, redoOk, rangesSize, roomOf}
+use Rattle.transaction.specs.Rules.{headOk as headRules, recordsOk, outlineOk, redoOk, rangesSize, roomOf}
 use Rattle.transaction.proofs.Lists.{every-at, length-up}
 use Rattle.transaction.proofs.Ranges.{size-bound}
 use Rattle.store.specs.declared.State.{State}
 use Rattle.store.specs.declared.admit.Measured.{Measured}
-use Rattle.store.specs.declared.admit.Keys.{Keys}
 use Rattle.store.specs.declared.admit.Admission.{Admission}
 use Rattle.store.specs.State.{txAt, txsOf, outlineAt, outlinesOf}
 use Rattle.image.specs.Rules.{distinct, outlinesOk}
 use Rattle.store.specs.Rules.{allZero, tailLength, tailOk, roomUsed, unfit}
 use Rattle.store.specs.Numbers.{Check, check, firstNumber, sharedChecks, numberBy}
-use Rattle.store.specs.Admission.{headOk, keyAt, measuredIf, measuredTxs, measuredTail, admission, numberAfter, Seen}
+use Rattle.store.specs.Admission.{headOk, measuredIf, measuredTxs, measuredTail, admission, numberAfter, Seen}
 use Rattle.store.proofs.Fits.{Fit, fit, unfit-no, running-redo}
 use Rattle.store.proofs.Checks.{stops, passes, passed}
 
@@ -93,28 +89,6 @@ module _ (s : State) where
   unfolding measuredTxs
   txs-room r e o =
       ap (λ (x : Measured). x .room) e ∙ if-room (outlined && every redoOk (txsOf s)) (sumOf roomOf (txsOf s)) (sym (txs-measured r e) ∙ o)
-
-pub any-same : {A B : Type 0} (p : A → Bool) (q : B → Bool) (f : ℕ → A) (g : ℕ → B) (k i : ℕ) → ((x : ℕ) → i ≤ x → x < i + k → p (f x) ≡ q (g x))
-    → any p (upFrom f k i) ≡ any q (upFrom g k i)
-any-same p q f g zero i h = refl
-any-same p q f g (suc k) i h = ap₂ (λ (a b : Bool). a || b) (h i (omega arith) (omega arith)) (any-same p q f g k (suc i) (λ x a b. h x (omega arith) (omega arith)))
-
--- a turn of the loop that takes the keys
-pub keys-more : (s : State) (ids csns : List ℕ) (i : ℕ) → i < length ids → i < length csns
-    → ((k : ℕ) → k < i → (getD ids k 0 ≡ txAt s k .id .0) × (getD csns k 0 ≡ txAt s k .csn .0))
-    → (k : ℕ) → k < i + 1 → (getD (set ids i (txAt s i .id .0)) k 0 ≡ txAt s k .id .0) × (getD (set csns i (txAt s i .csn .0)) k 0 ≡ txAt s k .csn .0)
-keys-more s ids csns i a b e k h =
-    elim (decLt k i) [
-      | yes p ↦ (getD-set-other ids i k _ 0 (λ z. omega (arith, p, z)) ∙ e k p .0, getD-set-other csns i k _ 0 (λ z. omega (arith, p, z)) ∙ e k p .1)
-      | no q ↦ let z : k ≡ i = omega (arith, q, h) in rw z (getD-set-same ids i _ 0 a, getD-set-same csns i _ 0 b)
-    ]
-
--- keys that are those of the slots are as good as the transactions
-pub by-keys : (s : State) (keys : Keys) → ((k : ℕ) → k < 8 → (getD (keys .ids) k 0 ≡ txAt s k .id .0) × (getD (keys .csns) k 0 ≡ txAt s k .csn .0))
-    → (id csn k i : ℕ) → i + k ≤ 8 → any (alike id csn) (upFrom (keyAt keys) k i) ≡ any (alike id csn) (upFrom (outlineAt s) k i)
-by-keys s keys e id csn k i h =
-    any-same (alike id csn) (alike id csn) (keyAt keys) (outlineAt s) k i
-    (λ x a b. ap₂ (λ (j m : ℕ). eqb id j || (not (eqb csn 0) && eqb csn m)) (e x (omega arith) .0) (e x (omega arith) .1))
 
 -- ---- number 2
 

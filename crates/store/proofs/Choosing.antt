@@ -97,9 +97,6 @@ module _ (s : State) (id slot : ℕ) (e : slot ≡ slotOf s id) where
       let x = find s id in
       x .listed (omega (arith, e, x .high, h))
 
-  pub in-list : (slot ≡ s .count → ⊥) → slot < s .count
-  in-list h = let x = find s id in omega (arith, e, x .high, h)
-
   pub refused-6 : (cs : List Check) → slot ≡ s .count → firstNumber (check6 s id ∷ cs) ≡ 6
   refused-6 cs h = let x = find s id in rw (x .unlisted (sym e ∙ h ∙ omega arith))
 

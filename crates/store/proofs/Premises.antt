@@ -15,7 +15,7 @@ use Rattle.transaction.specs.declared.Records.{Records}
 use Rattle.transaction.specs.Lists.{upFrom, sumOf}
 use Rattle.transaction.specs.View.{rangeAt, rangesOf, writesOf}
 use Rattle.transaction.specs.Rules.{recordsOk, redoOk, meets, heldAgainst, roomOf}
-use Rattle.transaction.proofs.Lists.{every-at}
+use Rattle.transaction.proofs.Lists.{every-at, any-same}
 use Rattle.transaction.proofs.Ranges.{counted, ranged}
 use Rattle.transaction.proofs.Writes.{writes-up, bytes-length, sized}
 use Rattle.transaction.proofs.Pushed.{Sized}
@@ -25,7 +25,7 @@ use Rattle.store.specs.State.{txAt, txsOf, imageOf}
 use Rattle.store.specs.Rules.{tailLength, roomUsed}
 use Rattle.store.specs.View.{viewAt, live}
 use Rattle.store.proofs.Fits.{Fit, status-at}
-use Rattle.store.proofs.Admitting.{any-same, redo-records}
+use Rattle.store.proofs.Admitting.{redo-records}
 use Rattle.store.proofs.Stepping.{SizedState}
 
 -- a record over one of the bytes, as a range and as a write

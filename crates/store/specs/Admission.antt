@@ -2,16 +2,13 @@
 -- numbers.
 use Prim.Native.Nat.{ℕ, _≤_}
 use mathlib.Core.Bool.{Bool, true, false, cond, _&&_}
-use mathlib.Core.List.{List, []}
+use mathlib.Core.List.{List}
 use mathlib.Core.Path.{_≡_}
-use lib.ListN.{getD}
 use lib.Dec.{eqb, leb}
 use Rattle.transaction.specs.Lists.{every, sumOf}
-use Rattle.transaction.specs.View.{Outline, outline}
 use Rattle.transaction.specs.Rules.{redoOk, roomOf}
 use Rattle.store.specs.declared.State.{State}
 use Rattle.store.specs.declared.admit.Measured.{Measured}
-use Rattle.store.specs.declared.admit.Keys.{Keys}
 use Rattle.store.specs.declared.admit.Admission.{Admission}
 use Rattle.store.specs.declared.choose.Choice.{Choice}
 use Rattle.store.specs.State.{txsOf, outlinesOf, slotOf}
@@ -22,10 +19,6 @@ use Rattle.store.specs.Numbers.{Check, firstNumber, sharedChecks}
 -- recovered, and the image rules of the counters
 unfoldable pub headOk : Bool → ℕ → ℕ → ℕ → ℕ → Bool
 headOk recovered logEnd ondisk assigned count = recovered && leb logEnd 16384 && leb ondisk assigned && leb count 8
-
--- what is compared of the transaction in a slot
-abbrev pub keyAt : Keys → ℕ → Outline
-keyAt keys i = outline (getD (keys .ids) i 0) 0 (getD (keys .csns) i 0) []
 
 abbrev pub measuredIf : Bool → ℕ → Measured
 measuredIf true n = record { ok = true; room = n }

@@ -1,29 +1,18 @@
 // Numbers 1 and 2, which every call that is handed a state checks first.
 use crate::State;
+use image::keys::alike_from;
+use image::keys::keys_of;
 use log::Csn;
-use log::TxId;
 use log::scan::read_log;
-use transaction::alike;
 ghost use mathlib.Core.Path.{_≡_};
-ghost use Prim.Native.Nat.{ℕ, _-_, _≤_, _<_};
-ghost use lib.ListN.{getD};
-ghost use Rattle.recovery.specs.Lists.{any};
-ghost use Rattle.transaction.specs.Lists.{upFrom};
-ghost use Rattle.transaction.specs.Rules.{alike};
-ghost use Rattle.store.specs.State.{txAt};
+ghost use Prim.Native.Nat.{_≤_};
 ghost use Rattle.store.specs.Rules.{allZero};
-ghost use Rattle.store.specs.Admission.{headOk, keyAt, measuredTxs, measuredTail, admission};
+ghost use Rattle.store.specs.Admission.{headOk, measuredTxs, measuredTail, admission};
 
 // Whether what was looked at keeps its rules, and the log room that it takes.
 pub struct Measured {
     pub ok: bool,
     pub room: usize,
-}
-
-// Ids and commit numbers of the slots, apart from the records: the state itself is too long to hand on for each comparison.
-pub struct Keys {
-    pub ids: [u16; 8],
-    pub csns: [u32; 8],
 }
 
 // The number that refuses, 0 for none; if none, where the tail's groups end and the log room used.
@@ -80,38 +69,7 @@ fn measure_tail(tail: &[u8], ondisk: Csn, assigned: Csn) -> Measured
     }
 }
 
-// Whether one of the n transactions from slot i on has this id or this commit number.
-fn alike_from(keys: Keys, n: usize, i: usize, id: TxId, csn: Csn) -> bool
-    requires { ⌜ (i ≤ n) × (n ≤ 8) ⌝ }
-    ensures { λ r. ⌜ r ≡ any (alike (id .0) (csn .0)) (upFrom (keyAt keys) (n - i) i) ⌝ }
-{
-    let mut j = i;
-    while j < n {
-        if alike(id, csn, TxId(keys.ids[j]), Csn(keys.csns[j])) {
-            return true;
-        }
-        j += 1;
-    }
-    false
-}
-
 impl State {
-    fn keys(self) -> Keys
-        ensures { λ r. ⌜ ((k : ℕ) → k < 8 → (getD (r .ids) k 0 ≡ txAt self k .id .0) × (getD (r .csns) k 0 ≡ txAt self k .csn .0)) ⌝ }
-    {
-        let mut keys = Keys {
-            ids: [0; 8],
-            csns: [0; 8],
-        };
-        let mut i: usize = 0;
-        while i < 8 {
-            keys.ids[i] = self.txs[i].id.0;
-            keys.csns[i] = self.txs[i].csn.0;
-            i += 1;
-        }
-        keys
-    }
-
     // The rules of the transactions, and the log room that they have reserved.
     fn measure_txs(self) -> Measured
         requires { ⌜ self .count ≤ 8 ⌝ }
@@ -120,7 +78,8 @@ impl State {
         let n = self.count as usize;
         let last = self.lastid;
         let assigned = self.assigned;
-        let keys = self.keys();
+        let txs = self.txs;
+        let keys = keys_of(txs);
         let mut room: usize = 0;
         let mut i: usize = 0;
         while i < n {

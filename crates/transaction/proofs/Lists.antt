@@ -2,9 +2,9 @@
 use Prim.Native.Nat.{ℕ, zero, suc, _+_, _-_, _≤_, _<_}
 use native.Mathlib.Numerals.{add-one}
 use native.Mathlib.Omega.{arith}
-use mathlib.Core.Bool.{Bool, true, false}
+use mathlib.Core.Bool.{Bool, true, false, _||_}
 use mathlib.Core.List.{List, [], _∷_, _++_}
-use mathlib.Core.Path.{_≡_, refl, sym, ap, _∙_, subst}
+use mathlib.Core.Path.{_≡_, refl, sym, ap, ap₂, _∙_, subst}
 use lib.ListN.{length}
 use lib.Dec.{eqb}
 use borrow.Author.Tests.{eqb-true, eqb-false}
@@ -72,3 +72,8 @@ module _ {A : Type 0} (f : ℕ → A) where
 
     pub sum-turn : (g : A → ℕ) → sumOf g (upFrom f (n - i) i) ≡ g (f i) + sumOf g (upFrom f (n - (i + 1)) (i + 1))
     sum-turn g = ap (sumOf g) up-turn
+
+pub any-same : {A B : Type 0} (p : A → Bool) (q : B → Bool) (f : ℕ → A) (g : ℕ → B) (k i : ℕ) → ((x : ℕ) → i ≤ x → x < i + k → p (f x) ≡ q (g x))
+    → any p (upFrom f k i) ≡ any q (upFrom g k i)
+any-same p q f g zero i h = refl
+any-same p q f g (suc k) i h = ap₂ (λ (a b : Bool). a || b) (h i (omega arith) (omega arith)) (any-same p q f g k (suc i) (λ x a b. h x (omega arith) (omega arith)))

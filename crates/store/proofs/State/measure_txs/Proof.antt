@@ -13,10 +13,11 @@ use Rattle.transaction.specs.Rules.{recordsOk, headOk, outlineOk, alike, redoOk
 use Rattle.transaction.proofs.Lists.{up-done, every-bad, every-good, sum-turn}
 use Rattle.transaction.proofs.Ranges.{counted}
 use Rattle.image.specs.Rules.{distinct}
+use Rattle.image.proofs.KeyLaws.{by-keys}
 use Rattle.image.proofs.Rules.{distinct-hit, distinct-miss}
 use Rattle.store.specs.declared.State.{State}
 use Rattle.store.specs.State.{txAt, txsOf, outlineAt, outlinesOf}
-use Rattle.store.proofs.Admitting.{by-keys, bad-outline, bad-alike, bad-redo, good-txs, redo-records, room-bound}
+use Rattle.store.proofs.Admitting.{bad-outline, bad-alike, bad-redo, good-txs, redo-records, room-bound}
 use Rattle.store.proofs.State.measure_txs.Statement.{statement}
 use Rattle.store.proofs.State.measure_txs.Tie as tie
 
@@ -35,12 +36,12 @@ abbrev μ-loop : tie.MeasureT-loop
 cast-n : tie.Need-cast-n Inv-loop μ-loop
 cast-n c = search needs
 
-keys-requires : tie.Need-keys-requires Inv-loop μ-loop
-keys-requires c κs = search needs
+keys-of-requires : tie.Need-keys-of-requires Inv-loop μ-loop
+keys-of-requires c κs = search needs
 
 loop-holds : tie.Need-loop-holds Inv-loop μ-loop
 loop-holds c =
-    let s = c .before .before .before .args .t1 in
+    let s = c .before .before .before .before .args .t1 in
     let z = sub-zero (s .count) in
     (omega arith, omega arith, rw z, rw z, rw z, rw z (omega arith))
 
@@ -56,7 +57,7 @@ image-ok-requires c κs = search needs
 -- ---- a turn: the state, the place, and what the rules that were tested say of the transaction at hand
 
 abbrev whole : tie.After-t Inv-loop μ-loop → State
-whole t = t .before .before .before .before .before .before .args .t1
+whole t = t .before .before .before .before .before .before .before .args .t1
 
 abbrev at : tie.After-t Inv-loop μ-loop → ℕ
 at t = t .before .before .loop .i
@@ -103,9 +104,9 @@ compared : (c : tie.After-alike-from Inv-loop μ-loop)
 compared c =
     let t = c .before .before .before .before .before in
     let s = whole t in
-    let keys = t .before .before .before .keys in
+    let keys = t .before .before .before .keys-of in
     c .alike-from .ensures
-    ∙ by-keys s (keys .result) (keys .ensures) (txAt s (at t) .id .0) (txAt s (at t) .csn .0) (s .count - (at t + 1)) (at t + 1) (omega (arith, t .before .before .before .before .before .before .pre, t .before .loop-test .taken))
+    ∙ by-keys (s .txs) (keys .result) (keys .ensures) (txAt s (at t) .id .0) (txAt s (at t) .csn .0) (s .count - (at t + 1)) (at t + 1) (omega (arith, t .before .before .before .before .before .before .before .pre, t .before .loop-test .taken))
 
 returns-3 : tie.Need-returns-3 Inv-loop μ-loop
 returns-3 c =
@@ -119,7 +120,7 @@ small : (c : tie.After-room Inv-loop μ-loop) → c .room .result ≤ 632
 small c = let t = c .before .before .before .before .before .before .before in omega (arith, c .room .ensures, room-bound (txAt (whole t) (at t)) (good-undo (c .before .before .before .before .before)) (good-redo (c .before .before .before)))
 
 add-room : tie.Need-add-room Inv-loop μ-loop
-add-room c = let g = c .before .before .before .before .before .before .before .before .before .before .before .before .before .pre in omega (arith, small c)
+add-room c = let g = c .before .before .before .before .before .before .before .before .before .before .before .before .before .before .pre in omega (arith, small c)
 
 add-i : tie.Need-add-i Inv-loop μ-loop
 add-i c = search needs
@@ -143,7 +144,7 @@ loop-again c =
 
 returns-4 : tie.Need-returns-4 Inv-loop μ-loop
 returns-4 c =
-    let s = c .before .before .before .before .before .args .t1 in
+    let s = c .before .before .before .before .before .before .args .t1 in
     let i = c .before .loop .i in
     let h = c .loop-test .left in
     let o = up-done (outlineAt s) (s .count) i h in
@@ -160,7 +161,7 @@ measure-txs-spec =
     Inv-loop
     μ-loop
     cast-n
-    keys-requires
+    keys-of-requires
     loop-holds
     mul-t
     element-copy-out-t

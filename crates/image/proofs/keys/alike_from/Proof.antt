@@ -6,9 +6,9 @@ use Rattle.recovery.specs.Lists.{any}
 use Rattle.transaction.specs.Lists.{upFrom}
 use Rattle.transaction.specs.Rules.{alike}
 use Rattle.transaction.proofs.Lists.{up-done, any-hit, any-miss}
-use Rattle.store.specs.Admission.{keyAt}
-use Rattle.store.proofs.admit.alike_from.Statement.{statement}
-use Rattle.store.proofs.admit.alike_from.Tie as tie
+use Rattle.image.specs.Keys.{keyAt}
+use Rattle.image.proofs.keys.alike_from.Statement.{statement}
+use Rattle.image.proofs.keys.alike_from.Tie as tie
 
 abbrev Inv-loop : tie.InvT-loop
 Inv-loop n i id csn keys j₀ j =

@@ -1,22 +1,22 @@
 use borrow.Author.Needs.{needs}
-use Prim.Native.Nat.{ℕ, _-_, _≤_, _<_}
+use Prim.Native.Nat.{_-_, _≤_}
 use native.Mathlib.Omega.{arith}
 use mathlib.Core.Path.{_≡_, refl}
-use lib.ListN.{length, getD, length-set}
-use Rattle.store.specs.State.{txAt}
-use Rattle.store.proofs.Admitting.{keys-more}
-use Rattle.store.proofs.State.keys.Statement.{statement}
-use Rattle.store.proofs.State.keys.Tie as tie
+use lib.ListN.{length, length-set}
+use Rattle.image.specs.Keys.{KeysBelow}
+use Rattle.image.proofs.KeyLaws.{keys-more}
+use Rattle.image.proofs.keys.keys_of.Statement.{statement}
+use Rattle.image.proofs.keys.keys_of.Tie as tie
 
 abbrev Inv-loop : tie.InvT-loop
-Inv-loop self keys₀ i₀ keys i =
+Inv-loop txs keys₀ i₀ keys i =
     (i ≤ 8)
     × (length (keys .ids) ≡ 8)
     × (length (keys .csns) ≡ 8)
-    × ((k : ℕ) → k < i → (getD (keys .ids) k 0 ≡ txAt self k .id .0) × (getD (keys .csns) k 0 ≡ txAt self k .csn .0))
+    × KeysBelow i txs (keys .ids) (keys .csns)
 
 abbrev μ-loop : tie.MeasureT-loop
-μ-loop self keys₀ i₀ keys i = 8 - i
+μ-loop txs keys₀ i₀ keys i = 8 - i
 
 loop-holds : tie.Need-loop-holds Inv-loop μ-loop
 loop-holds c = (omega arith, refl, refl, λ k h. absurd (omega (arith, h)))
@@ -63,8 +63,8 @@ loop-again c =
 returns : tie.Need-returns Inv-loop μ-loop
 returns c = λ k h. c .before .loop .inv .3 k (omega (arith, h, c .loop-test .left))
 
-pub keys-spec : {M : Type 1} → statement M
-keys-spec =
+pub keys-of-spec : {M : Type 1} → statement M
+keys-of-spec =
     tie.close
     (tie.spec
     Inv-loop
