@@ -38,7 +38,7 @@ byteAndTail a w = getD (w .memory) a 0 ∷ take 12 (w .tail)
 
 -- ---- calls and replies that recur
 
--- the uncut restart of a fresh disk that each case but M2 opens with
+-- what the uncut restart of a fresh disk tells, with which each case but M2 opens
 abbrev pub opened : Reply
 opened = told Done 0 16384
 
@@ -48,7 +48,7 @@ done = told Done 0 0
 abbrev pub refused : ℕ → Reply
 refused n = told (Refused n) 0 0
 
--- n times: a transaction without writes, flushed and settled; the first has id and commit number i
+-- n times: a transaction without writes, flushed and settled, the first with id and commit number i; then one more begin
 abbrev pub rounds : ℕ → ℕ → List Call
 rounds zero i = begin ∷ []
 rounds (suc n) i = begin ∷ precommit i ∷ flush 1 8 ∷ settle i ∷ rounds n (suc i)
