@@ -57,6 +57,10 @@ abbrev pub roundReplies : ℕ → ℕ → List Reply
 roundReplies zero i = refused 13 ∷ []
 roundReplies (suc n) i = told Done i 0 ∷ told Done i 0 ∷ told Done 0 8 ∷ done ∷ roundReplies n (suc i)
 
+-- so many fill the log: 8 bytes each
+abbrev pub filling : ℕ
+filling = 2048
+
 abbrev pub m1 : ℕ → List Call
 m1 allowed = restart 16384 ∷ begin ∷ write 1 10 (0x41 ∷ 0x42 ∷ []) ∷ precommit 1 ∷ flush 1 allowed ∷ []
 
@@ -136,9 +140,9 @@ rows =
     }
     -- M8: 2,048 transactions without writes fill the log; the next begin is 13
     ∷ record {
-      calls = restart 16384 ∷ rounds 2048 1;
+      calls = restart 16384 ∷ rounds filling 1;
       look = logEnd;
-      expected = record { replies = opened ∷ roundReplies 2048 1; seen = 16384 ∷ [] };
+      expected = record { replies = opened ∷ roundReplies filling 1; seen = 16384 ∷ [] };
     }
     -- M9: of two groups one is flushed: settling the second is 14
     ∷ record {
