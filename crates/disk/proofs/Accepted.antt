@@ -17,9 +17,9 @@ use Rattle.image.specs.Reading.{memoryOf}
 use Rattle.restart.specs.Slots.{txsOf}
 use Rattle.restart.specs.Forward.{groupsOf, forwardOf}
 use Rattle.restart.specs.Undo.{undoneOf}
-use Rattle.restart.specs.Restart.{Outcome, restartOf}
+use Rattle.restart.specs.Restart.{Outcome, recoverOf}
 use Rattle.restart.proofs.Recovery.{memory-is}
-use Rattle.disk.specs.Layout.{pointerOf, slotOf, imagePart, logFrom}
+use Rattle.disk.specs.Layout.{pointerOf, imageAt, imagePart, logFrom}
 use Rattle.disk.specs.Examine.{noImage, imageNamed, loadOf, Meaning, refusedBy, stepsOf, meant, examineOf}
 use Rattle.disk.proofs.Loading.{slot-within}
 use Rattle.disk.proofs.Examining.{keeps, means-3, means-4, means-5, means}
@@ -84,11 +84,11 @@ loaded-length pointer disk d = go (eqb pointer 0)
     go true = length-replicate {A = ℕ} 4096 0
     go false =
         let s = slot-within pointer in
-        let a : length (imagePart pointer disk) ≡ 8653 = length-take-le 8653 (drop (slotOf pointer) disk) (rw (length-drop (slotOf pointer) disk) (omega arith)) in
+        let a : length (imagePart pointer disk) ≡ 8653 = length-take-le 8653 (drop (imageAt pointer) disk) (rw (length-drop (imageAt pointer) disk) (omega arith)) in
         length-take-le 4096 (drop 13 (imagePart pointer disk)) (rw (length-drop 13 (imagePart pointer disk)) (omega arith))
 
-tail-kept : (i : Image) (log m t : List ℕ) → length (restartOf i log m t .tail) ≡ length t
-unfolding restartOf
+tail-kept : (i : Image) (log m t : List ℕ) → length (recoverOf i log m t .tail) ≡ length t
+unfolding recoverOf
 tail-kept i log m t = length-sets t 0 (encodeLog (aborts (undoneOf i (forwardOf i log m .pass))))
 
 module _ (disk : List ℕ) (d : length disk ≡ 33691) (a : Accepted disk) where

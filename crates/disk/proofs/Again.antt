@@ -18,10 +18,10 @@ use Rattle.log.proofs.StoreLaws.{length-clears, take-clears, apply-clears, leng
 use Rattle.log.proofs.Torn.{log-torn}
 use Rattle.image.specs.declared.Image.{Image}
 use Rattle.restart.specs.Forward.{startOf, groupsOf, goOver, forwardOf}
-use Rattle.restart.specs.Restart.{Outcome, outcome, restartOf}
+use Rattle.restart.specs.Restart.{Outcome, outcome, recoverOf}
 use Rattle.restart.proofs.Recovery.{end-is}
 use Rattle.store.specs.Stored.{DiskOutcome, carriedOut}
-use Rattle.disk.specs.Layout.{pointerOf, slotOf, logFrom}
+use Rattle.disk.specs.Layout.{pointerOf, imageAt, logFrom}
 use Rattle.disk.specs.Examine.{Loaded, loadOf, Meaning, stepsOf, meant, examineOf}
 use Rattle.disk.specs.declared.call.Restarted.{Restarted}
 use Rattle.disk.specs.Restart.{clearing, refusedWith, ofMeaning}
@@ -83,7 +83,7 @@ module _ (p k : ℕ) (disk : List ℕ) (h : p ≤ length disk) where
   unfolding loadOf
   front-load pointer l =
       let s = slot-within pointer in
-      rw (front-part (slotOf pointer) 8653 (omega arith))
+      rw (front-part (imageAt pointer) 8653 (omega arith))
 
   front-log : (prev at : ℕ) → 17307 + at + groupsSize (readLog prev (logFrom at disk)) ≤ p → readLog prev (logFrom at front) ≡ readLog prev (logFrom at disk)
   front-log prev at l =
@@ -92,8 +92,8 @@ module _ (p k : ℕ) (disk : List ℕ) (h : p ≤ length disk) where
       ∙ fitting-all (p - (17307 + at)) (readLog prev (logFrom at disk)) (omega arith)
 
 -- steps 2 to 5 look at the log's groups alone
-steps-same : (i : Image) (log log' m t : List ℕ) → groupsOf i log' ≡ groupsOf i log → restartOf i log' m t ≡ restartOf i log m t
-unfolding restartOf forwardOf
+steps-same : (i : Image) (log log' m t : List ℕ) → groupsOf i log' ≡ groupsOf i log → recoverOf i log' m t ≡ recoverOf i log m t
+unfolding recoverOf forwardOf
 steps-same i log log' m t e = ap (λ (gs : List Group). outcome i (goOver i gs (startOf i m)) t) e
 
 module _ (disk : List ℕ) (d : length disk ≡ 33691) (a : Accepted disk) where

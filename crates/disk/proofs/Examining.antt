@@ -15,11 +15,11 @@ use Rattle.image.specs.Rules.{keepsRules}
 use Rattle.image.specs.Pack.{emptyImage}
 use Rattle.image.proofs.Rules.{image-logend, image-count}
 use Rattle.image.proofs.Soundness.{decode-keeps}
-use Rattle.restart.specs.Restart.{Outcome, restartOf}
+use Rattle.restart.specs.Restart.{Outcome, recoverOf}
 use Rattle.restart.proofs.Recovery.{end-is, count-is, undone-few}
 use Rattle.disk.specs.declared.examine.Examined.{Examined}
 use Rattle.disk.specs.Layout.{pointerOf, imagePart, logFrom}
-use Rattle.disk.specs.Examine.{noImage, imageNamed, loadOf, Meaning, refusedBy, stepsOf, meant, fitting, ofLoaded, examineOf}
+use Rattle.disk.specs.Examine.{noImage, imageNamed, loadOf, Meaning, refusedBy, stepsOf, meant, ifFits, ofLoaded, examineOf}
 
 -- ---- what was loaded keeps the image rules
 
@@ -34,9 +34,9 @@ loaded-keeps pointer disk = go (eqb pointer 0)
 -- ---- steps 2 to 5 of the part of the log that is lent
 
 pub steps-are : (i : Image) (disk m t : List ℕ) → t ≡ replicate 16384 0
-    → restartOf i (take (length disk - (17307 + i .logend)) (drop (17307 + i .logend) disk)) m t ≡ stepsOf i m disk
+    → recoverOf i (take (length disk - (17307 + i .logend)) (drop (17307 + i .logend) disk)) m t ≡ stepsOf i m disk
 unfolding stepsOf
-steps-are i disk m t e = ap₂ (λ (log tail : List ℕ). restartOf i log m tail) (from disk (17307 + i .logend)) e
+steps-are i disk m t e = ap₂ (λ (log tail : List ℕ). recoverOf i log m tail) (from disk (17307 + i .logend)) e
 
 -- the end lies within the log, and few are undone
 module _ (i : Image) (ok : keepsRules i ≡ true) (m disk : List ℕ) (l : length disk ≡ 33691) where
@@ -54,9 +54,9 @@ module _ (i : Image) (ok : keepsRules i ≡ true) (m disk : List ℕ) (l : lengt
 -- ---- the meaning
 
 -- what was answered and left is what a meaning has, if it is what an equal one has
-pub told : {x y : Meaning} {r : Examined} {m t : List ℕ} → x ≡ y → r ≡ y .result → m ≡ y .memory → t ≡ y .tail
+pub answered : {x y : Meaning} {r : Examined} {m t : List ℕ} → x ≡ y → r ≡ y .result → m ≡ y .memory → t ≡ y .tail
     → (r ≡ x .result) × ((m ≡ x .memory) × (t ≡ x .tail))
-told e p q s = (p ∙ sym (ap (λ (z : Meaning). z .result) e), (q ∙ sym (ap (λ (z : Meaning). z .memory) e), s ∙ sym (ap (λ (z : Meaning). z .tail) e)))
+answered e p q s = (p ∙ sym (ap (λ (z : Meaning). z .result) e), (q ∙ sym (ap (λ (z : Meaning). z .memory) e), s ∙ sym (ap (λ (z : Meaning). z .tail) e)))
 
 pub means-3 : (disk : List ℕ) → 2 < pointerOf disk → examineOf disk ≡ refusedBy 3
 unfolding examineOf
@@ -94,18 +94,18 @@ either : (b : Bool) (x y : Meaning) → Roomy x → Roomy y → Roomy (cond b x 
 either true x y p q = p
 either false x y p q = q
 
-fitting-roomy : (logEnd : ℕ) (o : Outcome) → Roomy (fitting logEnd o)
-fitting-roomy logEnd o = go (ltb 16384 (logEnd + o .answer .end + 4 * o .answer .undone)) refl
+fitting-roomy : (logend : ℕ) (o : Outcome) → Roomy (ifFits logend o)
+fitting-roomy logend o = go (ltb 16384 (logend + o .answer .end + 4 * o .answer .undone)) refl
   where
-    go : (b : Bool) → ltb 16384 (logEnd + o .answer .end + 4 * o .answer .undone) ≡ b → Roomy (cond b (refusedBy 5) (meant logEnd o))
+    go : (b : Bool) → ltb 16384 (logend + o .answer .end + 4 * o .answer .undone) ≡ b → Roomy (cond b (refusedBy 5) (meant logend o))
     go true e = refused-roomy 5
-    go false e = ltb-false 16384 (logEnd + o .answer .end + 4 * o .answer .undone) e
+    go false e = ltb-false 16384 (logend + o .answer .end + 4 * o .answer .undone) e
 
 pub roomy : (disk : List ℕ) → examineOf disk .result .end + 4 * examineOf disk .result .undone ≤ 16384
 unfolding examineOf
 roomy disk =
     let l = loadOf (pointerOf disk) disk in
     either (ltb 2 (pointerOf disk)) (refusedBy 3) (ofLoaded l disk) (refused-roomy 3)
-    (either (l .decoded .ok) (fitting (l .decoded .image .logend) (stepsOf (l .decoded .image) (l .memory) disk)) (refusedBy 4)
+    (either (l .decoded .ok) (ifFits (l .decoded .image .logend) (stepsOf (l .decoded .image) (l .memory) disk)) (refusedBy 4)
     (fitting-roomy (l .decoded .image .logend) (stepsOf (l .decoded .image) (l .memory) disk))
     (refused-roomy 4))

@@ -11,10 +11,10 @@ use borrow.Author.Tests.{ne-eqb}
 use Rattle.log.proofs.RoundTrip.{drop-take}
 use Rattle.log.proofs.StoreLaws.{sets-all}
 use Rattle.image.specs.Reading.{memoryOf}
-use Rattle.disk.specs.Layout.{slotOf}
+use Rattle.disk.specs.Layout.{imageAt}
 use Rattle.disk.specs.Examine.{noImage, imageNamed, loadOf}
 
-pub slot-within : (pointer : ℕ) → slotOf pointer ≤ 8654
+pub slot-within : (pointer : ℕ) → imageAt pointer ≤ 8654
 slot-within pointer = go (eqb pointer 1)
   where
     go : (b : Bool) → cond b 1 8654 ≤ 8654

@@ -14,9 +14,9 @@ use Rattle.store.specs.Answer.{done, answer}
 use Rattle.store.specs.Stored.{DiskOutcome, cutShort, madeWhole, carriedOut}
 use Rattle.store.proofs.Storing.{clears-moved, part-stored, carried-cut, carried-done}
 use Rattle.disk.specs.declared.call.Restarted.{Restarted}
-use Rattle.disk.specs.Layout.{whole}
+use Rattle.disk.specs.Layout.{lengthsOk}
 use Rattle.disk.specs.Examine.{Meaning, examineOf}
-use Rattle.disk.specs.Restart.{clearing, restarted, restartPlan, refusedRestart, refusedWith, ofMeaning, restartOf}
+use Rattle.disk.specs.Restart.{clearing, restartResult, restartPlan, refusedRestart, refusedWith, ofMeaning, restartOf}
 
 pub clearing-length : (end : ℕ) → length (clearing end) ≡ 16384 - end
 clearing-length end = length-clears (17307 + end) (16384 - end)
@@ -42,12 +42,12 @@ log-count end d l =
 
 -- a disk that is accepted, with n stores allowed: cut or done
 abbrev pub cutFrom : Meaning → List ℕ → ℕ → DiskOutcome Restarted
-cutFrom m disk n = cutShort (restarted (m .result .undone)) (restartPlan m) n disk
+cutFrom m disk n = cutShort (restartResult (m .result .undone)) (restartPlan m) n disk
 
 abbrev pub doneFrom : Meaning → List ℕ → ℕ → DiskOutcome Restarted
-doneFrom m disk n = madeWhole (restarted (m .result .undone)) (restartPlan m) n disk
+doneFrom m disk n = madeWhole (restartResult (m .result .undone)) (restartPlan m) n disk
 
-pub restart-1 : (disk memory tail : List ℕ) (allowed : ℕ) → whole disk memory tail ≡ false → restartOf disk memory tail allowed ≡ refusedWith 1 disk memory tail
+pub restart-1 : (disk memory tail : List ℕ) (allowed : ℕ) → lengthsOk disk memory tail ≡ false → restartOf disk memory tail allowed ≡ refusedWith 1 disk memory tail
 unfolding restartOf
 restart-1 disk memory tail allowed e = rw e
 
@@ -61,7 +61,7 @@ module _ (disk memory tail : List ℕ) (allowed : ℕ) (d : length disk ≡ 3369
   restart-refused n = restart-meant ∙ rw (ne-eqb (examineOf disk .result .number) 0 n)
 
   module _ (e : examineOf disk .result .number ≡ 0) where
-    taken : restartOf disk memory tail allowed ≡ carriedOut (restarted (examineOf disk .result .undone)) (restartPlan (examineOf disk)) allowed disk
+    taken : restartOf disk memory tail allowed ≡ carriedOut (restartResult (examineOf disk .result .undone)) (restartPlan (examineOf disk)) allowed disk
     taken = restart-meant ∙ rw (eq-eqb (examineOf disk .result .number) 0 e)
 
     pub restart-cut : allowed < 16384 - examineOf disk .result .end → restartOf disk memory tail allowed ≡ cutFrom (examineOf disk) disk allowed

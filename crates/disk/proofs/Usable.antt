@@ -16,7 +16,7 @@ use Rattle.log.specs.declared.Csn.{Csn}
 use Rattle.log.specs.Log.{readLog, encodeLog}
 use Rattle.log.proofs.RoundTrip.{length-log}
 use Rattle.log.proofs.StoreLaws.{length-apply}
-use Rattle.restart.specs.Restart.{restartOf}
+use Rattle.restart.specs.Restart.{recoverOf}
 use Rattle.restart.proofs.Recovery.{undoneBy, count-is, tail-is, tail-read}
 use Rattle.store.specs.Rules.{allZero, tailLength, tailOk, unfit}
 use Rattle.store.specs.Stored.{DiskOutcome}
@@ -46,7 +46,7 @@ module _ (disk : List ℕ) (a : Accepted disk) where
   abbrev undoneIn : List Tx
   undoneIn = undoneBy (imageIn disk) (logIn disk)
 
-  steps-tail : examineOf disk .tail ≡ restartOf (imageIn disk) (logIn disk) (memoryIn disk) (replicate 16384 0) .tail
+  steps-tail : examineOf disk .tail ≡ recoverOf (imageIn disk) (logIn disk) (memoryIn disk) (replicate 16384 0) .tail
   unfolding stepsOf
   steps-tail = ap (λ (m : Meaning). m .tail) (a .is)
 
@@ -72,7 +72,7 @@ pub record Ready (o : DiskOutcome Restarted) : Type 0 where
   pub tail : length (o .tail) ≡ 16384
   pub fit : unfit (o .result .state) (o .tail) ≡ false
 
-pub ready : (disk memory tail : List ℕ) (allowed : ℕ) → Done? (left.restartOf disk memory tail allowed) → Ready (left.restartOf disk memory tail allowed)
+pub ready : (disk memory tail : List ℕ) (allowed : ℕ) → Done? (left.recoverOf disk memory tail allowed) → Ready (left.recoverOf disk memory tail allowed)
 ready disk memory tail allowed e =
     let w = done-inv disk memory tail allowed e in
     let d = w .disk-length in

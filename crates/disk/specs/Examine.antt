@@ -9,7 +9,7 @@ use Rattle.image.specs.declared.read.Decoded.{Decoded}
 use Rattle.image.specs.Reading.{memoryOf}
 use Rattle.image.specs.Pack.{emptyImage}
 use Rattle.image.specs.Decode.{decodeOf}
-use Rattle.restart.specs.Restart.{Outcome, restartOf}
+use Rattle.restart.specs.Restart.{Outcome, recoverOf}
 use Rattle.disk.specs.declared.examine.Examined.{Examined}
 use Rattle.disk.specs.Layout.{pointerOf, imagePart, logFrom}
 
@@ -44,16 +44,16 @@ refusedBy n =
 
 -- steps 2 to 5 from an image and its memory on, with a tail of zeros
 unfoldable pub stepsOf : Image → List ℕ → List ℕ → Outcome
-stepsOf image memory disk = restartOf image (logFrom (image .logend) disk) memory (replicate 16384 0)
+stepsOf image memory disk = recoverOf image (logFrom (image .logend) disk) memory (replicate 16384 0)
 
 -- the end is counted from the log's first byte
 abbrev pub meant : ℕ → Outcome → Meaning
-meant logEnd o =
+meant logend o =
     record {
       result =
           record {
             number = 0;
-            end = logEnd + o .answer .end;
+            end = logend + o .answer .end;
             csn = o .answer .csn;
             last = o .answer .last;
             undone = o .answer .undone;
@@ -64,12 +64,12 @@ meant logEnd o =
     }
 
 -- "5. Restart: end found + 4 × transactions undone in step 4 exceeds 16,384."
-abbrev pub fitting : ℕ → Outcome → Meaning
-fitting logEnd o = cond (ltb 16384 (logEnd + o .answer .end + 4 * o .answer .undone)) (refusedBy 5) (meant logEnd o)
+abbrev pub ifFits : ℕ → Outcome → Meaning
+ifFits logend o = cond (ltb 16384 (logend + o .answer .end + 4 * o .answer .undone)) (refusedBy 5) (meant logend o)
 
 -- "4. Restart: the image breaks a rule."
 abbrev pub ofLoaded : Loaded → List ℕ → Meaning
-ofLoaded l disk = cond (l .decoded .ok) (fitting (l .decoded .image .logend) (stepsOf (l .decoded .image) (l .memory) disk)) (refusedBy 4)
+ofLoaded l disk = cond (l .decoded .ok) (ifFits (l .decoded .image .logend) (stepsOf (l .decoded .image) (l .memory) disk)) (refusedBy 4)
 
 -- "3. Restart: the pointer byte exceeds 2."
 unfoldable pub examineOf : List ℕ → Meaning

@@ -10,16 +10,16 @@ abbrev pub pointerOf : List ℕ → ℕ
 pointerOf disk = getD disk 0 0
 
 -- where the image stands that a pointer byte names
-abbrev pub slotOf : ℕ → ℕ
-slotOf pointer = cond (eqb pointer 1) 1 8654
+abbrev pub imageAt : ℕ → ℕ
+imageAt pointer = cond (eqb pointer 1) 1 8654
 
 abbrev pub imagePart : ℕ → List ℕ → List ℕ
-imagePart pointer disk = take 8653 (drop (slotOf pointer) disk)
+imagePart pointer disk = take 8653 (drop (imageAt pointer) disk)
 
 -- the log from a place of it on
 abbrev pub logFrom : ℕ → List ℕ → List ℕ
 logFrom at disk = drop (17307 + at) disk
 
 -- each lent buffer has its length
-abbrev pub whole : List ℕ → List ℕ → List ℕ → Bool
-whole disk memory tail = eqb (length disk) 33691 && eqb (length memory) 4096 && eqb (length tail) 16384
+abbrev pub lengthsOk : List ℕ → List ℕ → List ℕ → Bool
+lengthsOk disk memory tail = eqb (length disk) 33691 && eqb (length memory) 4096 && eqb (length tail) 16384

@@ -13,7 +13,7 @@ use Rattle.store.specs.State.{unrecovered}
 use Rattle.store.specs.Answer.{Word, done, cut, refused, answer}
 use Rattle.store.specs.Stored.{DiskOutcome, Plan, carriedOut}
 use Rattle.disk.specs.declared.call.Restarted.{Restarted}
-use Rattle.disk.specs.Layout.{whole}
+use Rattle.disk.specs.Layout.{lengthsOk}
 use Rattle.disk.specs.Examine.{Meaning, examineOf}
 
 -- Step 5: "Both commit numbers = the last found; log end = the end found." Step 6: "No transaction is left."
@@ -25,13 +25,13 @@ abbrev pub clearing : ℕ → List Store
 clearing end = clears (17307 + end) (16384 - end)
 
 -- the transactions undone are told by a restart that is done
-abbrev pub told : Word → ℕ → ℕ
-told done n = n
-told cut n = 0
-told (refused k) n = 0
+abbrev pub undoneTold : Word → ℕ → ℕ
+undoneTold done n = n
+undoneTold cut n = 0
+undoneTold (refused k) n = 0
 
-abbrev pub restarted : ℕ → Word → ℕ → State → Restarted
-restarted undone w n s = record { answer = answer w; undone = told w undone; stores = n; state = s }
+abbrev pub restartResult : ℕ → Word → ℕ → State → Restarted
+restartResult undone w n s = record { answer = answer w; undone = undoneTold w undone; stores = n; state = s }
 
 abbrev pub restartPlan : Meaning → Plan
 restartPlan m =
@@ -43,16 +43,16 @@ restartPlan m =
     }
 
 unfoldable pub refusedRestart : ℕ → Restarted
-refusedRestart n = restarted 0 (refused n) 0 unrecovered
+refusedRestart n = restartResult 0 (refused n) 0 unrecovered
 
 abbrev pub refusedWith : ℕ → List ℕ → List ℕ → List ℕ → DiskOutcome Restarted
 refusedWith n disk memory tail = record { result = refusedRestart n; disk = disk; memory = memory; tail = tail }
 
 abbrev pub ofMeaning : Meaning → List ℕ → ℕ → DiskOutcome Restarted
 ofMeaning m disk allowed =
-    cond (eqb (m .result .number) 0) (carriedOut (restarted (m .result .undone)) (restartPlan m) allowed disk)
+    cond (eqb (m .result .number) 0) (carriedOut (restartResult (m .result .undone)) (restartPlan m) allowed disk)
     (refusedWith (m .result .number) disk (m .memory) (m .tail))
 
 -- "1. All calls: a lent buffer hasn't its length."
 unfoldable pub restartOf : List ℕ → List ℕ → List ℕ → ℕ → DiskOutcome Restarted
-restartOf disk memory tail allowed = cond (whole disk memory tail) (ofMeaning (examineOf disk) disk allowed) (refusedWith 1 disk memory tail)
+restartOf disk memory tail allowed = cond (lengthsOk disk memory tail) (ofMeaning (examineOf disk) disk allowed) (refusedWith 1 disk memory tail)

@@ -11,7 +11,7 @@ ghost use mathlib.Core.Path.{_≡_};
 ghost use mathlib.Core.Bool.{true};
 ghost use Prim.Native.Nat.{_≤_};
 ghost use lib.ListN.{length, replicate};
-ghost use Rattle.disk.specs.Layout.{slotOf};
+ghost use Rattle.disk.specs.Layout.{imageAt};
 ghost use Rattle.disk.specs.Examine.{loadOf, refusedBy, examineOf};
 
 // The number that refuses, 0 for none. If none: the log's end counted from its first byte, the last commit number and the last id, how many
@@ -26,8 +26,8 @@ pub struct Examined {
 }
 
 // Where the image stands that a pointer byte of 1 or 2 names.
-fn slot_of(pointer: u8) -> usize
-    ensures { λ r. ⌜ r ≡ slotOf pointer ⌝ }
+fn image_at(pointer: u8) -> usize
+    ensures { λ r. ⌜ r ≡ imageAt pointer ⌝ }
 {
     if pointer == 1 {
         return 1;
@@ -49,7 +49,7 @@ fn load(disk: &[u8], pointer: u8, memory: &mut [u8]) -> Decoded
             image: none,
         };
     }
-    let from = slot_of(pointer);
+    let from = image_at(pointer);
     copy(memory, 0, &disk[from + 13..from + 4109]);
     decode(&disk[from..from + 8653])
 }

@@ -17,7 +17,7 @@ use Rattle.image.specs.Pack.{loaded, packedTxs, packed, emptyImage}
 use Rattle.image.specs.Reading.{undoHere, readTx, readContent, memoryOf}
 use Rattle.restart.specs.Forward.{past, forwardOf}
 use Rattle.restart.specs.Undo.{isRunning, isLost, runningOf, lostOf}
-use Rattle.restart.specs.Restart.{restartOf}
+use Rattle.restart.specs.Restart.{recoverOf}
 use Rattle.log.proofs.Basics.{clash}
 use Rattle.store.specs.State.{unrecovered}
 use Rattle.store.specs.Rules.{unfit}
@@ -26,20 +26,20 @@ use Rattle.disk.specs.Examine.{loadOf, refusedBy, stepsOf, examineOf}
 use Rattle.disk.specs.Restart.{recoveredState}
 use Rattle.history.specs.Calls.{World, fresh, runOf}
 use Rattle.history.specs.Cases.{Shown, Row, rows, showing, shown, Worked}
-use Rattle.history.proofs.Quick.{Short, whole, Lengths, QuickRan, quickRun, RightRun, right-run}
+use Rattle.history.proofs.Quick.{Short, widened, Lengths, QuickRan, quickRun, RightRun, right-run}
 
 abbrev start : Short
 start = record { disk = replicate 33691 0; memory = replicate 4096 0; tail = []; state = unrecovered }
 
 abbrev quickShowing : (World → List ℕ) → Option QuickRan → Option Shown
 quickShowing look none = none
-quickShowing look (some x) = some (showing look (record { replies = x .replies; world = whole (x .left) }))
+quickShowing look (some x) = some (showing look (record { replies = x .replies; world = widened (x .left) }))
 
 abbrev quickShown : Row → Option Shown
 quickShown r = quickShowing (r .look) (quickRun (r .calls) start)
 
 computed : map quickShown rows ≡ map (λ r. some (r .expected)) rows
-unfolding undoOrder readRecord readRedo readCommit readAbort run all readBody readGroup readLog emptyRecords emptyTx headOk heldAgainst pushed freshTx written precommitted loaded packedTxs packed emptyImage undoHere readTx readContent memoryOf past forwardOf isRunning isLost runningOf lostOf restartOf unrecovered unfit begunState writtenState precommittedState without droppedState loadOf refusedBy stepsOf examineOf recoveredState
+unfolding undoOrder readRecord readRedo readCommit readAbort run all readBody readGroup readLog emptyRecords emptyTx headOk heldAgainst pushed freshTx written precommitted loaded packedTxs packed emptyImage undoHere readTx readContent memoryOf past forwardOf isRunning isLost runningOf lostOf recoverOf unrecovered unfit begunState writtenState precommittedState without droppedState loadOf refusedBy stepsOf examineOf recoveredState
 computed = refl
 
 -- what is computed is what the definitions show

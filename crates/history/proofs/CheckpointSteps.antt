@@ -26,13 +26,13 @@ use Rattle.image.proofs.RoundTrip.{Whole, Restored, image-restored}
 use Rattle.store.specs.declared.State.{State}
 use Rattle.store.specs.State.{imageOf}
 use Rattle.store.specs.Checkpoint as checkpoint-spec
-use Rattle.store.specs.Checkpoint.{intoA, slotName, checkpointStores, checkpointPlan, checkpointOf}
+use Rattle.store.specs.Checkpoint.{intoA, targetName, checkpointStores, checkpointPlan, checkpointOf}
 use Rattle.store.specs.View.{live}
 use Rattle.store.proofs.Fits.{fit}
 use Rattle.store.proofs.Storing.{diskNumber, stored-cut, stored-done}
 use Rattle.store.proofs.Checkpointing.{checkpoint-length, kept-pointer, kept-log, kept-a, kept-b, new-pointer, new-image, new-log}
 use Rattle.store.proofs.Stepping.{same-or-other}
-use Rattle.disk.specs.Layout.{pointerOf, slotOf, imagePart}
+use Rattle.disk.specs.Layout.{pointerOf, imageAt, imagePart}
 use Rattle.disk.specs.Examine.{Loaded, loadOf}
 use Rattle.history.specs.Calls.{checkpoint, stored, World, stepOf}
 use Rattle.history.proofs.OnDisk.{OnDisk, same-image}
@@ -107,7 +107,7 @@ module _ (w : World) (d : Disk) (l : Live) (o : OnDisk (w .disk) d) (v : LiveOn 
   -- ---- done: the image is the state's
 
   -- the pointer byte names the slot that the image went into
-  named : (b : Bool) → (slotOf (cond b 1 2) ≡ cond b 1 8654) × (cond b 1 2 ≤ 2) × (1 ≤ cond b 1 2)
+  named : (b : Bool) → (imageAt (cond b 1 2) ≡ cond b 1 8654) × (cond b 1 2 ≤ 2) × (1 ≤ cond b 1 2)
   named true = (refl, omega arith, omega arith)
   named false = (refl, omega arith, omega arith)
 
@@ -130,13 +130,13 @@ module _ (w : World) (d : Disk) (l : Live) (o : OnDisk (w .disk) d) (v : LiveOn 
     image-length : length image ≤ 8653
     image-length = omega (arith, length-content (contentOf (imageOf s)) m (v .memory), image-small (imageOf s) (fit s t (v .fits) .image))
 
-    pointer : pointerOf left ≡ slotName p
+    pointer : pointerOf left ≡ targetName p
     pointer = new-pointer s (w .disk) m t a z h
 
     part : imagePart (pointerOf left) left ≡ image ++ rest
     part =
         let k : 8653 ≡ length image + (8653 - length image) = omega (arith, image-length) in
-        ap (λ (q : ℕ). take 8653 (drop q left)) (ap slotOf pointer ∙ named (intoA p) .0)
+        ap (λ (q : ℕ). take 8653 (drop q left)) (ap imageAt pointer ∙ named (intoA p) .0)
         ∙ ap (take 8653) (new-image s (w .disk) m t a z h)
         ∙ ap (λ (j : ℕ). take j (image ++ drop (slot + length image) (w .disk))) k
         ∙ take-append-add image (drop (slot + length image) (w .disk)) (8653 - length image)
@@ -162,8 +162,8 @@ module _ (w : World) (d : Disk) (l : Live) (o : OnDisk (w .disk) d) (v : LiveOn 
               ∙ restored .recovers
               ∙ ap (map withoutRedo) (views ∙ ap (λ (x : Live). x .txs) (v .view));
           memory = ap (λ (x : Loaded). x .memory) loads ∙ restored .memory ∙ ap (λ (x : Live). x .memory) (v .view);
-          csn = ap (λ (c : Content). c .onDisk) content ∙ ap (λ (x : Live). x .csn) (v .view);
-          place = ap (λ (c : Content). c .logEnd) content ∙ v .end;
+          csn = ap (λ (c : Content). c .ondisk) content ∙ ap (λ (x : Live). x .csn) (v .view);
+          place = ap (λ (c : Content). c .logend) content ∙ v .end;
           log = ap (readLog 0) (new-log s (w .disk) m t a z h) ∙ o .log ∙ sym (append-nil (d .before ++ d .after));
         }
 

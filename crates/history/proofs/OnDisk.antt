@@ -25,7 +25,7 @@ use Rattle.restart.specs.Forward.{groupsOf}
 use Rattle.restart.proofs.Recovery as restarts
 use Rattle.restart.proofs.Recovery.{end-is, csn-is, count-is, memory-is, tail-is}
 use Rattle.restart.proofs.Undos.{aborts-length}
-use Rattle.disk.specs.Layout.{pointerOf, slotOf, logFrom}
+use Rattle.disk.specs.Layout.{pointerOf, imageAt, logFrom}
 use Rattle.disk.specs.Examine.{Loaded, loadOf, Meaning, stepsOf, examineOf}
 use Rattle.disk.proofs.Loading.{slot-within}
 use Rattle.disk.proofs.Examining.{keeps, means}
@@ -86,7 +86,7 @@ part-same x y e at n h =
 
 front-load : (x y : List ℕ) → take 17307 x ≡ take 17307 y → (pointer : ℕ) → loadOf pointer x ≡ loadOf pointer y
 unfolding loadOf
-front-load x y e pointer = let s = slot-within pointer in rw (part-same x y e (slotOf pointer) 8653 (omega arith))
+front-load x y e pointer = let s = slot-within pointer in rw (part-same x y e (imageAt pointer) 8653 (omega arith))
 
 pub same-front : (x y : List ℕ) (d e : Disk) → OnDisk x d → length y ≡ 33691 → take 17307 y ≡ take 17307 x
     → e .image ≡ d .image → e .before ≡ d .before → readLog 0 (logFrom 0 y) ≡ e .before ++ e .after → OnDisk y e

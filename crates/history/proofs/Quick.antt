@@ -37,7 +37,7 @@ use Rattle.store.specs.Steps.{begunState, writtenState, precommittedState, drop
 use Rattle.store.specs.Calls.{decided, beginNumber, writeNumber, appended}
 use Rattle.store.specs.Stored.{Plan, storedBy}
 use Rattle.store.specs.Flush.{firstSize, flushedState, flushPlan, flushOf}
-use Rattle.store.specs.Checkpoint.{slotAt, slotName, checkpointPlan, checkpointOf}
+use Rattle.store.specs.Checkpoint.{targetAt, targetName, checkpointPlan, checkpointOf}
 use Rattle.store.proofs.Calling.{begin-done, begin-refused, write-done, write-refused, read-done, read-refused, answer-done, answer-refused, precommit-done, precommit-refused, abort-done, abort-refused, settle-done, settle-refused}
 use Rattle.store.proofs.Storing.{diskNumber, stored-refused, stored-cut, stored-done}
 use Rattle.store.proofs.Flushing.{first-length}
@@ -58,8 +58,8 @@ pub record Short : Type 0 where
   pub tail : List ℕ
   pub state : State
 
-abbrev pub whole : Short → World
-whole q = record { disk = q .disk; memory = q .memory; tail = padded (q .tail); state = q .state }
+abbrev pub widened : Short → World
+widened q = record { disk = q .disk; memory = q .memory; tail = padded (q .tail); state = q .state }
 
 pub record Lengths (d m bs : List ℕ) : Type 0 where
   pub disk : length d ≡ 33691
@@ -155,7 +155,7 @@ module _ (d m bs : List ℕ) (s : State) where
   imageBytes = encodeImage (imageOf s) m
 
   abbrev slot : ℕ
-  slot = slotAt (getD d 0 0)
+  slot = targetAt (getD d 0 0)
 
   abbrev checkpointQuick : ℕ → Option Went
   checkpointQuick a =
@@ -164,7 +164,7 @@ module _ (d m bs : List ℕ) (s : State) where
       decided n
       (cond (leb (slot + size) 33691)
       (cond (ltb a (size + 1)) (cutting a (laid d slot (take a imageBytes)))
-      (telling 0 (size + 1) (set (laid d slot imageBytes) 0 (slotName (getD d 0 0))) m bs s))
+      (telling 0 (size + 1) (set (laid d slot imageBytes) 0 (targetName (getD d 0 0))) m bs s))
       none)
       (refusing n here)
 
@@ -195,7 +195,7 @@ quick (restart a) q = restartQuick (q .disk) (q .memory) (q .tail) (q .state) a
 
 abbrev Right : Stepped → Option Went → Type 0
 Right x none = Unit {0}
-Right x (some w) = (x ≡ record { reply = w .reply; world = whole (w .left) }) × LengthsOf (w .left)
+Right x (some w) = (x ≡ record { reply = w .reply; world = widened (w .left) }) × LengthsOf (w .left)
 
 decide : (x : Stepped) (n : ℕ) (f g : Option Went) → (n ≡ 0 → Right x f) → ((n ≡ 0 → ⊥) → Right x g) → Right x (decided n f g)
 decide x n f g p q = go (eqb n 0) refl
@@ -221,7 +221,7 @@ zero-lengths d l = record { disk = l; memory = length-replicate {A = ℕ} 4096 0
 
 module _ (d m bs : List ℕ) (s : State) (l : Lengths d m bs) where
   abbrev w : World
-  w = whole (here d m bs s)
+  w = widened (here d m bs s)
 
   abbrev t : List ℕ
   t = padded bs
@@ -397,11 +397,11 @@ module _ (d m bs : List ℕ) (s : State) (l : Lengths d m bs) where
       (λ h.
       let c : min a (length (plan .stores)) ≡ length image + 1 = omega (arith, need, size, h) in
       let r : at + length image ≤ 33691 = leb-true (at + length image) 33691 f in
-      let i : apply (take a (plan .stores)) d ≡ set (laid d at image) 0 (slotName (getD d 0 0)) =
-      checkpoint-whole s d m a (l .memory) (omega (arith, size, h)) ∙ ap (λ (y : List ℕ). set y 0 (slotName (getD d 0 0))) (laid-is at image r) in (
+      let i : apply (take a (plan .stores)) d ≡ set (laid d at image) 0 (targetName (getD d 0 0)) =
+      checkpoint-whole s d m a (l .memory) (omega (arith, size, h)) ∙ ap (λ (y : List ℕ). set y 0 (targetName (getD d 0 0))) (laid-is at image r) in (
         ap stored (stored-done s d m t plan a (e ∙ z) (omega (arith, need, size, h)))
             ∙ ap₂ (λ (j : ℕ) (y : List ℕ). record { reply = told Done 0 j; world = record { disk = y; memory = m; tail = t; state = s } }) c i,
-        record { disk = length-set (laid d at image) 0 (slotName (getD d 0 0)) ∙ laid-length at image r; memory = l .memory; tail = l .tail },
+        record { disk = length-set (laid d at image) 0 (targetName (getD d 0 0)) ∙ laid-length at image r; memory = l .memory; tail = l .tail },
       ))))
       (λ h. (ap stored (stored-refused s d m t plan a n e h), l))
 
@@ -454,7 +454,7 @@ module _ (d m bs : List ℕ) (s : State) (l : Lengths d m bs) where
         record { disk = ll; memory = memory-length d (l .disk) (accepted number); tail = undone-short number },
       )))
 
-right : (c : Call) (q : Short) → LengthsOf q → Right (stepOf c (whole q)) (quick c q)
+right : (c : Call) (q : Short) → LengthsOf q → Right (stepOf c (widened q)) (quick c q)
 right begin q l = begin-right (q .disk) (q .memory) (q .tail) (q .state) l
 right (write id a new) q l = write-right (q .disk) (q .memory) (q .tail) (q .state) l id a new
 right (read id a k) q l = read-right (q .disk) (q .memory) (q .tail) (q .state) l id a k
@@ -486,18 +486,18 @@ quickRun (c ∷ cs) q = onWent (quickRun cs) (quick c q)
 
 abbrev pub RightRun : Ran → Option QuickRan → Type 0
 RightRun x none = Unit {0}
-RightRun x (some r) = x ≡ record { replies = r .replies; world = whole (r .left) }
+RightRun x (some r) = x ≡ record { replies = r .replies; world = widened (r .left) }
 
-pub right-run : (cs : List Call) (q : Short) → LengthsOf q → RightRun (runOf cs (whole q)) (quickRun cs q)
+pub right-run : (cs : List Call) (q : Short) → LengthsOf q → RightRun (runOf cs (widened q)) (quickRun cs q)
 right-run [] q l = refl
 right-run (c ∷ cs) q l = first (quick c q) (right c q l) (λ q' l'. right-run cs q' l')
   where
-    later : (x : Reply) (q' : Short) (o : Option QuickRan) → stepOf c (whole q) ≡ record { reply = x; world = whole q' } → RightRun (runOf cs (whole q')) o
-        → RightRun (runOf (c ∷ cs) (whole q)) (andWent x o)
+    later : (x : Reply) (q' : Short) (o : Option QuickRan) → stepOf c (widened q) ≡ record { reply = x; world = widened q' } → RightRun (runOf cs (widened q')) o
+        → RightRun (runOf (c ∷ cs) (widened q)) (andWent x o)
     later x q' none e r = tt
     later x q' (some y) e r = ap (λ (z : Stepped). andRan (z .reply) (runOf cs (z .world))) e ∙ ap (andRan x) r
 
-    first : (o : Option Went) → Right (stepOf c (whole q)) o → ((q' : Short) → LengthsOf q' → RightRun (runOf cs (whole q')) (quickRun cs q'))
-        → RightRun (runOf (c ∷ cs) (whole q)) (onWent (quickRun cs) o)
+    first : (o : Option Went) → Right (stepOf c (widened q)) o → ((q' : Short) → LengthsOf q' → RightRun (runOf cs (widened q')) (quickRun cs q'))
+        → RightRun (runOf (c ∷ cs) (widened q)) (onWent (quickRun cs) o)
     first none r rest = tt
     first (some w) r rest = later (w .reply) (w .left) (quickRun cs (w .left)) (r .0) (rest (w .left) (r .1))

@@ -26,8 +26,8 @@ nowhere w = []
 abbrev pub logFront : ℕ → World → List ℕ
 logFront n w = take n (drop 17307 (w .disk))
 
-abbrev pub logEnd : World → List ℕ
-logEnd w = w .state .logend ∷ []
+abbrev pub endOfLog : World → List ℕ
+endOfLog w = w .state .logend ∷ []
 
 abbrev pub byteAt : ℕ → World → List ℕ
 byteAt a w = getD (w .memory) a 0 ∷ []
@@ -82,7 +82,7 @@ rows =
     -- M1: "With 16, restart finds end 0"
     ∷ record {
       calls = m1 16 ++ (restart 16384 ∷ []);
-      look = logEnd;
+      look = endOfLog;
       expected = record { replies = m1Replies ++ (told Cut 0 16 ∷ told Done 0 16384 ∷ []); seen = 0 ∷ [] };
     }
     -- M2: 16,384 stores are enough, 16,383 are not
@@ -141,7 +141,7 @@ rows =
     -- M8: 2,048 transactions without writes fill the log; the next begin is 13
     ∷ record {
       calls = restart 16384 ∷ rounds filling 1;
-      look = logEnd;
+      look = endOfLog;
       expected = record { replies = opened ∷ roundReplies filling 1; seen = 16384 ∷ [] };
     }
     -- M9: of two groups one is flushed: settling the second is 14

@@ -10,7 +10,7 @@ use Rattle.image.specs.Format.{encodeHead, encodeTxs, encodeContent, con
 use Rattle.image.specs.Reading.{undoHere, readTx, readContent, readImage}
 
 abbrev with : List Saved → Content
-with ts = record { logEnd = 17; onDisk = 1; assigned = 2; lastId = 3; txs = ts }
+with ts = record { logend = 17; ondisk = 1; assigned = 2; lastid = 3; txs = ts }
 
 -- M10: "Checkpoint with no transaction: 4,110 stores", the pointer byte among them
 m10 : contentSize (with []) ≡ 4109

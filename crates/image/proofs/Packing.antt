@@ -103,9 +103,9 @@ module _ (x : Content) (c : length (x .txs) ≤ 8) (k : TxsOk (x .txs)) where
   pub packed-content : contentOf (packed x) ≡ x
   unfolding packed
   packed-content =
-      ap (λ (ts : List Saved). record { logEnd = x .logEnd; onDisk = x .onDisk; assigned = x .assigned; lastId = x .lastId; txs = ts })
+      ap (λ (ts : List Saved). record { logend = x .logend; ondisk = x .ondisk; assigned = x .assigned; lastid = x .lastid; txs = ts })
       (packed-saved (x .txs) c k)
 
   pub packed-rules : keepsRules (packed x) ≡ contentOk x
   unfolding packed
-  packed-rules = ap (imageOk (x .logEnd) (x .onDisk) (x .assigned) (x .lastId)) (packed-outlines (x .txs) c k)
+  packed-rules = ap (imageOk (x .logend) (x .ondisk) (x .assigned) (x .lastid)) (packed-outlines (x .txs) c k)

@@ -10,7 +10,7 @@ use lib.Seq.{drop-drop, length-take-le}
 use lib.Dec.{leb}
 use borrow.Author.Tests.{le-leb, lt-leb, leb-true}
 use Rattle.recovery.specs.Group.{Write}
-use Rattle.log.specs.Number.{be2}
+use Rattle.log.specs.Number.{be16}
 use Rattle.log.specs.Record.{inRange}
 use Rattle.log.specs.Group.{andThen}
 use Rattle.log.proofs.Basics.{clash, and-left, and-right, and-both}
@@ -32,7 +32,7 @@ module _ (t : List ℕ) where
   unfolding undoHere
   here-short h = rw (lt-leb (3 + getD t 2 0) (length t) (omega arith), and-false)
 
-  pub here-range : inRange (be2 t 0) (getD t 2 0) ≡ false → undoHere t ≡ false
+  pub here-range : inRange (be16 t 0) (getD t 2 0) ≡ false → undoHere t ≡ false
   unfolding undoHere
   here-range e = ap (λ (b : Bool). b && leb (3 + getD t 2 0) (length t)) e
 
@@ -40,24 +40,24 @@ module _ (t : List ℕ) where
   unfolding undoHere
   here-cut h = rw (lt-leb _ _ h, and-false)
 
-  pub here-yes : inRange (be2 t 0) (getD t 2 0) ≡ true → 3 + getD t 2 0 ≤ length t → undoHere t ≡ true
+  pub here-yes : inRange (be16 t 0) (getD t 2 0) ≡ true → 3 + getD t 2 0 ≤ length t → undoHere t ≡ true
   unfolding undoHere
   here-yes e h = and-both _ _ e (le-leb _ _ h)
 
   pub here-within : undoHere t ≡ true → 3 + getD t 2 0 ≤ length t
   unfolding undoHere
-  here-within e = leb-true _ _ (and-right (inRange (be2 t 0) (getD t 2 0)) _ e)
+  here-within e = leb-true _ _ (and-right (inRange (be16 t 0) (getD t 2 0)) _ e)
 
-  here-ranged : undoHere t ≡ true → inRange (be2 t 0) (getD t 2 0) ≡ true
+  here-ranged : undoHere t ≡ true → inRange (be16 t 0) (getD t 2 0) ≡ true
   unfolding undoHere
-  here-ranged e = and-left (inRange (be2 t 0) (getD t 2 0)) _ e
+  here-ranged e = and-left (inRange (be16 t 0) (getD t 2 0)) _ e
 
   pub first-length : undoHere t ≡ true → length (firstUndo t .bytes) ≡ getD t 2 0
   first-length e = let w = here-within e in length-take-le (getD t 2 0) (drop 3 t) (simp length-drop (omega arith))
 
 -- what a step answers where a record stands
 abbrev pub stepped : Records → List ℕ → Undos
-stepped r t = record { ok = true; undo = pushed r (be2 t 0) (take (getD t 2 0) (drop 3 t)); size = 3 + getD t 2 0 }
+stepped r t = record { ok = true; undo = pushed r (be16 t 0) (take (getD t 2 0) (drop 3 t)); size = 3 + getD t 2 0 }
 
 module _ (r : Records) (t : List ℕ) where
   pub step-yes : undoHere t ≡ true → undoStep r t ≡ stepped r t
@@ -159,5 +159,5 @@ undos-kept s (u ∷ us) a =
     let d : undosSize us ≤ length s - (3 + getD s 2 0) = rw length-drop at (i .0) in
     let l : length (u .bytes) ≡ getD s 2 0 = ap (λ (v : Write). length (v .bytes)) (a .1) ∙ first-length s (a .0) in
     let r : inRange (u .addr) (length (u .bytes)) ≡ true =
-    ap (λ (v : Write). inRange (v .addr) (length (v .bytes))) (a .1) ∙ ap (inRange (be2 s 0)) (first-length s (a .0)) ∙ here-ranged s (a .0) in
+    ap (λ (v : Write). inRange (v .addr) (length (v .bytes))) (a .1) ∙ ap (inRange (be16 s 0)) (first-length s (a .0)) ∙ here-ranged s (a .0) in
     (omega (arith, d, l, w), and-both (inRange (u .addr) (length (u .bytes))) (every rangeOk (map rangeOf us)) r (i .1))

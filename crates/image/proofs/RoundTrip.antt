@@ -9,7 +9,8 @@ use lib.ListN.{length, take, drop, length-append}
 use lib.Seq.{sets, sets-eq, take-at, drop-at}
 use Rattle.recovery.specs.Group.{Write}
 use Rattle.recovery.specs.Transaction.{Tx as Transaction}
-use Rattle.log.specs.Number.{be2, be4}
+use Rattle.recovery.specs.Machine.{withoutRedo}
+use Rattle.log.specs.Number.{be16, be32}
 use Rattle.log.specs.Record.{inRange}
 use Rattle.log.specs.Group.{andThen}
 use Rattle.log.proofs.RoundTrip.{joined2}
@@ -23,7 +24,7 @@ use Rattle.image.specs.declared.Image.{Image}
 use Rattle.image.specs.declared.read.Decoded.{Decoded}
 use Rattle.image.specs.Slots.{slotAt, listed, outlineAt}
 use Rattle.image.specs.Rules.{imageOk, keepsRules}
-use Rattle.image.specs.Content.{Saved, saved, Content, savedAt, savedIn, contentOf, rangeOf, outlineIn, contentOk, transactionOf, withoutRedo, transactionsIn}
+use Rattle.image.specs.Content.{Saved, saved, Content, savedAt, savedIn, contentOf, rangeOf, outlineIn, contentOk, transactionOf, transactionsIn}
 use Rattle.image.specs.Format.{encodeHead, encodeUndo, encodeUndos, encodeTx, encodeTxs, encodeContent, encodeImage, undosIn, txSize, imageSize}
 use Rattle.image.specs.Reading.{undoHere, firstUndo, readUndos, savedIf, readTx, onTx, readTxs, contentIf, readContent, memoryOf}
 use Rattle.image.specs.Pack.{packed}
@@ -96,10 +97,10 @@ module _ (c : Content) (m rest : List ℕ) (l : length m ≡ 4096) where
         let s = encodeHead c ++ (m ++ (encodeTxs (c .txs) ++ rest)) in
         let t : drop 4109 s ≡ encodeTxs (c .txs) ++ rest = drop-at m (encodeTxs (c .txs) ++ rest) 4096 l in
         content-txs s (omega (arith, length-append m (encodeTxs (c .txs) ++ rest), l)) (content-few c e)
-        ∙ ap (λ (r : List ℕ). contentIf (be2 s 0) (be4 s 2) (be4 s 6) (be2 s 10) (readTxs (length (c .txs)) r)) t
-        ∙ ap (contentIf (be2 s 0) (be4 s 2) (be4 s 6) (be2 s 10)) (txs-written (c .txs) rest (content-each c e))
-        ∙ ap₂ (λ (x y : ℕ). contentIf x y (be4 s 6) (be2 s 10) (some (c .txs))) (joined2 (c .logEnd)) (joined4 (c .onDisk))
-        ∙ ap₂ (λ (x y : ℕ). contentIf (c .logEnd) (c .onDisk) x y (some (c .txs))) (joined4 (c .assigned)) (joined2 (c .lastId))
+        ∙ ap (λ (r : List ℕ). contentIf (be16 s 0) (be32 s 2) (be32 s 6) (be16 s 10) (readTxs (length (c .txs)) r)) t
+        ∙ ap (contentIf (be16 s 0) (be32 s 2) (be32 s 6) (be16 s 10)) (txs-written (c .txs) rest (content-each c e))
+        ∙ ap₂ (λ (x y : ℕ). contentIf x y (be32 s 6) (be16 s 10) (some (c .txs))) (joined2 (c .logend)) (joined4 (c .ondisk))
+        ∙ ap₂ (λ (x y : ℕ). contentIf (c .logend) (c .ondisk) x y (some (c .txs))) (joined4 (c .assigned)) (joined2 (c .lastid))
 
     pub content-written : readContent (encodeContent c m ++ rest) ≡ some c
     content-written = ap readContent parts ∙ parts-read

@@ -59,24 +59,24 @@ module _ (txs : List Tx) (n i : ℕ) (h : i < n) where
 
 -- ---- what the rules give
 
-module _ (logEnd onDisk assigned last : ℕ) (ts : List Outline) (e : imageOk logEnd onDisk assigned last ts ≡ true) where
-  front : leb logEnd 16384 && leb onDisk assigned && leb (length ts) 8 ≡ true
-  front = and-left (leb logEnd 16384 && leb onDisk assigned && leb (length ts) 8) (outlinesOk last assigned ts) e
+module _ (logend ondisk assigned last : ℕ) (ts : List Outline) (e : imageOk logend ondisk assigned last ts ≡ true) where
+  front : leb logend 16384 && leb ondisk assigned && leb (length ts) 8 ≡ true
+  front = and-left (leb logend 16384 && leb ondisk assigned && leb (length ts) 8) (outlinesOk last assigned ts) e
 
-  counters : leb logEnd 16384 && leb onDisk assigned ≡ true
-  counters = and-left (leb logEnd 16384 && leb onDisk assigned) (leb (length ts) 8) front
+  counters : leb logend 16384 && leb ondisk assigned ≡ true
+  counters = and-left (leb logend 16384 && leb ondisk assigned) (leb (length ts) 8) front
 
-  pub rules-low : logEnd ≤ 16384
-  rules-low = leb-true logEnd 16384 (and-left (leb logEnd 16384) (leb onDisk assigned) counters)
+  pub rules-low : logend ≤ 16384
+  rules-low = leb-true logend 16384 (and-left (leb logend 16384) (leb ondisk assigned) counters)
 
-  pub rules-ordered : onDisk ≤ assigned
-  rules-ordered = leb-true onDisk assigned (and-right (leb logEnd 16384) (leb onDisk assigned) counters)
+  pub rules-ordered : ondisk ≤ assigned
+  rules-ordered = leb-true ondisk assigned (and-right (leb logend 16384) (leb ondisk assigned) counters)
 
   pub rules-length : length ts ≤ 8
-  rules-length = leb-true (length ts) 8 (and-right (leb logEnd 16384 && leb onDisk assigned) (leb (length ts) 8) front)
+  rules-length = leb-true (length ts) 8 (and-right (leb logend 16384 && leb ondisk assigned) (leb (length ts) 8) front)
 
   all : outlinesOk last assigned ts ≡ true
-  all = and-right (leb logEnd 16384 && leb onDisk assigned && leb (length ts) 8) (outlinesOk last assigned ts) e
+  all = and-right (leb logend 16384 && leb ondisk assigned && leb (length ts) 8) (outlinesOk last assigned ts) e
 
   pub rules-each : every (outlineOk last assigned) ts ≡ true
   rules-each = and-left (every (outlineOk last assigned) ts) (distinct ts) all

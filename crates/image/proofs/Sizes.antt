@@ -70,12 +70,12 @@ txs-small (saved id status csn us ∷ ts) k =
 module _ (c : Content) (e : contentOk c ≡ true) where
   pub content-few : length (c .txs) ≤ 8
   content-few =
-      let h = rules-length (c .logEnd) (c .onDisk) (c .assigned) (c .lastId) (map outlineIn (c .txs)) e in
+      let h = rules-length (c .logend) (c .ondisk) (c .assigned) (c .lastid) (map outlineIn (c .txs)) e in
       omega (arith, h, length-map (c .txs) outlineIn)
 
   pub content-each : TxsOk (c .txs)
   content-each =
-      each-ok (c .lastId) (c .assigned) (c .txs) (rules-each (c .logEnd) (c .onDisk) (c .assigned) (c .lastId) (map outlineIn (c .txs)) e)
+      each-ok (c .lastid) (c .assigned) (c .txs) (rules-each (c .logend) (c .ondisk) (c .assigned) (c .lastid) (map outlineIn (c .txs)) e)
 
   pub content-small : contentSize c ≤ 8653
   content-small = let n = content-few in omega (arith, n, txs-small (c .txs) content-each)

@@ -11,9 +11,9 @@ use lib.Seq.{drop-drop, drop-cons, take-at, length-take-le}
 use lib.Dec.{leb}
 use borrow.Author.Tests.{leb-true}
 use Rattle.recovery.specs.Group.{Write}
-use Rattle.log.specs.Number.{be2, be4, bytes2, bytes4}
+use Rattle.log.specs.Number.{be16, be32, bytes16, bytes32}
 use Rattle.log.proofs.Basics.{clash}
-use Rattle.log.proofs.Soundness.{Bytes, bytes-drop, bytes2-read, bytes4-read}
+use Rattle.log.proofs.Soundness.{Bytes, bytes-drop, bytes16-read, bytes32-read}
 use Rattle.image.specs.Rules.{keepsRules}
 use Rattle.image.specs.Content.{Saved, saved, Content, contentOf, contentOk}
 use Rattle.image.specs.Format.{headBytes, encodeHead, encodeTxHead, encodeUndo, encodeUndos, encodeTx, encodeTxs, encodeContent, encodeImage, undosSize, txSize, txsSize, contentSize, imageSize}
@@ -45,8 +45,8 @@ undo-sound s b e =
     let bs = take n (drop 3 s) in
     let p : drop 3 s ≡ bs ++ drop (3 + n) s = sym (take-append-drop n (drop 3 s)) ∙ ap (λ (l : List ℕ). bs ++ l) (drop-drop n 3 s) in
     items-front s 3 0 (omega arith)
-    ∙ ap₂ (λ (h l : List ℕ). h ++ (n ∷ l)) (sym (bytes2-read s 0 b)) p
-    ∙ ap (λ (k : ℕ). bytes2 (be2 s 0) ++ (k ∷ (bs ++ drop (3 + n) s))) (sym (first-length s e))
+    ∙ ap₂ (λ (h l : List ℕ). h ++ (n ∷ l)) (sym (bytes16-read s 0 b)) p
+    ∙ ap (λ (k : ℕ). bytes16 (be16 s 0) ++ (k ∷ (bs ++ drop (3 + n) s))) (sym (first-length s e))
 
 undos-sound : (us : List Write) (s : List ℕ) → Bytes s → UndosAt s us → s ≡ encodeUndos us ++ drop (undosSize us) s
 undos-sound [] s b a = refl
@@ -68,9 +68,9 @@ tx-sound (saved id status csn us) s b a =
     let u = undos-sound us (drop 8 s) (bytes-drop 8 s b) (a .6) in
     let front : items s 8 0 ≡ encodeTxHead (saved id status csn us) =
     sym
-    (ap₂ (λ (i n : ℕ). bytes2 i ++ (status ∷ (bytes4 n ++ (length us ∷ [])))) (a .2) (a .4)
-    ∙ ap₂ (λ (x k : ℕ). bytes2 (be2 s 0) ++ (x ∷ (bytes4 (be4 s 3) ++ (k ∷ [])))) (a .3) (a .5)
-    ∙ ap₂ (λ (x y : List ℕ). x ++ (getD s 2 0 ∷ (y ++ (getD s 7 0 ∷ [])))) (bytes2-read s 0 b) (bytes4-read s 3 b)) in
+    (ap₂ (λ (i n : ℕ). bytes16 i ++ (status ∷ (bytes32 n ++ (length us ∷ [])))) (a .2) (a .4)
+    ∙ ap₂ (λ (x k : ℕ). bytes16 (be16 s 0) ++ (x ∷ (bytes32 (be32 s 3) ++ (k ∷ [])))) (a .3) (a .5)
+    ∙ ap₂ (λ (x y : List ℕ). x ++ (getD s 2 0 ∷ (y ++ (getD s 7 0 ∷ [])))) (bytes16-read s 0 b) (bytes32-read s 3 b)) in
     items-front s 8 0 (omega arith)
     ∙ ap₂ (λ (h l : List ℕ). h ++ l) front (u ∙ ap (λ (l : List ℕ). encodeUndos us ++ l) (drop-drop (undosSize us) 8 s))
     ∙ sym (append-assoc (encodeTxHead (saved id status csn us)) (encodeUndos us) (drop (8 + undosSize us) s))
@@ -88,10 +88,10 @@ txs-sound (t ∷ ts) s b a =
 -- a content that is read: its numbers, its count and its transactions in place
 pub record ContentAt (s : List ℕ) (c : Content) : Type 0 where
   pub within : 4109 ≤ length s
-  pub logEnd : c .logEnd ≡ be2 s 0
-  pub onDisk : c .onDisk ≡ be4 s 2
-  pub assigned : c .assigned ≡ be4 s 6
-  pub lastId : c .lastId ≡ be2 s 10
+  pub logend : c .logend ≡ be16 s 0
+  pub ondisk : c .ondisk ≡ be32 s 2
+  pub assigned : c .assigned ≡ be32 s 6
+  pub lastid : c .lastid ≡ be16 s 10
   pub count : length (c .txs) ≡ getD s 12 0
   pub txs : TxsAt (drop 4109 s) (c .txs)
 
@@ -104,12 +104,12 @@ unfolding readContent
 content-inv s c e = go (leb 4109 (length s)) (leb (getD s 12 0) 8) refl refl
   where
     read : 4109 ≤ length s → (y : Option (List Saved)) → readTxs (getD s 12 0) (drop 4109 s) ≡ y
-        → contentIf (be2 s 0) (be4 s 2) (be4 s 6) (be2 s 10) y ≡ some c → ContentAt s c
+        → contentIf (be16 s 0) (be32 s 2) (be32 s 6) (be16 s 10) y ≡ some c → ContentAt s c
     read h none q f = clash (cc)
     read h (some ts) q f =
         let i = txs-inv (getD s 12 0) (drop 4109 s) ts q in
         subst (λ (x : Content). ContentAt s x) (ap (contentOr c) f)
-        (record { within = h; logEnd = refl; onDisk = refl; assigned = refl; lastId = refl; count = i .0; txs = i .1 })
+        (record { within = h; logend = refl; ondisk = refl; assigned = refl; lastid = refl; count = i .0; txs = i .1 })
 
     go : (a b : Bool) → leb 4109 (length s) ≡ a → leb (getD s 12 0) 8 ≡ b → ContentAt s c
     go true true p q = read (leb-true _ _ p) (readTxs (getD s 12 0) (drop 4109 s)) refl (rw (p, q) at e)
@@ -119,11 +119,11 @@ content-inv s c e = go (leb 4109 (length s)) (leb (getD s 12 0) 8) refl refl
 head-sound : (s : List ℕ) (c : Content) → Bytes s → ContentAt s c → items s 13 0 ≡ encodeHead c
 head-sound s c b a =
     sym
-    (ap₂ (λ (x y : ℕ). headBytes x y (c .assigned) (c .lastId) (length (c .txs))) (a .logEnd) (a .onDisk)
-    ∙ ap₂ (λ (x y : ℕ). headBytes (be2 s 0) (be4 s 2) x y (length (c .txs))) (a .assigned) (a .lastId)
-    ∙ ap (headBytes (be2 s 0) (be4 s 2) (be4 s 6) (be2 s 10)) (a .count)
-    ∙ ap₂ (λ (x y : List ℕ). x ++ (y ++ (bytes4 (be4 s 6) ++ (bytes2 (be2 s 10) ++ (getD s 12 0 ∷ []))))) (bytes2-read s 0 b) (bytes4-read s 2 b)
-    ∙ ap₂ (λ (x y : List ℕ). items s 6 0 ++ (x ++ (y ++ (getD s 12 0 ∷ [])))) (bytes4-read s 6 b) (bytes2-read s 10 b))
+    (ap₂ (λ (x y : ℕ). headBytes x y (c .assigned) (c .lastid) (length (c .txs))) (a .logend) (a .ondisk)
+    ∙ ap₂ (λ (x y : ℕ). headBytes (be16 s 0) (be32 s 2) x y (length (c .txs))) (a .assigned) (a .lastid)
+    ∙ ap (headBytes (be16 s 0) (be32 s 2) (be32 s 6) (be16 s 10)) (a .count)
+    ∙ ap₂ (λ (x y : List ℕ). x ++ (y ++ (bytes32 (be32 s 6) ++ (bytes16 (be16 s 10) ++ (getD s 12 0 ∷ []))))) (bytes16-read s 0 b) (bytes32-read s 2 b)
+    ∙ ap₂ (λ (x y : List ℕ). items s 6 0 ++ (x ++ (y ++ (getD s 12 0 ∷ [])))) (bytes32-read s 6 b) (bytes16-read s 10 b))
 
 content-sound : (s : List ℕ) (c : Content) → Bytes s → ContentAt s c → s ≡ encodeContent c (memoryOf s) ++ drop (contentSize c) s
 unfolding memoryOf

@@ -11,7 +11,7 @@ use lib.Seq.{sets, drop-drop}
 use lib.Dec.{leb}
 use borrow.Author.Tests.{le-leb, lt-leb, leb-true}
 use Rattle.recovery.specs.Group.{Write}
-use Rattle.log.specs.Number.{be2, be4}
+use Rattle.log.specs.Number.{be16, be32}
 use Rattle.log.proofs.Basics.{clash, and-both}
 use Rattle.log.specs.Group.{andThen}
 use Rattle.transaction.specs.declared.Records.{Records}
@@ -56,30 +56,30 @@ module _ (s : List ℕ) where
   unfolding readTx
   tx-many h l = rw (le-leb _ _ h, lt-leb _ _ l)
 
-  pub tx-undos : 8 ≤ length s → getD s 7 0 ≤ 16 → readTx s ≡ savedIf (be2 s 0) (getD s 2 0) (be4 s 3) (readUndos (getD s 7 0) (drop 8 s))
+  pub tx-undos : 8 ≤ length s → getD s 7 0 ≤ 16 → readTx s ≡ savedIf (be16 s 0) (getD s 2 0) (be32 s 3) (readUndos (getD s 7 0) (drop 8 s))
   unfolding readTx
   tx-undos h l = rw (le-leb _ _ h, le-leb _ _ l)
 
 -- a transaction that is read: its numbers, its count and its records in place
 abbrev pub TxAt : List ℕ → Saved → Type 0
 TxAt s (saved id status csn us) =
-    (8 ≤ length s) × (length us ≤ 16) × (id ≡ be2 s 0) × (status ≡ getD s 2 0) × (csn ≡ be4 s 3) × (length us ≡ getD s 7 0) × UndosAt (drop 8 s) us
+    (8 ≤ length s) × (length us ≤ 16) × (id ≡ be16 s 0) × (status ≡ getD s 2 0) × (csn ≡ be32 s 3) × (length us ≡ getD s 7 0) × UndosAt (drop 8 s) us
 
 tx-inv : (s : List ℕ) (t : Saved) → readTx s ≡ some t → TxAt s t
 unfolding readTx
 tx-inv s t e = go (leb 8 (length s)) (leb (getD s 7 0) 16) refl refl
   where
     read : 8 ≤ length s → getD s 7 0 ≤ 16 → (y : Option (List Write)) → readUndos (getD s 7 0) (drop 8 s) ≡ y
-        → savedIf (be2 s 0) (getD s 2 0) (be4 s 3) y ≡ some t → TxAt s t
+        → savedIf (be16 s 0) (getD s 2 0) (be32 s 3) y ≡ some t → TxAt s t
     read h l none q f = clash (cc)
     read h l (some us) q f =
-        let g : saved (be2 s 0) (getD s 2 0) (be4 s 3) us ≡ t = cc in
+        let g : saved (be16 s 0) (getD s 2 0) (be32 s 3) us ≡ t = cc in
         let i = undos-inv (getD s 7 0) (drop 8 s) us q in
         subst (λ (v : Saved). TxAt s v) g (h, omega (arith, i .0), refl, refl, refl, i .0, i .1)
 
     go : (a b : Bool) → leb 8 (length s) ≡ a → leb (getD s 7 0) 16 ≡ b → TxAt s t
     go true true p q =
-        let f : savedIf (be2 s 0) (getD s 2 0) (be4 s 3) (readUndos (getD s 7 0) (drop 8 s)) ≡ some t = rw (p, q) at e in
+        let f : savedIf (be16 s 0) (getD s 2 0) (be32 s 3) (readUndos (getD s 7 0) (drop 8 s)) ≡ some t = rw (p, q) at e in
         read (leb-true _ _ p) (leb-true _ _ q) (readUndos (getD s 7 0) (drop 8 s)) refl f
     go true false p q = let f : _≡_ {A = Option Saved} none (some t) = rw (p, q) at e in clash (cc)
     go false b p q = let f : _≡_ {A = Option Saved} none (some t) = rw p at e in clash (cc)
@@ -174,12 +174,12 @@ txs-some none x e f = let g : false ≡ true = sym (ap (λ (u : TxsRead). u .ok)
 txs-some (some ts) x e f = (ts, refl, ap (λ (u : TxsRead). u .txs) e)
 
 abbrev pub imageWith : ℕ → ℕ → ℕ → ℕ → ℕ → List Tx → Image
-imageWith logEnd onDisk assigned lastId count txs =
+imageWith logend ondisk assigned lastid count txs =
     record {
-      logend = logEnd;
-      ondisk = record { 0 = onDisk };
+      logend = logend;
+      ondisk = record { 0 = ondisk };
       assigned = record { 0 = assigned };
-      lastid = record { 0 = lastId };
+      lastid = record { 0 = lastid };
       count = count;
       txs = txs;
     }
@@ -204,18 +204,18 @@ module _ (s : List ℕ) where
   content-many h l = rw (le-leb _ _ h, lt-leb _ _ l)
 
   pub content-txs : 4109 ≤ length s → getD s 12 0 ≤ 8
-      → readContent s ≡ contentIf (be2 s 0) (be4 s 2) (be4 s 6) (be2 s 10) (readTxs (getD s 12 0) (drop 4109 s))
+      → readContent s ≡ contentIf (be16 s 0) (be32 s 2) (be32 s 6) (be16 s 10) (readTxs (getD s 12 0) (drop 4109 s))
   unfolding readContent
   content-txs h l = rw (le-leb _ _ h, le-leb _ _ l)
 
   -- the image that the code makes of the numbers in place and of these slots
   abbrev pub imageHere : List Tx → Image
-  imageHere txs = imageWith (be2 s 0) (be4 s 2) (be4 s 6) (be2 s 10) (getD s 12 0) txs
+  imageHere txs = imageWith (be16 s 0) (be32 s 2) (be32 s 6) (be16 s 10) (getD s 12 0) txs
 
   module _ (h : 4109 ≤ length s) (l : getD s 12 0 ≤ 8) (x : TxsRead) (e : x ≡ txsRead noneUsed 0 (readTxs (getD s 12 0) (drop 4109 s))) where
     pub content-none : x .ok ≡ false → readContent s ≡ none
     content-none f =
-        content-txs h l ∙ ap (contentIf (be2 s 0) (be4 s 2) (be4 s 6) (be2 s 10)) (txs-none (readTxs (getD s 12 0) (drop 4109 s)) x e f)
+        content-txs h l ∙ ap (contentIf (be16 s 0) (be32 s 2) (be32 s 6) (be16 s 10)) (txs-none (readTxs (getD s 12 0) (drop 4109 s)) x e f)
 
     -- the image is the layout of the content that was read, and its rules are the content's
     pub content-some : x .ok ≡ true → (c : Content) × (readContent s ≡ some c) × (imageHere (x .txs) ≡ packed c) × (keepsRules (imageHere (x .txs)) ≡ contentOk c)
@@ -223,12 +223,12 @@ module _ (s : List ℕ) where
     content-some f =
         let w = txs-some (readTxs (getD s 12 0) (drop 4109 s)) x e f in
         let i = txs-inv (getD s 12 0) (drop 4109 s) (w .0) (w .1) in
-        let c : Content = record { logEnd = be2 s 0; onDisk = be4 s 2; assigned = be4 s 6; lastId = be2 s 10; txs = w .0 } in
+        let c : Content = record { logend = be16 s 0; ondisk = be32 s 2; assigned = be32 s 6; lastid = be16 s 10; txs = w .0 } in
         let p : imageHere (x .txs) ≡ packed c =
-        ap₂ (λ (n : ℕ) (txs : List Tx). imageWith (be2 s 0) (be4 s 2) (be4 s 6) (be2 s 10) n txs) (sym (i .0)) (w .2) in
+        ap₂ (λ (n : ℕ) (txs : List Tx). imageWith (be16 s 0) (be32 s 2) (be32 s 6) (be16 s 10) n txs) (sym (i .0)) (w .2) in
         let k = packed-rules c (omega (arith, i .0, l)) (txs-kept (drop 4109 s) (w .0) (i .1) .1) in (
           c,
-          content-txs h l ∙ ap (contentIf (be2 s 0) (be4 s 2) (be4 s 6) (be2 s 10)) (w .1),
+          content-txs h l ∙ ap (contentIf (be16 s 0) (be32 s 2) (be32 s 6) (be16 s 10)) (w .1),
           p,
           ap keepsRules p ∙ k,
         )

@@ -7,7 +7,7 @@ use mathlib.Core.Path.{_≡_, refl, sym, ap, ap₂, _∙_}
 use lib.ListN.{length, getD, take, drop, set}
 use lib.Seq.{sets}
 use Rattle.recovery.specs.Group.{Write}
-use Rattle.log.specs.Number.{bytes2, bytes4}
+use Rattle.log.specs.Number.{bytes16, bytes32}
 use Rattle.log.specs.Flat.{writesFrom}
 use Rattle.log.proofs.StoreLaws.{sets-append}
 use Rattle.log.proofs.FlatLaws.{turn-size, turn-stores}
@@ -20,20 +20,20 @@ use Rattle.image.proofs.Sizes.{length-undo, length-tx}
 
 -- ---- stores one after the other
 
-pub undo-stores : (b₀ b₁ b₂ : List ℕ) (at a : ℕ) (src : List ℕ) → b₁ ≡ sets b₀ at (bytes2 a) → b₂ ≡ sets (set b₁ (at + 2) (length src)) (at + 3) src
+pub undo-stores : (b₀ b₁ b₂ : List ℕ) (at a : ℕ) (src : List ℕ) → b₁ ≡ sets b₀ at (bytes16 a) → b₂ ≡ sets (set b₁ (at + 2) (length src)) (at + 3) src
     → b₂ ≡ sets b₀ at (encodeUndo (record { addr = a; bytes = src }))
 undo-stores b₀ b₁ b₂ at a src e₁ e₂ = rw (e₂, e₁) (simp towards-suc)
 
-pub head-stores : (b₀ b₁ b₂ b₃ b₄ : List ℕ) (logEnd onDisk assigned lastId count : ℕ) → b₁ ≡ sets b₀ 0 (bytes2 logEnd) → b₂ ≡ sets b₁ 2 (bytes4 onDisk)
-    → b₃ ≡ sets b₂ 6 (bytes4 assigned) → b₄ ≡ sets b₃ 10 (bytes2 lastId) → set b₄ 12 count ≡ sets b₀ 0 (headBytes logEnd onDisk assigned lastId count)
-head-stores b₀ b₁ b₂ b₃ b₄ logEnd onDisk assigned lastId count e₁ e₂ e₃ e₄ = rw (e₄, e₃, e₂, e₁)
+pub head-stores : (b₀ b₁ b₂ b₃ b₄ : List ℕ) (logend ondisk assigned lastid count : ℕ) → b₁ ≡ sets b₀ 0 (bytes16 logend) → b₂ ≡ sets b₁ 2 (bytes32 ondisk)
+    → b₃ ≡ sets b₂ 6 (bytes32 assigned) → b₄ ≡ sets b₃ 10 (bytes16 lastid) → set b₄ 12 count ≡ sets b₀ 0 (headBytes logend ondisk assigned lastid count)
+head-stores b₀ b₁ b₂ b₃ b₄ logend ondisk assigned lastid count e₁ e₂ e₃ e₄ = rw (e₄, e₃, e₂, e₁)
 
-tx-head-stores : (b₀ b₁ b₂ : List ℕ) (at id status csn n : ℕ) (us : List Write) → b₁ ≡ sets b₀ at (bytes2 id)
-    → b₂ ≡ sets (set b₁ (at + 2) status) (at + 3) (bytes4 csn) → length us ≡ n → set b₂ (at + 7) n ≡ sets b₀ at (encodeTxHead (saved id status csn us))
+tx-head-stores : (b₀ b₁ b₂ : List ℕ) (at id status csn n : ℕ) (us : List Write) → b₁ ≡ sets b₀ at (bytes16 id)
+    → b₂ ≡ sets (set b₁ (at + 2) status) (at + 3) (bytes32 csn) → length us ≡ n → set b₂ (at + 7) n ≡ sets b₀ at (encodeTxHead (saved id status csn us))
 tx-head-stores b₀ b₁ b₂ at id status csn n us e₁ e₂ l = rw (e₂, e₁, l) (simp towards-suc)
 
-pub tx-stores : (b₀ b₁ b₂ b₃ : List ℕ) (at id status csn n : ℕ) (us : List Write) → b₁ ≡ sets b₀ at (bytes2 id)
-    → b₂ ≡ sets (set b₁ (at + 2) status) (at + 3) (bytes4 csn) → b₃ ≡ sets (set b₂ (at + 7) n) (at + 8) (encodeUndos us) → length us ≡ n
+pub tx-stores : (b₀ b₁ b₂ b₃ : List ℕ) (at id status csn n : ℕ) (us : List Write) → b₁ ≡ sets b₀ at (bytes16 id)
+    → b₂ ≡ sets (set b₁ (at + 2) status) (at + 3) (bytes32 csn) → b₃ ≡ sets (set b₂ (at + 7) n) (at + 8) (encodeUndos us) → length us ≡ n
     → b₃ ≡ sets b₀ at (encodeTx (saved id status csn us))
 tx-stores b₀ b₁ b₂ b₃ at id status csn n us e₁ e₂ e₃ l =
     e₃

@@ -19,10 +19,10 @@ pub data Saved : Type 0 where
 
 -- log end, last commit number on disk, last one assigned, last id given, transactions in order of begin
 pub record Content : Type 0 where
-  pub logEnd : ℕ
-  pub onDisk : ℕ
+  pub logend : ℕ
+  pub ondisk : ℕ
   pub assigned : ℕ
-  pub lastId : ℕ
+  pub lastid : ℕ
   pub txs : List Saved
 
 -- ---- what an image in flat arrays holds
@@ -39,10 +39,10 @@ savedIn txs n = upFrom (savedAt txs) n 0
 abbrev pub contentOf : Image → Content
 contentOf i =
     record {
-      logEnd = i .logend;
-      onDisk = i .ondisk .0;
+      logend = i .logend;
+      ondisk = i .ondisk .0;
       assigned = i .assigned .0;
-      lastId = i .lastid .0;
+      lastid = i .lastid .0;
       txs = savedIn (i .txs) (i .count);
     }
 
@@ -55,15 +55,12 @@ abbrev pub outlineIn : Saved → Outline
 outlineIn (saved id status csn us) = outline id status csn (map rangeOf us)
 
 abbrev pub contentOk : Content → Bool
-contentOk c = imageOk (c .logEnd) (c .onDisk) (c .assigned) (c .lastId) (map outlineIn (c .txs))
+contentOk c = imageOk (c .logend) (c .ondisk) (c .assigned) (c .lastid) (map outlineIn (c .txs))
 
 -- ---- transactions as recovery has them: an image on disk holds no redo records
 
 abbrev pub transactionOf : Saved → Transaction
 transactionOf (saved id status csn us) = record { id = id; committing = eqb status 2; csn = csn; undo = us; redo = [] }
-
-abbrev pub withoutRedo : Transaction → Transaction
-withoutRedo t = record { id = t .id; committing = t .committing; csn = t .csn; undo = t .undo; redo = [] }
 
 abbrev pub transactionsIn : Image → List Transaction
 transactionsIn i = map viewOf (listed (i .txs) (i .count))

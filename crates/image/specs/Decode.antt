@@ -6,7 +6,7 @@ use mathlib.Core.Option.{Option, none, some}
 use lib.ListN.{getD, take, drop, replicate}
 use lib.Seq.{sets}
 use Rattle.recovery.specs.Group.{Write}
-use Rattle.log.specs.Number.{be2}
+use Rattle.log.specs.Number.{be16}
 use Rattle.transaction.specs.declared.Records.{Records}
 use Rattle.transaction.specs.declared.Tx.{Tx}
 use Rattle.transaction.specs.Flat.{emptyRecords, emptyTx}
@@ -40,7 +40,7 @@ notDecoded = record { ok = false; image = emptyImage }
 unfoldable pub undoStep : Records → List ℕ → Undos
 undoStep r s =
     cond (undoHere s)
-    (record { ok = true; undo = pushed r (be2 s 0) (take (getD s 2 0) (drop 3 s)); size = 3 + getD s 2 0 })
+    (record { ok = true; undo = pushed r (be16 s 0) (take (getD s 2 0) (drop 3 s)); size = 3 + getD s 2 0 })
     noUndos
 
 -- records behind those of r that took the first `at` bytes

@@ -3,24 +3,24 @@ use Prim.Native.Nat.{ℕ, _+_}
 use mathlib.Core.List.{List, [], _∷_, _++_}
 use lib.ListN.{length}
 use Rattle.recovery.specs.Group.{Write}
-use Rattle.log.specs.Number.{bytes2, bytes4}
+use Rattle.log.specs.Number.{bytes16, bytes32}
 use Rattle.image.specs.declared.Image.{Image}
 use Rattle.image.specs.Content.{Saved, saved, Content, contentOf}
 
 -- "log end (2), last commit number on disk (4), last commit number assigned (4), last id given (2), count of transactions (1)"
 abbrev pub headBytes : ℕ → ℕ → ℕ → ℕ → ℕ → List ℕ
-headBytes logEnd onDisk assigned lastId count = bytes2 logEnd ++ (bytes4 onDisk ++ (bytes4 assigned ++ (bytes2 lastId ++ (count ∷ []))))
+headBytes logend ondisk assigned lastid count = bytes16 logend ++ (bytes32 ondisk ++ (bytes32 assigned ++ (bytes16 lastid ++ (count ∷ []))))
 
 abbrev pub encodeHead : Content → List ℕ
-encodeHead c = headBytes (c .logEnd) (c .onDisk) (c .assigned) (c .lastId) (length (c .txs))
+encodeHead c = headBytes (c .logend) (c .ondisk) (c .assigned) (c .lastid) (length (c .txs))
 
 -- "id (2), status (1), commit number (4), undo count (1)"
 abbrev pub encodeTxHead : Saved → List ℕ
-encodeTxHead (saved id status csn us) = bytes2 id ++ (status ∷ (bytes4 csn ++ (length us ∷ [])))
+encodeTxHead (saved id status csn us) = bytes16 id ++ (status ∷ (bytes32 csn ++ (length us ∷ [])))
 
 -- "address (2), length (1), old bytes"
 abbrev pub encodeUndo : Write → List ℕ
-encodeUndo w = bytes2 (w .addr) ++ (length (w .bytes) ∷ w .bytes)
+encodeUndo w = bytes16 (w .addr) ++ (length (w .bytes) ∷ w .bytes)
 
 abbrev pub encodeUndos : List Write → List ℕ
 encodeUndos [] = []

@@ -29,10 +29,10 @@ packedTxs ts = sets (replicate 8 emptyTx) 0 (map packedTx ts)
 unfoldable pub packed : Content → Image
 packed c =
     record {
-      logend = c .logEnd;
-      ondisk = record { 0 = c .onDisk };
+      logend = c .logend;
+      ondisk = record { 0 = c .ondisk };
       assigned = record { 0 = c .assigned };
-      lastid = record { 0 = c .lastId };
+      lastid = record { 0 = c .lastid };
       count = length (c .txs);
       txs = packedTxs (c .txs);
     }

@@ -7,7 +7,7 @@ use mathlib.Core.Option.{Option, none, some}
 use lib.ListN.{length, getD, take, drop}
 use lib.Dec.{leb}
 use Rattle.recovery.specs.Group.{Write}
-use Rattle.log.specs.Number.{be2, be4}
+use Rattle.log.specs.Number.{be16, be32}
 use Rattle.log.specs.Record.{inRange}
 use Rattle.log.specs.Group.{andThen}
 use Rattle.image.specs.Content.{Saved, saved, Content, contentOk}
@@ -15,10 +15,10 @@ use Rattle.image.specs.Format.{txSize}
 
 -- an undo record stands at the front of s: its range keeps the rule and its bytes are there
 unfoldable pub undoHere : List ℕ → Bool
-undoHere s = inRange (be2 s 0) (getD s 2 0) && leb (3 + getD s 2 0) (length s)
+undoHere s = inRange (be16 s 0) (getD s 2 0) && leb (3 + getD s 2 0) (length s)
 
 abbrev pub firstUndo : List ℕ → Write
-firstUndo s = record { addr = be2 s 0; bytes = take (getD s 2 0) (drop 3 s) }
+firstUndo s = record { addr = be16 s 0; bytes = take (getD s 2 0) (drop 3 s) }
 
 -- n undo records
 abbrev pub readUndos : ℕ → List ℕ → Option (List Write)
@@ -33,7 +33,7 @@ savedIf id status csn (some us) = some (saved id status csn us)
 unfoldable pub readTx : List ℕ → Option Saved
 readTx s =
     cond (leb 8 (length s) && leb (getD s 7 0) 16)
-    (savedIf (be2 s 0) (getD s 2 0) (be4 s 3) (readUndos (getD s 7 0) (drop 8 s)))
+    (savedIf (be16 s 0) (getD s 2 0) (be32 s 3) (readUndos (getD s 7 0) (drop 8 s)))
     none
 
 abbrev pub onTx : (List ℕ → Option (List Saved)) → List ℕ → Option Saved → Option (List Saved)
@@ -46,15 +46,15 @@ readTxs zero s = some []
 readTxs (suc n) s = onTx (readTxs n) s (readTx s)
 
 abbrev pub contentIf : ℕ → ℕ → ℕ → ℕ → Option (List Saved) → Option Content
-contentIf logEnd onDisk assigned lastId none = none
-contentIf logEnd onDisk assigned lastId (some ts) =
-    some (record { logEnd = logEnd; onDisk = onDisk; assigned = assigned; lastId = lastId; txs = ts })
+contentIf logend ondisk assigned lastid none = none
+contentIf logend ondisk assigned lastid (some ts) =
+    some (record { logend = logend; ondisk = ondisk; assigned = assigned; lastid = lastid; txs = ts })
 
 -- all that an image of at most 8 transactions holds
 unfoldable pub readContent : List ℕ → Option Content
 readContent s =
     cond (leb 4109 (length s) && leb (getD s 12 0) 8)
-    (contentIf (be2 s 0) (be4 s 2) (be4 s 6) (be2 s 10) (readTxs (getD s 12 0) (drop 4109 s)))
+    (contentIf (be16 s 0) (be32 s 2) (be32 s 6) (be16 s 10) (readTxs (getD s 12 0) (drop 4109 s)))
     none
 
 abbrev pub keepingRules : Option Content → Option Content

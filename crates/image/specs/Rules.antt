@@ -24,7 +24,7 @@ outlinesOk last assigned ts = every (outlineOk last assigned) ts && distinct ts
 
 -- "log end ≤ 16,384; number on disk ≤ number assigned; at most 8 transactions", and the rules of the transactions
 abbrev pub imageOk : ℕ → ℕ → ℕ → ℕ → List Outline → Bool
-imageOk logEnd ondisk assigned last ts = leb logEnd 16384 && leb ondisk assigned && leb (length ts) 8 && outlinesOk last assigned ts
+imageOk logend ondisk assigned last ts = leb logend 16384 && leb ondisk assigned && leb (length ts) 8 && outlinesOk last assigned ts
 
 abbrev pub keepsRules : Image → Bool
 keepsRules i = imageOk (i .logend) (i .ondisk .0) (i .assigned .0) (i .lastid .0) (outlined (i .txs) (i .count))

@@ -23,11 +23,11 @@ use Rattle.disk.specs.Restart.{refusedRestart}
 use Rattle.disk.proofs.Examining.{roomy}
 use Rattle.disk.proofs.Restarting.{doneFrom, restart-1, restart-refused, restart-done}
 use Rattle.listing.specs.Text.{foundText, refusedText}
-use Rattle.listing.specs.Listing.{restarted, listingOf}
+use Rattle.listing.specs.Listing.{restartWhole, listingOf}
 
 pub data Ending (disk : List ℕ) : Type 0 where
-  refused : (n : ℕ) → restarted disk .result ≡ refusedRestart n → Ending disk
-  done : restarted disk ≡ doneFrom (examineOf disk) disk 16384 → Ending disk
+  refused : (n : ℕ) → restartWhole disk .result ≡ refusedRestart n → Ending disk
+  done : restartWhole disk ≡ doneFrom (examineOf disk) disk 16384 → Ending disk
 
 abbrev memory : List ℕ
 memory = replicate 4096 0
@@ -57,7 +57,7 @@ unfolding refusedRestart
 refused-answer n = refl
 
 -- 16,384 stores are enough for any disk
-pub uncut : (disk : List ℕ) → restarted disk .result .answer ≡ answer cut → ⊥
+pub uncut : (disk : List ℕ) → restartWhole disk .result .answer ≡ answer cut → ⊥
 uncut disk c = go (ending disk)
   where
     go : Ending disk → ⊥
@@ -69,10 +69,10 @@ unfolding refusedRestart
 refused-none n = refl
 
 -- by log room, since each takes 4 bytes
-pub few-undone : (disk : List ℕ) → restarted disk .result .undone ≤ 4096
+pub few-undone : (disk : List ℕ) → restartWhole disk .result .undone ≤ 4096
 few-undone disk = go (ending disk)
   where
-    go : Ending disk → restarted disk .result .undone ≤ 4096
+    go : Ending disk → restartWhole disk .result .undone ≤ 4096
     go (refused n e) = omega (arith, ap (λ (r : Restarted). r .undone) e, refused-none n)
     go (done e) = omega (arith, ap (λ (o : DiskOutcome Restarted). o .result .undone) e, roomy disk)
 
@@ -85,7 +85,7 @@ refused-tag n a e k = other (subst (λ (x : Answer). OneOf (0 ∷ 1 ∷ []) (tag
     other : OneOf (0 ∷ 1 ∷ []) 2 → ⊥
     other = ⊎-elim (λ z. omega arith) (λ z. omega arith)
 
-module _ (disk : List ℕ) (r : Restarted) (e : r ≡ restarted disk .result) where
+module _ (disk : List ℕ) (r : Restarted) (e : r ≡ restartWhole disk .result) where
   pub listing-refused : (n : ℕ) → r .answer ≡ Refused n → listingOf disk ≡ refusedText n
   unfolding listingOf
   listing-refused n a = rw (← e, a)

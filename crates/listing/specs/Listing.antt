@@ -12,18 +12,18 @@ use Rattle.disk.specs.Restart.{restartOf}
 use Rattle.listing.specs.Text.{foundText, refusedText}
 
 -- the log has 16,384 bytes, so no restart needs more stores
-abbrev pub restarted : List ℕ → DiskOutcome Restarted
-restarted disk = restartOf disk (replicate 4096 0) (replicate 16384 0) 16384
+abbrev pub restartWhole : List ℕ → DiskOutcome Restarted
+restartWhole disk = restartOf disk (replicate 4096 0) (replicate 16384 0) 16384
 
 -- it is never cut: `uncut` (proofs/Endings.antt)
-abbrev pub told : ℕ → Restarted → Answer → List ℕ
-told pointer r Done = foundText pointer (r .state .logend) (r .state .ondisk .0) (r .state .lastid .0) (r .undone)
-told pointer r Cut = []
-told pointer r (Refused n) = refusedText n
+abbrev pub textOf : ℕ → Restarted → Answer → List ℕ
+textOf pointer r Done = foundText pointer (r .state .logend) (r .state .ondisk .0) (r .state .lastid .0) (r .undone)
+textOf pointer r Cut = []
+textOf pointer r (Refused n) = refusedText n
 
 -- a wrong length is restart's number 1
 unfoldable pub listingOf : List ℕ → List ℕ
-listingOf disk = told (pointerOf disk) (restarted disk .result) (restarted disk .result .answer)
+listingOf disk = textOf (pointerOf disk) (restartWhole disk .result) (restartWhole disk .result .answer)
 
 -- a text at the front of 64 bytes, zeros after it
 abbrev pub padded : List ℕ → List ℕ

@@ -8,7 +8,7 @@ use log::stores::fill_zero;
 use store::Answer;
 ghost use mathlib.Core.Path.{_≡_};
 ghost use Rattle.disk.specs.Layout.{pointerOf};
-ghost use Rattle.listing.specs.Listing.{restarted, listingOf, Listed};
+ghost use Rattle.listing.specs.Listing.{restartWhole, listingOf, Listed};
 
 // 0 of no bytes at all, which restart refuses.
 fn pointer_of(disk: &[u8]) -> u8
@@ -23,7 +23,7 @@ fn pointer_of(disk: &[u8]) -> u8
 // Runs restart on the copy that is lent, with stores enough. The text goes to the front of out, zeros after it; its length is returned.
 pub fn list(disk: &mut [u8], out: &mut [u8; 64]) -> usize
     ensures { λ r. ⌜ Listed (listingOf (now (disk .entry))) r (now (out .exit)) ⌝ }
-    ensures { λ _. ⌜ now (disk .exit) ≡ restarted (now (disk .entry)) .disk ⌝ }
+    ensures { λ _. ⌜ now (disk .exit) ≡ restartWhole (now (disk .entry)) .disk ⌝ }
 {
     let pointer = pointer_of(&*disk);
     let mut memory = [0u8; 4096];

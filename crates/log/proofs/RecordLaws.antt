@@ -10,7 +10,7 @@ use lib.ListN.{length, getD, take, drop, List·getD-eq-default, length-drop}
 use lib.Seq.{length-take-le}
 use lib.Dec.{eqb, leb}
 use borrow.Author.Tests.{eqb-true, le-leb, lt-leb}
-use Rattle.log.specs.Number.{be2}
+use Rattle.log.specs.Number.{be16}
 use Rattle.log.specs.Record.{Record, size, keep, readRedo, readCommit, readAbort, readKind, readRecord}
 use Rattle.log.proofs.Basics.{clash, and-left, nonzero-within}
 
@@ -19,15 +19,15 @@ keep-inv true x r e = (refl, cc)
 keep-inv false x r e = clash (cc)
 
 pub record-cases : (P : Record → Type 0) (s : List ℕ)
-    → ((r : Record) → getD s 0 0 ≡ 1 → readRedo (be2 s 1) s ≡ some r → P r)
-    → ((r : Record) → getD s 0 0 ≡ 2 → readCommit (be2 s 1) s ≡ some r → P r)
-    → ((r : Record) → getD s 0 0 ≡ 3 → readAbort (be2 s 1) s ≡ some r → P r)
+    → ((r : Record) → getD s 0 0 ≡ 1 → readRedo (be16 s 1) s ≡ some r → P r)
+    → ((r : Record) → getD s 0 0 ≡ 2 → readCommit (be16 s 1) s ≡ some r → P r)
+    → ((r : Record) → getD s 0 0 ≡ 3 → readAbort (be16 s 1) s ≡ some r → P r)
     → (r : Record) → readRecord s ≡ some r → P r
 unfolding readRecord
-record-cases P s f g h r = go (eqb (be2 s 1) 0) (eqb (getD s 0 0) 1) (eqb (getD s 0 0) 2) (eqb (getD s 0 0) 3) refl refl refl
+record-cases P s f g h r = go (eqb (be16 s 1) 0) (eqb (getD s 0 0) 1) (eqb (getD s 0 0) 2) (eqb (getD s 0 0) 3) refl refl refl
   where
     go : (t₀ t₁ t₂ t₃ : Bool) → eqb (getD s 0 0) 1 ≡ t₁ → eqb (getD s 0 0) 2 ≡ t₂ → eqb (getD s 0 0) 3 ≡ t₃
-        → cond t₀ none (cond t₁ (readRedo (be2 s 1) s) (cond t₂ (readCommit (be2 s 1) s) (cond t₃ (readAbort (be2 s 1) s) none))) ≡ some r → P r
+        → cond t₀ none (cond t₁ (readRedo (be16 s 1) s) (cond t₂ (readCommit (be16 s 1) s) (cond t₃ (readAbort (be16 s 1) s) none))) ≡ some r → P r
     go true t₁ t₂ t₃ e₁ e₂ e₃ e = clash (cc)
     go false true t₂ t₃ e₁ e₂ e₃ e = f r (eqb-true _ _ e₁) e
     go false false true t₃ e₁ e₂ e₃ e = g r (eqb-true _ _ e₂) e
@@ -35,21 +35,21 @@ record-cases P s f g h r = go (eqb (be2 s 1) 0) (eqb (getD s 0 0) 1) (eqb (getD 
     go false false false false e₁ e₂ e₃ e = clash (cc)
 
 -- a record that is read has an id
-pub record-named : (s : List ℕ) (r : Record) → readRecord s ≡ some r → eqb (be2 s 1) 0 ≡ false
+pub record-named : (s : List ℕ) (r : Record) → readRecord s ≡ some r → eqb (be16 s 1) 0 ≡ false
 unfolding readRecord
-record-named s r = go (eqb (be2 s 1) 0)
+record-named s r = go (eqb (be16 s 1) 0)
   where
-    go : (t : Bool) → cond t none (readKind (getD s 0 0) (be2 s 1) s) ≡ some r → t ≡ false
+    go : (t : Bool) → cond t none (readKind (getD s 0 0) (be16 s 1) s) ≡ some r → t ≡ false
     go true e = clash (cc)
     go false e = refl
 
 -- without an id there is none
-pub record-none : (s : List ℕ) → be2 s 1 ≡ 0 → readRecord s ≡ none
+pub record-none : (s : List ℕ) → be16 s 1 ≡ 0 → readRecord s ≡ none
 unfolding readRecord
 record-none s e = rw e
 
 -- where it begins with a kind and an id, the rest decides
-pub record-by : (s : List ℕ) (kind id : ℕ) → getD s 0 0 ≡ kind → be2 s 1 ≡ id → eqb id 0 ≡ false → readRecord s ≡ readKind kind id s
+pub record-by : (s : List ℕ) (kind id : ℕ) → getD s 0 0 ≡ kind → be16 s 1 ≡ id → eqb id 0 ≡ false → readRecord s ≡ readKind kind id s
 unfolding readRecord
 record-by s kind id k i n = rw (k, i, n)
 
@@ -58,7 +58,7 @@ pub record-short : (s : List ℕ) → length s < 4 → readRecord s ≡ none
 unfolding readRecord readRedo readCommit readAbort
 record-short s h =
     rw (List·getD-eq-default s 0 {n = 3} (omega arith), List·getD-eq-default s 0 {n = 7} (omega arith), List·getD-eq-default s 0 {n = 6 + getD s 5 0} (omega arith))
-    (go (eqb (be2 s 1) 0) (eqb (getD s 0 0) 1) (eqb (getD s 0 0) 2) (eqb (getD s 0 0) 3))
+    (go (eqb (be16 s 1) 0) (eqb (getD s 0 0) 1) (eqb (getD s 0 0) 2) (eqb (getD s 0 0) 3))
   where
     go : (t₀ t₁ t₂ t₃ : Bool) → cond {A = Option Record} t₀ none (cond t₁ none (cond t₂ none (cond t₃ none none))) ≡ none
     go true t₁ t₂ t₃ = refl

@@ -12,7 +12,7 @@ use lib.Seq.{getD-append-seam, take-append-seam, getD-take, take-take, take-nil,
 use lib.Dec.{eqb}
 use borrow.Author.Tests.{eqb-true, not-true}
 use Rattle.recovery.specs.Group.{Write, Group, committed, aborted, redoSize, groupSize, groupsSize, csnAfter, lastCsn}
-use Rattle.log.specs.Number.{be2}
+use Rattle.log.specs.Number.{be16}
 use Rattle.log.specs.Record.{Record, redo, commit, abort, size, encode, wellFormed, inRange, readRedo, readCommit, readAbort, readKind, readRecord}
 use Rattle.log.specs.Group.{encodeBody, encodeGroup, wellFormedBody, wellFormedGroup, readBody, readGroup}
 use Rattle.log.specs.Log.{readLog, encodeLog, wellFormedLog}
@@ -126,16 +126,16 @@ pub record-same : (s t : List ℕ) (r : Record) → readRecord s ≡ some r → 
 unfolding readRedo readCommit readAbort
 record-same s t r e = record-cases (λ r. Same (size r) s t → readRecord t ≡ some r) s of-redo of-commit of-abort r e
   where
-    named : eqb (be2 s 1) 0 ≡ false
+    named : eqb (be16 s 1) 0 ≡ false
     named = record-named s r e
 
     -- the same kind and id
-    begins : (n kind : ℕ) → 4 ≤ n → getD s 0 0 ≡ kind → Same n s t → readRecord t ≡ readKind kind (be2 s 1) t
+    begins : (n kind : ℕ) → 4 ≤ n → getD s 0 0 ≡ kind → Same n s t → readRecord t ≡ readKind kind (be16 s 1) t
     begins n kind h k a =
         let g = same-at n s t a in
-        record-by t kind (be2 s 1) (g 0 (omega arith) ∙ k) (ap₂ (λ (x y : ℕ). x * 256 + y) (g 1 (omega arith)) (g 2 (omega arith))) named
+        record-by t kind (be16 s 1) (g 0 (omega arith) ∙ k) (ap₂ (λ (x y : ℕ). x * 256 + y) (g 1 (omega arith)) (g 2 (omega arith))) named
 
-    of-redo : (r : Record) → getD s 0 0 ≡ 1 → readRedo (be2 s 1) s ≡ some r → Same (size r) s t → readRecord t ≡ some r
+    of-redo : (r : Record) → getD s 0 0 ≡ 1 → readRedo (be16 s 1) s ≡ some r → Same (size r) s t → readRecord t ≡ some r
     of-redo r k e a =
         let n = getD s 5 0 in
         let z : size r ≡ suc (6 + n) = redo-ends _ s r e .sized in
@@ -143,13 +143,13 @@ record-same s t r e = record-cases (λ r. Same (size r) s t → readRecord t ≡
         let b : take n (drop 6 t) ≡ take n (drop 6 s) = same-rest 6 n s t (same-less (6 + n) (size r) s t (omega arith) a) in
         begins (size r) 1 (omega arith) k a ∙ simp (g 3 (omega arith), g 4 (omega arith), g 5 (omega arith), g (6 + n) (omega arith), b) e
 
-    of-commit : (r : Record) → getD s 0 0 ≡ 2 → readCommit (be2 s 1) s ≡ some r → Same (size r) s t → readRecord t ≡ some r
+    of-commit : (r : Record) → getD s 0 0 ≡ 2 → readCommit (be16 s 1) s ≡ some r → Same (size r) s t → readRecord t ≡ some r
     of-commit r k e a =
         let z : size r ≡ 8 = commit-ends _ s r e .sized in
         let g = same-at (size r) s t a in
         begins (size r) 2 (omega arith) k a ∙ simp (g 3 (omega arith), g 4 (omega arith), g 5 (omega arith), g 6 (omega arith), g 7 (omega arith)) e
 
-    of-abort : (r : Record) → getD s 0 0 ≡ 3 → readAbort (be2 s 1) s ≡ some r → Same (size r) s t → readRecord t ≡ some r
+    of-abort : (r : Record) → getD s 0 0 ≡ 3 → readAbort (be16 s 1) s ≡ some r → Same (size r) s t → readRecord t ≡ some r
     of-abort r k e a =
         let z : size r ≡ 4 = abort-ends _ s r e .sized in
         begins (size r) 3 (omega arith) k a ∙ simp (same-at (size r) s t a 3 (omega arith)) e

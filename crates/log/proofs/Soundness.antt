@@ -11,7 +11,7 @@ use lib.Seq.{drop-cons, drop-drop, getD-drop, length-take-le}
 use lib.Dec.{eqb}
 use borrow.Author.Tests.{eq-eqb, eqb-true}
 use Rattle.recovery.specs.Group.{Write, Group, committed, aborted, redoSize, groupSize, groupsSize, csnAfter, lastCsn}
-use Rattle.log.specs.Number.{be2, be4, bytes2, bytes4}
+use Rattle.log.specs.Number.{be16, be32, bytes16, bytes32}
 use Rattle.log.specs.Record.{Record, redo, commit, abort, size, encode, wellFormed, inRange, readRedo, readCommit, readAbort, readRecord}
 use Rattle.log.specs.Group.{encodeBody, encodeGroup, wellFormedBody, wellFormedGroup, readBody, readGroup}
 use Rattle.log.specs.Log.{readLog, encodeLog, wellFormedLog}
@@ -42,15 +42,15 @@ high4 a b h = omega arith
 low4 : (a b : ℕ) → b < 65536 → (a * 65536 + b) % 65536 ≡ b
 low4 a b h = omega arith
 
-pub bytes2-read : (s : List ℕ) (i : ℕ) → Bytes s → bytes2 (be2 s i) ≡ getD s i 0 ∷ getD s (i + 1) 0 ∷ []
-bytes2-read s i b =
+pub bytes16-read : (s : List ℕ) (i : ℕ) → Bytes s → bytes16 (be16 s i) ≡ getD s i 0 ∷ getD s (i + 1) 0 ∷ []
+bytes16-read s i b =
     ap₂ (λ (x y : ℕ). x ∷ y ∷ []) (high2 (getD s i 0) (getD s (i + 1) 0) (b (i + 1))) (low2 (getD s i 0) (getD s (i + 1) 0) (b (i + 1)))
 
-pub bytes4-read : (s : List ℕ) (i : ℕ) → Bytes s → bytes4 (be4 s i) ≡ getD s i 0 ∷ getD s (i + 1) 0 ∷ getD s (i + 2) 0 ∷ getD s (i + 2 + 1) 0 ∷ []
-bytes4-read s i b =
-    let l : be2 s (i + 2) < 65536 = omega (arith, b (i + 2), b (i + 2 + 1)) in
-    ap₂ (λ (x y : ℕ). bytes2 x ++ bytes2 y) (high4 (be2 s i) (be2 s (i + 2)) l) (low4 (be2 s i) (be2 s (i + 2)) l)
-    ∙ ap₂ (λ (x y : List ℕ). x ++ y) (bytes2-read s i b) (bytes2-read s (i + 2) b)
+pub bytes32-read : (s : List ℕ) (i : ℕ) → Bytes s → bytes32 (be32 s i) ≡ getD s i 0 ∷ getD s (i + 1) 0 ∷ getD s (i + 2) 0 ∷ getD s (i + 2 + 1) 0 ∷ []
+bytes32-read s i b =
+    let l : be16 s (i + 2) < 65536 = omega (arith, b (i + 2), b (i + 2 + 1)) in
+    ap₂ (λ (x y : ℕ). bytes16 x ++ bytes16 y) (high4 (be16 s i) (be16 s (i + 2)) l) (low4 (be16 s i) (be16 s (i + 2)) l)
+    ∙ ap₂ (λ (x y : List ℕ). x ++ y) (bytes16-read s i b) (bytes16-read s (i + 2) b)
 
 -- ---- the front of a list, byte by byte
 
@@ -73,24 +73,24 @@ front4 s i h =
 -- ---- records
 
 module _ (s : List ℕ) (b : Bytes s) where
-  abort-sound : getD s 0 0 ≡ 3 → (r : Record) → readAbort (be2 s 1) s ≡ some r → s ≡ encode r ++ drop (size r) s
+  abort-sound : getD s 0 0 ≡ 3 → (r : Record) → readAbort (be16 s 1) s ≡ some r → s ≡ encode r ++ drop (size r) s
   unfolding readAbort
   abort-sound k r e =
       let i = keep-inv _ _ r e in
       let z : getD s 3 0 ≡ 3 = eqb-true _ _ (i .0) in
       let l = nonzero-within s 3 2 z in
-      let h = bytes2-read s 1 b in
+      let h = bytes16-read s 1 b in
       let f = front4 s 0 (omega arith) in
       subst (λ (r : Record). s ≡ encode r ++ drop (size r) s) (i .1) (cc)
 
-  commit-sound : getD s 0 0 ≡ 2 → (r : Record) → readCommit (be2 s 1) s ≡ some r → s ≡ encode r ++ drop (size r) s
+  commit-sound : getD s 0 0 ≡ 2 → (r : Record) → readCommit (be16 s 1) s ≡ some r → s ≡ encode r ++ drop (size r) s
   unfolding readCommit
   commit-sound k r e =
       let i = keep-inv _ _ r e in
       let z : getD s 7 0 ≡ 2 = eqb-true _ _ (i .0) in
       let l = nonzero-within s 7 1 z in
-      let h = bytes2-read s 1 b in
-      let n = bytes4-read s 3 b in
+      let h = bytes16-read s 1 b in
+      let n = bytes32-read s 3 b in
       let f = front4 s 0 (omega arith) in
       let g = front4 s 4 (omega arith) in
       subst (λ (r : Record). s ≡ encode r ++ drop (size r) s) (i .1) (cc)
@@ -105,7 +105,7 @@ module _ (s : List ℕ) (b : Bytes s) where
       ∙ ap (λ (r : List ℕ). bs ++ r) (drop-drop n 6 s ∙ drop-cons s (6 + n) 0 l ∙ ap₂ (λ (x j : ℕ). x ∷ drop j s) z e)
       ∙ sym (append-assoc bs (1 ∷ []) (drop (7 + length bs) s))
 
-  redo-sound : getD s 0 0 ≡ 1 → (r : Record) → readRedo (be2 s 1) s ≡ some r → s ≡ encode r ++ drop (size r) s
+  redo-sound : getD s 0 0 ≡ 1 → (r : Record) → readRedo (be16 s 1) s ≡ some r → s ≡ encode r ++ drop (size r) s
   unfolding readRedo
   redo-sound k r e =
       let i = keep-inv _ _ r e in
@@ -114,8 +114,8 @@ module _ (s : List ℕ) (b : Bytes s) where
       let l = nonzero-within s (6 + n) 0 z in
       let d : length (take n (drop 6 s)) ≡ n = length-take-le n (drop 6 s) (simp length-drop (omega arith)) in
       let c = redo-rest n z l d in
-      let h = bytes2-read s 1 b in
-      let w = bytes2-read s 3 b in
+      let h = bytes16-read s 1 b in
+      let w = bytes16-read s 3 b in
       let f = front4 s 0 (omega arith) in
       let g = front2 s 4 (omega arith) in
       subst (λ (r : Record). s ≡ encode r ++ drop (size r) s) (i .1) (cc)
@@ -131,14 +131,14 @@ module _ (id : ℕ) (s : List ℕ) (r : Record) (named : not (eqb id 0) ≡ true
       let i = keep-inv _ _ r e in
       let n = getD s 5 0 in
       let ends = eqb (getD s (6 + n) 0) 1 in
-      let ranged = inRange (be2 s 3) n in
+      let ranged = inRange (be16 s 3) n in
       let l = nonzero-within s (6 + n) 0 (eqb-true _ _ (and-left ends ranged (i .0))) in
       let d : length (take n (drop 6 s)) ≡ n = length-take-le n (drop 6 s) (simp length-drop (omega arith)) in
       subst (λ (r : Record). wellFormed r ≡ true) (i .1) (rw d (and-both (not (eqb id 0)) ranged named (and-right ends ranged (i .0))))
 
   commit-formed : readCommit id s ≡ some r → wellFormed r ≡ true
   unfolding readCommit
-  commit-formed e = let i = keep-inv (eqb (getD s 7 0) 2) (commit id (be4 s 3)) r e in subst (λ (r : Record). wellFormed r ≡ true) (i .1) named
+  commit-formed e = let i = keep-inv (eqb (getD s 7 0) 2) (commit id (be32 s 3)) r e in subst (λ (r : Record). wellFormed r ≡ true) (i .1) named
 
   abort-formed : readAbort id s ≡ some r → wellFormed r ≡ true
   unfolding readAbort
@@ -146,7 +146,7 @@ module _ (id : ℕ) (s : List ℕ) (r : Record) (named : not (eqb id 0) ≡ true
 
 pub record-formed : (s : List ℕ) (r : Record) → readRecord s ≡ some r → wellFormed r ≡ true
 record-formed s r e =
-    let n : not (eqb (be2 s 1) 0) ≡ true = rw (record-named s r e) in
+    let n : not (eqb (be16 s 1) 0) ≡ true = rw (record-named s r e) in
     record-cases (λ r. wellFormed r ≡ true) s (λ r k. redo-formed _ s r n) (λ r k. commit-formed _ s r n) (λ r k. abort-formed _ s r n) r e
 
 -- ---- groups

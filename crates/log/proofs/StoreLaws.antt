@@ -7,7 +7,7 @@ use mathlib.Core.List.{List, [], _∷_, _++_, append-nil}
 use mathlib.Core.Path.{_≡_, refl, sym, ap, ap₂, _∙_}
 use lib.ListN.{length, take, drop, getD, set, replicate, length-set, length-append, length-drop, length-replicate, getD-replicate, take-append-drop, drop-of-length-le}
 use lib.Seq.{sets, sets-eq, length-sets, take-suc, take-nil, take-all, take-at, length-take-le, take-set-le, drop-set-lt, drop-cons, getD-drop, getD-set-same, getD-set-other}
-use Rattle.log.specs.Number.{bytes2}
+use Rattle.log.specs.Number.{bytes16}
 use Rattle.log.specs.Record.{redo, encode}
 use Rattle.log.specs.Stores.{Store, store, apply, copies, clears, shifted}
 
@@ -27,11 +27,11 @@ sets-more l at src i h =
     ∙ ap (λ (k : ℕ). set (sets l at (take i src)) (at + k) (getD src i 0)) n)
 
 -- the stores of a redo record: its head, its bytes by a copy, and its last byte
-pub redo-stores : (l : List ℕ) (at id addr : ℕ) (src m₁ m₂ m₃ : List ℕ) → m₁ ≡ sets (set l at 1) (at + 1) (bytes2 id) → m₂ ≡ sets m₁ (at + 3) (bytes2 addr)
+pub redo-stores : (l : List ℕ) (at id addr : ℕ) (src m₁ m₂ m₃ : List ℕ) → m₁ ≡ sets (set l at 1) (at + 1) (bytes16 id) → m₂ ≡ sets m₁ (at + 3) (bytes16 addr)
     → m₃ ≡ sets (set m₂ (at + 5) (length src)) (at + 6) src → set m₃ (at + 6 + length src) 1 ≡ sets l at (encode (redo id (record { addr = addr; bytes = src })))
 redo-stores l at id addr src m₁ m₂ m₃ e₁ e₂ e₃ =
     rw (e₃, e₂, e₁)
-    (sym (sets-append (set (sets (sets (set l at 1) (at + 1) (bytes2 id)) (at + 3) (bytes2 addr)) (at + 5) (length src)) (at + 6) src (1 ∷ []))
+    (sym (sets-append (set (sets (sets (set l at 1) (at + 1) (bytes16 id)) (at + 3) (bytes16 addr)) (at + 5) (length src)) (at + 6) src (1 ∷ []))
     ∙ simp towards-suc)
 
 -- ---- the first so many stores

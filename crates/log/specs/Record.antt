@@ -6,7 +6,7 @@ use mathlib.Core.Option.{Option, none, some}
 use lib.ListN.{length, getD, take, drop}
 use lib.Dec.{leb, eqb}
 use Rattle.recovery.specs.Group.{Write}
-use Rattle.log.specs.Number.{be2, be4, bytes2, bytes4}
+use Rattle.log.specs.Number.{be16, be32, bytes16, bytes32}
 use Rattle.log.specs.declared.record.Head.{Head}
 use Rattle.log.specs.declared.record.Head.the-variants.{Redo, Commit, Abort, Nothing}
 
@@ -18,9 +18,9 @@ pub data Record : Type 0 where
 
 -- "redo: 1, id (2 bytes), address (2), length (1), the new bytes, 1"; "commit: 2, id (2), commit number (4), 2"; "abort: 3, id (2), 3"
 abbrev pub encode : Record → List ℕ
-encode (redo id w) = 1 ∷ (bytes2 id ++ (bytes2 (w .addr) ++ (length (w .bytes) ∷ (w .bytes ++ (1 ∷ [])))))
-encode (commit id csn) = 2 ∷ (bytes2 id ++ (bytes4 csn ++ (2 ∷ [])))
-encode (abort id) = 3 ∷ (bytes2 id ++ (3 ∷ []))
+encode (redo id w) = 1 ∷ (bytes16 id ++ (bytes16 (w .addr) ++ (length (w .bytes) ∷ (w .bytes ++ (1 ∷ [])))))
+encode (commit id csn) = 2 ∷ (bytes16 id ++ (bytes32 csn ++ (2 ∷ [])))
+encode (abort id) = 3 ∷ (bytes16 id ++ (3 ∷ []))
 
 abbrev pub size : Record → ℕ
 size (redo id w) = 7 + length (w .bytes)
@@ -47,11 +47,11 @@ keep false r = none
 unfoldable pub readRedo : ℕ → List ℕ → Option Record
 readRedo id s =
     keep
-    (eqb (getD s (6 + getD s 5 0) 0) 1 && inRange (be2 s 3) (getD s 5 0))
-    (redo id (record { addr = be2 s 3; bytes = take (getD s 5 0) (drop 6 s) }))
+    (eqb (getD s (6 + getD s 5 0) 0) 1 && inRange (be16 s 3) (getD s 5 0))
+    (redo id (record { addr = be16 s 3; bytes = take (getD s 5 0) (drop 6 s) }))
 
 unfoldable pub readCommit : ℕ → List ℕ → Option Record
-readCommit id s = keep (eqb (getD s 7 0) 2) (commit id (be4 s 3))
+readCommit id s = keep (eqb (getD s 7 0) 2) (commit id (be32 s 3))
 
 unfoldable pub readAbort : ℕ → List ℕ → Option Record
 readAbort id s = keep (eqb (getD s 3 0) 3) (abort id)
@@ -61,7 +61,7 @@ readKind kind id s = cond (eqb kind 1) (readRedo id s) (cond (eqb kind 2) (readC
 
 -- the well-formed record at the front of s, if there is one
 unfoldable pub readRecord : List ℕ → Option Record
-readRecord s = cond (eqb (be2 s 1) 0) none (readKind (getD s 0 0) (be2 s 1) s)
+readRecord s = cond (eqb (be16 s 1) 0) none (readKind (getD s 0 0) (be16 s 1) s)
 
 -- what the code answers of a record: its numbers, and of a redo how many bytes it has
 abbrev pub headOf : Option Record → Head

@@ -55,7 +55,7 @@ module _ (o : Opening) where
   unfolding undoOrder baseAt
   start = record {
     imageDistinct = empty;
-    imageLength = o .whole;
+    imageLength = o .sized;
     bytes = λ a h q. subst (λ (gs : List Group). ImageAt o (openingDisk o) a gs) (sym (take-nil q)) refl;
     fits = λ q. subst (λ (gs : List Group). Roomy o (openingDisk o) gs) (sym (take-nil q)) (omega arith);
     numbers = record { log = consecutive-nil; image = refl };
@@ -72,7 +72,7 @@ module _ (o : Opening) where
   unfolding baseAt
   claimed d k w = record {
     restores =
-        by-bytes (o .size) (d .image .txs) (d .image .csn) (d .after) (d .before ++ d .after) (d .image .memory) (o .memory) (w .imageLength) (o .whole)
+        by-bytes (o .size) (d .image .txs) (d .image .csn) (d .after) (d .before ++ d .after) (d .image .memory) (o .memory) (w .imageLength) (o .sized)
         (λ a h. prefix-whole (ImageAt o d a) (d .after) (w .bytes a h) ∙ sym (replay-append (layByte a) (d .before) (d .after) (getD (o .memory) a 0)))
         ∙ (replay-commits (d .before ++ d .after) (o .memory) ∙ ap (λ (cs : List Commit). layCommits cs (o .memory)) (sym (w .durable)));
     logged = sym (w .durable);

@@ -20,7 +20,7 @@ use Rattle.image.specs.Rules.{keepsRules}
 use Rattle.image.proofs.Rules.{image-count}
 use Rattle.restart.specs.declared.forward.Slot.{Slot}
 use Rattle.restart.specs.declared.forward.Slot.the-variants.{At, Nowhere}
-use Rattle.restart.specs.Slots.{txAt, txsOf, hasId, slotOf}
+use Rattle.restart.specs.Slots.{txAt, txsOf, hasId, imageSlot}
 use Rattle.restart.specs.Forward.{Went, codeOf, marked, undoLogged, past, onGroup, goOver}
 use Rattle.restart.proofs.SlotLaws.{first-at, first-none}
 use Rattle.restart.proofs.Rules.{same-slot, lookup-at, lookup-nowhere}
@@ -77,23 +77,23 @@ marked-other found code k i h = go (eqb (getD found k 0) 0)
     go false = refl
 
 -- a slot that is not used keeps its code
-unused-kept : (image : Image) (found : List ℕ) (code id i : ℕ) → image .count ≤ i → getD (marked found code (slotOf image id)) i 0 ≡ getD found i 0
-unused-kept image found code id i h = go (slotOf image id) refl
+unused-kept : (image : Image) (found : List ℕ) (code id i : ℕ) → image .count ≤ i → getD (marked found code (imageSlot image id)) i 0 ≡ getD found i 0
+unused-kept image found code id i h = go (imageSlot image id) refl
   where
-    go : (x : Slot) → slotOf image id ≡ x → getD (marked found code x) i 0 ≡ getD found i 0
+    go : (x : Slot) → imageSlot image id ≡ x → getD (marked found code x) i 0 ≡ getD found i 0
     go Nowhere q = refl
     go (At k) q = marked-other found code k i (λ e. omega (arith, first-at (hasId image id) (image .count) k q .0))
 
 module _ (image : Image) (ok : keepsRules image ≡ true) where
   marked-at : (found : List ℕ) (code id i : ℕ) → length found ≡ 8 → i < image .count
-      → getD (marked found code (slotOf image id)) i 0 ≡ cond (eqb (txAt image i .id) id) (orCode (getD found i 0) code) (getD found i 0)
-  marked-at found code id i l h = go (slotOf image id) refl
+      → getD (marked found code (imageSlot image id)) i 0 ≡ cond (eqb (txAt image i .id) id) (orCode (getD found i 0) code) (getD found i 0)
+  marked-at found code id i l h = go (imageSlot image id) refl
     where
       hit : (k : ℕ) → k < 8 → (b : Bool) → getD (cond b (set found k code) found) k 0 ≡ cond b code (getD found k 0)
       hit k u true = getD-set-same found k code 0 (omega arith)
       hit k u false = refl
 
-      at : (k : ℕ) → slotOf image id ≡ At k → (b : Bool) → eqb i k ≡ b
+      at : (k : ℕ) → imageSlot image id ≡ At k → (b : Bool) → eqb i k ≡ b
           → getD (marked found code (At k)) i 0 ≡ cond (eqb (txAt image i .id) id) (orCode (getD found i 0) code) (getD found i 0)
       at k q true e =
           let s : i ≡ k = eqb-true i k e in
@@ -104,7 +104,7 @@ module _ (image : Image) (ok : keepsRules image ≡ true) where
           let f = first-at (hasId image id) (image .count) k q in
           rw (ne-eqb _ id (λ z. same-slot image ok i k h (f .0) (z ∙ sym (eqb-true _ id (f .1))) n)) (marked-other found code k i n)
 
-      go : (x : Slot) → slotOf image id ≡ x
+      go : (x : Slot) → imageSlot image id ≡ x
           → getD (marked found code x) i 0 ≡ cond (eqb (txAt image i .id) id) (orCode (getD found i 0) code) (getD found i 0)
       go Nowhere q = rw (first-none (hasId image id) (image .count) q i h)
       go (At k) q = at k q (eqb i k) refl
@@ -119,7 +119,7 @@ module _ (image : Image) (ok : keepsRules image ≡ true) where
       go x false e = refl
   codes-from (g ∷ gs) w i l h =
       let v = onGroup image g w in
-      codes-from gs v i (marked-length (w .pass .found) (codeOf g) (slotOf image (groupId g)) ∙ l) h
+      codes-from gs v i (marked-length (w .pass .found) (codeOf g) (imageSlot image (groupId g)) ∙ l) h
       ∙ ap (λ (x : ℕ). orCode x (firstCode (txAt image i .id) gs)) (marked-at (w .pass .found) (codeOf g) (groupId g) i l h)
       ∙ go (eqb (txAt image i .id) (groupId g)) (getD (w .pass .found) i 0) (eqb (getD (w .pass .found) i 0) 0) refl g
     where
@@ -136,7 +136,7 @@ module _ (image : Image) (ok : keepsRules image ≡ true) where
   abbrev pub Marks : List ℕ → List ℕ → Type 0
   Marks found f = (i : ℕ) → i < image .count → has (txAt image i .id) f ≡ not (eqb (getD found i 0) 0)
 
-  mark-group : (found f : List ℕ) (code id : ℕ) → (code ≡ 0 → ⊥) → length found ≡ 8 → Marks found f → Marks (marked found code (slotOf image id)) (id ∷ f)
+  mark-group : (found f : List ℕ) (code id : ℕ) → (code ≡ 0 → ⊥) → length found ≡ 8 → Marks found f → Marks (marked found code (imageSlot image id)) (id ∷ f)
   mark-group found f code id nz l r i h =
       rw (marked-at found code id i l h) (go (eqb (txAt image i .id) id) (getD found i 0) (eqb (getD found i 0) 0) refl (r i h))
     where
@@ -147,8 +147,8 @@ module _ (image : Image) (ok : keepsRules image ≡ true) where
       go false x c e q = q
 
   abort-group : (found f m : List ℕ) (id : ℕ) → Marks found f
-      → undoLogged image found (slotOf image id) m ≡ cond (has id f) m (undoAll layBytes (undoOf id (txsOf image)) m)
-  abort-group found f m id r = go (slotOf image id) refl
+      → undoLogged image found (imageSlot image id) m ≡ cond (has id f) m (undoAll layBytes (undoOf id (txsOf image)) m)
+  abort-group found f m id r = go (imageSlot image id) refl
     where
       same : (b : Bool) → m ≡ cond b m m
       same true = refl
@@ -158,7 +158,7 @@ module _ (image : Image) (ok : keepsRules image ≡ true) where
       flip true u = refl
       flip false u = refl
 
-      go : (x : Slot) → slotOf image id ≡ x → undoLogged image found x m ≡ cond (has id f) m (undoAll layBytes (undoOf id (txsOf image)) m)
+      go : (x : Slot) → imageSlot image id ≡ x → undoLogged image found x m ≡ cond (has id f) m (undoAll layBytes (undoOf id (txsOf image)) m)
       go Nowhere q = same (has id f) ∙ ap (λ (t : Option Tx). cond (has id f) m (undoAll layBytes (undoRecords t) m)) (sym (lookup-nowhere image ok id q))
       go (At k) q =
           let p = first-at (hasId image id) (image .count) k q in
@@ -178,12 +178,12 @@ module _ (image : Image) (ok : keepsRules image ≡ true) where
   seen [] w f l r = record { memory = refl; marks = r }
   seen (committed id n ws ∷ gs) w f l r =
       let s =
-      seen gs (onGroup image (committed id n ws) w) (id ∷ f) (marked-length (w .pass .found) 1 (slotOf image id) ∙ l)
+      seen gs (onGroup image (committed id n ws) w) (id ∷ f) (marked-length (w .pass .found) 1 (imageSlot image id) ∙ l)
       (mark-group (w .pass .found) f 1 id (λ z. omega arith) l r) in
       record { memory = s .memory; marks = s .marks }
   seen (aborted id ∷ gs) w f l r =
       let s =
-      seen gs (onGroup image (aborted id) w) (id ∷ f) (marked-length (w .pass .found) 2 (slotOf image id) ∙ l)
+      seen gs (onGroup image (aborted id) w) (id ∷ f) (marked-length (w .pass .found) 2 (imageSlot image id) ∙ l)
       (mark-group (w .pass .found) f 2 id (λ z. omega arith) l r) in
       record {
         memory = s .memory ∙ ap (forward layBytes (txsOf image) gs (id ∷ f)) (abort-group (w .pass .found) f (w .memory) id r);

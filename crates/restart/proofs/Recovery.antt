@@ -1,4 +1,4 @@
--- Restart is recovery: what `restartOf` leaves, in recovery's terms, for the image's transactions and the groups read.
+-- Restart is recovery: what `recoverOf` leaves, in recovery's terms, for the image's transactions and the groups read.
 use Prim.Native.Nat.{ℕ, zero, suc, _+_, _*_, _-_, _≤_, _<_, max}
 use native.Mathlib.Omega.{arith}
 use mathlib.Core.Bool.{Bool, true, false, not, cond, _&&_}
@@ -27,7 +27,7 @@ use Rattle.restart.specs.declared.forward.Pass.{Pass}
 use Rattle.restart.specs.Slots.{txAt, txsOf, filterBelow}
 use Rattle.restart.specs.Forward.{startOf, groupsOf, forwardOf}
 use Rattle.restart.specs.Undo.{isRunning, isLost, runningAt, lostAt, lostBy, runningOf, lostOf, undoneOf}
-use Rattle.restart.specs.Restart.{restartOf}
+use Rattle.restart.specs.Restart.{recoverOf}
 use Rattle.restart.proofs.SlotLaws.{filter-up, txs-up}
 use Rattle.restart.proofs.Undos.{aborts-length}
 use Rattle.restart.proofs.Passed.{highestId, ids-below, counted, firstCode, codes-from, unused-codes, Marks, Seen, seen}
@@ -149,51 +149,51 @@ module _ (image : Image) (ok : keepsRules image ≡ true) where
         ∙ ap (λ (n : ℕ). unfinished (finished (groupsOf image log) []) (undoOrder (txsOf image) n)) (counted image (groupsOf image log) (startOf image m) .csn)
 
     module _ (tail : List ℕ) where
-      pub memory-is : restartOf image log m tail .memory ≡ recover layBytes (txsOf image) (image .ondisk .0) (groupsOf image log) m
-      unfolding restartOf forwardOf
+      pub memory-is : recoverOf image log m tail .memory ≡ recover layBytes (txsOf image) (image .ondisk .0) (groupsOf image log) m
+      unfolding recoverOf forwardOf
       memory-is = ap₂ (λ (ts : List Tx) (x : List ℕ). undoEach layBytes ts x) undone-is (passed .memory)
 
-      pub count-is : restartOf image log m tail .answer .undone ≡ length (undoneBy image log)
-      unfolding restartOf
+      pub count-is : recoverOf image log m tail .answer .undone ≡ length (undoneBy image log)
+      unfolding recoverOf
       count-is = ap length undone-is
 
-      pub end-is : restartOf image log m tail .answer .end ≡ groupsSize (groupsOf image log)
-      unfolding restartOf forwardOf
+      pub end-is : recoverOf image log m tail .answer .end ≡ groupsSize (groupsOf image log)
+      unfolding recoverOf forwardOf
       end-is = omega (arith, counted image (groupsOf image log) (startOf image m) .end)
 
-      pub csn-is : restartOf image log m tail .answer .csn .0 ≡ lastCsn (image .ondisk .0) (groupsOf image log)
-      unfolding restartOf forwardOf
+      pub csn-is : recoverOf image log m tail .answer .csn .0 ≡ lastCsn (image .ondisk .0) (groupsOf image log)
+      unfolding recoverOf forwardOf
       csn-is = counted image (groupsOf image log) (startOf image m) .csn
 
       -- the last id: "the larger of the image's and the highest in the groups read"
-      pub last-is : restartOf image log m tail .answer .last .0 ≡ max (image .lastid .0) (highestId (groupsOf image log))
-      unfolding restartOf forwardOf
+      pub last-is : recoverOf image log m tail .answer .last .0 ≡ max (image .lastid .0) (highestId (groupsOf image log))
+      unfolding recoverOf forwardOf
       last-is = counted image (groupsOf image log) (startOf image m) .last
 
       -- it is at least each id in the image and in the groups read
-      pub last-above-image : All (λ t. t .id ≤ restartOf image log m tail .answer .last .0) (txsOf image)
+      pub last-above-image : All (λ t. t .id ≤ recoverOf image log m tail .answer .last .0) (txsOf image)
       last-above-image =
           rw txs-up (all-up (txAt image) (image .count) 0 (λ j a b. let g = ruled-at image ok j (omega arith) .given in let l = last-is in omega arith))
 
-      pub last-above-groups : All (λ g. groupId g ≤ restartOf image log m tail .answer .last .0) (groupsOf image log)
+      pub last-above-groups : All (λ g. groupId g ≤ recoverOf image log m tail .answer .last .0) (groupsOf image log)
       last-above-groups = let l = last-is in all-map (λ g h. omega arith) (ids-below (groupsOf image log))
 
       -- the codes: the first group of the transaction's id decides; 0 in slots that are not used
-      pub code-is : (i : ℕ) → i < image .count → getD (restartOf image log m tail .answer .found) i 0 ≡ firstCode (txAt image i .id) (groupsOf image log)
-      unfolding restartOf forwardOf
+      pub code-is : (i : ℕ) → i < image .count → getD (recoverOf image log m tail .answer .found) i 0 ≡ firstCode (txAt image i .id) (groupsOf image log)
+      unfolding recoverOf forwardOf
       code-is i h =
           codes-from image ok (groupsOf image log) (startOf image m) i refl h
           ∙ ap (λ (x : ℕ). cond (eqb x 0) (firstCode (txAt image i .id) (groupsOf image log)) x) (zero-at 8 i)
 
-      pub code-unused : (i : ℕ) → image .count ≤ i → getD (restartOf image log m tail .answer .found) i 0 ≡ 0
-      unfolding restartOf forwardOf
+      pub code-unused : (i : ℕ) → image .count ≤ i → getD (recoverOf image log m tail .answer .found) i 0 ≡ 0
+      unfolding recoverOf forwardOf
       code-unused i h = unused-codes image (groupsOf image log) (startOf image m) i h ∙ zero-at 8 i
 
     -- ---- the tail
 
     -- a tail of zeros has the abort records of those undone, and zeros after them
-    pub tail-is : restartOf image log m (zeros 16384) .tail ≡ encodeLog (aborts (undoneBy image log)) ++ zeros (16384 - 4 * length (undoneBy image log))
-    unfolding restartOf
+    pub tail-is : recoverOf image log m (zeros 16384) .tail ≡ encodeLog (aborts (undoneBy image log)) ++ zeros (16384 - 4 * length (undoneBy image log))
+    unfolding recoverOf
     tail-is =
         let xs = encodeLog (aborts (undoneBy image log)) in
         let l = aborts-length (undoneBy image log) in
@@ -211,7 +211,7 @@ module _ (image : Image) (ok : keepsRules image ≡ true) where
     aborts-well prev (cons {x} h hs) = rw (ne-eqb (x .id) 0 (λ e. omega arith)) (aborts-well prev hs)
 
     -- it is read back as exactly those groups, after any commit number
-    pub tail-read : (prev : ℕ) → readLog prev (restartOf image log m (zeros 16384) .tail) ≡ aborts (undoneBy image log)
+    pub tail-read : (prev : ℕ) → readLog prev (recoverOf image log m (zeros 16384) .tail) ≡ aborts (undoneBy image log)
     tail-read prev =
         let named : All (λ t. 1 ≤ t .id) (txsOf image) = rw txs-up (all-up (txAt image) (image .count) 0 (λ j a b. ruled-at image ok j (omega arith) .named)) in
         ap (readLog prev) tail-is

@@ -10,7 +10,7 @@ use lib.Dec.{eqb}
 use borrow.Author.Tests.{eqb-true}
 use Rattle.recovery.specs.Group.{Write}
 use Rattle.recovery.specs.Replay.{redoAll, layBytes}
-use Rattle.log.specs.Number.{be2, be4}
+use Rattle.log.specs.Number.{be16, be32}
 use Rattle.log.specs.Record.{Record, redo, commit, abort, inRange, readRedo, readCommit, readAbort, readRecord}
 use Rattle.log.specs.Group.{readBody}
 use Rattle.log.proofs.Basics.{nonzero-within, and-left, and-right, Turned}
@@ -32,15 +32,15 @@ unfolding readRedo
 redo-is id s r e =
     let n = getD s 5 0 in
     let i = keep-inv _ _ r e in
-    let t = in-range (be2 s 3) n (and-right (eqb (getD s (6 + n) 0) 1) (inRange (be2 s 3) n) (i .0)) in
-    let b : getD s (6 + n) 0 ≡ 1 = eqb-true _ _ (and-left (eqb (getD s (6 + n) 0) 1) (inRange (be2 s 3) n) (i .0)) in
+    let t = in-range (be16 s 3) n (and-right (eqb (getD s (6 + n) 0) 1) (inRange (be16 s 3) n) (i .0)) in
+    let b : getD s (6 + n) 0 ≡ 1 = eqb-true _ _ (and-left (eqb (getD s (6 + n) 0) 1) (inRange (be16 s 3) n) (i .0)) in
     let l = nonzero-within s (6 + n) 0 b in
     let d : length (take n (drop 6 s)) ≡ n = length-take-le n (drop 6 s) (simp length-drop (omega arith)) in
     subst (λ (r : Record). RedoIs s r) (i .1) (ap (λ (k : ℕ). take k (drop 6 s)) (sym d), omega (arith, t))
 
 commit-is : (id : ℕ) (s : List ℕ) (r : Record) → readCommit id s ≡ some r → RedoIs s r
 unfolding readCommit
-commit-is id s r e = subst (λ (r : Record). RedoIs s r) (keep-inv (eqb (getD s 7 0) 2) (commit id (be4 s 3)) r e .1) (tt {0})
+commit-is id s r e = subst (λ (r : Record). RedoIs s r) (keep-inv (eqb (getD s 7 0) 2) (commit id (be32 s 3)) r e .1) (tt {0})
 
 abort-is : (id : ℕ) (s : List ℕ) (r : Record) → readAbort id s ≡ some r → RedoIs s r
 unfolding readAbort

@@ -19,7 +19,7 @@ use Rattle.image.specs.Slots.{outlineAt}
 use Rattle.image.specs.Rules.{keepsRules}
 use Rattle.image.proofs.Rules.{image-count, image-distinct, undo-at, distinct-at}
 use Rattle.restart.specs.declared.forward.Slot.the-variants.{At, Nowhere}
-use Rattle.restart.specs.Slots.{txAt, txsOf, hasId, slotOf}
+use Rattle.restart.specs.Slots.{txAt, txsOf, hasId, imageSlot}
 use Rattle.restart.specs.Turns.{Undoable}
 use Rattle.restart.proofs.SlotLaws.{first-at, first-none, txs-up}
 
@@ -50,13 +50,13 @@ module _ (image : Image) (ok : keepsRules image ≡ true) where
           (go k (suc i) (λ a b l m u. h a b (omega arith) m (omega arith)))
 
   -- the list has under an id what the slot has
-  pub lookup-at : (id k : ℕ) → slotOf image id ≡ At k → lookup id (txsOf image) ≡ some (txAt image k)
+  pub lookup-at : (id k : ℕ) → imageSlot image id ≡ At k → lookup id (txsOf image) ≡ some (txAt image k)
   lookup-at id k q =
       let f = first-at (hasId image id) (image .count) k q in
       let own : All (λ t. lookup (t .id) (txsOf image) ≡ some t) (upFrom (txAt image) (image .count) 0) =
       subst (λ (ts : List Transaction). All (λ t. lookup (t .id) (txsOf image) ≡ some t) ts) (txs-up image) (lookup-own distinct-ids) in
       subst (λ (x : ℕ). lookup x (txsOf image) ≡ some (txAt image k)) (eqb-true _ id (f .1)) (all-at (txAt image) (image .count) 0 own k (omega arith) (omega (arith, f .0)))
 
-  pub lookup-nowhere : (id : ℕ) → slotOf image id ≡ Nowhere → lookup id (txsOf image) ≡ none
+  pub lookup-nowhere : (id : ℕ) → imageSlot image id ≡ Nowhere → lookup id (txsOf image) ≡ none
   lookup-nowhere id q =
       lookup-none {i = id} {txs = txsOf image} (rw txs-up (all-up (txAt image) (image .count) 0 (λ j a b. eqb-false _ id (first-none (hasId image id) (image .count) q j (omega arith)))))

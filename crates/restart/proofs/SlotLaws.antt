@@ -21,7 +21,7 @@ use Rattle.image.specs.declared.Image.{Image}
 use Rattle.image.specs.Slots.{slotAt}
 use Rattle.restart.specs.declared.forward.Slot.{Slot}
 use Rattle.restart.specs.declared.forward.Slot.the-variants.{At, Nowhere}
-use Rattle.restart.specs.Slots.{txAt, txsOf, orAt, firstBelow, hasId, slotOf, oneIf, filterBelow}
+use Rattle.restart.specs.Slots.{txAt, txsOf, orAt, firstBelow, hasId, imageSlot, oneIf, filterBelow}
 use Rattle.restart.specs.Turns.{Below}
 
 module _ (p : ℕ → Bool) (i : ℕ) where
@@ -46,7 +46,7 @@ first-at p (suc n) i e = go (first-at p n i) (firstBelow p n) refl (p n) refl e
     go ih Nowhere q false r z = clash (cc)
 
 -- where an id stands is a slot of the image
-pub slot-below : (image : Image) (id n : ℕ) (x : Slot) → image .count ≤ n → x ≡ slotOf image id → Below n x
+pub slot-below : (image : Image) (id n : ℕ) (x : Slot) → image .count ≤ n → x ≡ imageSlot image id → Below n x
 slot-below image id n Nowhere h e = tt {0}
 slot-below image id n (At i) h e = omega (arith, first-at (hasId image id) (image .count) i (sym e) .0)
 

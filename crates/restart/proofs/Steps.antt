@@ -15,7 +15,7 @@ use Rattle.log.proofs.LogLaws.{log-none, log-more}
 use Rattle.image.specs.declared.Image.{Image}
 use Rattle.restart.specs.declared.forward.Pass.{Pass}
 use Rattle.restart.specs.declared.forward.Slot.{Slot}
-use Rattle.restart.specs.Slots.{slotOf}
+use Rattle.restart.specs.Slots.{imageSlot}
 use Rattle.restart.specs.Forward.{Went, wentBy, undoLogged, past, onGroup, goOver}
 use Rattle.restart.specs.Turns.{frontWrites, onFound, stepOf}
 use Rattle.restart.proofs.RedoLaws.{front-body}
@@ -39,13 +39,13 @@ module _ (image : Image) (log : List ℕ) (w : Went) where
   pub step-none : here ≡ none → stepOf image log w ≡ w
   step-none e = step-by none e
 
-  pub step-abort : (id k : ℕ) (slot : Slot) (m : List ℕ) → here ≡ some (aborted id) → k ≡ 4 → slot ≡ slotOf image id
+  pub step-abort : (id k : ℕ) (slot : Slot) (m : List ℕ) → here ≡ some (aborted id) → k ≡ 4 → slot ≡ imageSlot image id
       → m ≡ undoLogged image (w .pass .found) slot (w .memory)
       → stepOf image log w ≡ wentBy m (past (w .pass) slot id (w .pass .csn .0) 2 (w .pass .end + k))
   step-abort id k slot m e h x q = rw (q, h, x) (step-by _ e)
 
   pub step-commit : (id n k : ℕ) (slot : Slot) (ws : List Write) (m : List ℕ) → here ≡ some (committed id n ws)
-      → k ≡ redoSize ws + 8 → slot ≡ slotOf image id → m ≡ redoAll layBytes (frontWrites (drop (w .pass .end) log)) (w .memory)
+      → k ≡ redoSize ws + 8 → slot ≡ imageSlot image id → m ≡ redoAll layBytes (frontWrites (drop (w .pass .end) log)) (w .memory)
       → stepOf image log w ≡ wentBy m (past (w .pass) slot id n 1 (w .pass .end + k))
   step-commit id n k slot ws m e h x q =
       let f = front-body (w .pass .csn .0) id ws (drop (w .pass .end) log) (group-inv _ _ (committed id n ws) e .1) in

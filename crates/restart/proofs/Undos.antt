@@ -21,7 +21,7 @@ use Rattle.restart.specs.declared.forward.Pass.{Pass}
 use Rattle.restart.specs.Slots.{txAt, oneIf}
 use Rattle.restart.specs.Forward.{Went, wentBy, forwardOf}
 use Rattle.restart.specs.Undo.{runningAt, lostAt, lostBy, runningOf, lostOf}
-use Rattle.restart.specs.Restart.{Outcome, outcome, restartOf}
+use Rattle.restart.specs.Restart.{Outcome, outcome, recoverOf}
 use Rattle.restart.proofs.SlotLaws.{filter-length}
 
 aborts-append : (xs ys : List Tx) → encodeLog (aborts (xs ++ ys)) ≡ encodeLog (aborts xs) ++ encodeLog (aborts ys)
@@ -78,9 +78,9 @@ lost-few image found n = omega (arith, sort-length (lostBy image found n), filte
 -- both parts of step 4 after the pass
 module _ (image : Image) (log m tail : List ℕ) (p : Pass) (m₁ : List ℕ) (passed : p ≡ forwardOf image log m .pass) (forwarded : m₁ ≡ forwardOf image log m .memory) where
   pub restart-case : (n k : ℕ) (m₂ t₂ m₃ t₃ : List ℕ) → Undid (runningOf image p) m₁ tail 0 m₂ t₂ n → Undid (lostOf image p) m₂ t₂ n m₃ t₃ k
-      → (record { end = p .end; csn = p .csn; last = p .last; undone = k; found = p .found } ≡ restartOf image log m tail .answer)
-      × ((m₃ ≡ restartOf image log m tail .memory) × (t₃ ≡ restartOf image log m tail .tail))
-  unfolding restartOf
+      → (record { end = p .end; csn = p .csn; last = p .last; undone = k; found = p .found } ≡ recoverOf image log m tail .answer)
+      × ((m₃ ≡ recoverOf image log m tail .memory) × (t₃ ≡ recoverOf image log m tail .tail))
+  unfolding recoverOf
   restart-case n k m₂ t₂ m₃ t₃ a b =
       let v = undid-more (runningOf image p) (lostOf image p) m₁ tail 0 m₂ t₂ n m₃ t₃ k a b in
       let e : outcome image (wentBy m₁ p) tail ≡ outcome image (forwardOf image log m) tail = ap (λ (w : Went). outcome image w tail) (ap₂ wentBy forwarded passed) in (

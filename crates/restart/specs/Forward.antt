@@ -12,7 +12,7 @@ use Rattle.image.specs.declared.Image.{Image}
 use Rattle.restart.specs.declared.forward.Pass.{Pass}
 use Rattle.restart.specs.declared.forward.Slot.{Slot}
 use Rattle.restart.specs.declared.forward.Slot.the-variants.{At, Nowhere}
-use Rattle.restart.specs.Slots.{txAt, slotOf}
+use Rattle.restart.specs.Slots.{txAt, imageSlot}
 
 -- memory, and what the pass has found
 pub record Went : Type 0 where
@@ -40,7 +40,7 @@ undoLogged image found (At i) m = cond (eqb (getD found i 0) 0) (undoAll layByte
 -- "Commit: do its redo records .. Abort: if the id is in the image and unfinished, undo it"
 abbrev pub memoryAfter : Image → Group → Went → List ℕ
 memoryAfter image (committed id n ws) w = redoAll layBytes ws (w .memory)
-memoryAfter image (aborted id) w = undoLogged image (w .pass .found) (slotOf image id) (w .memory)
+memoryAfter image (aborted id) w = undoLogged image (w .pass .found) (imageSlot image id) (w .memory)
 
 -- past a group of the id in this slot, with that code, to where it ends; csn is the last commit number then
 unfoldable pub past : Pass → Slot → ℕ → ℕ → ℕ → ℕ → Pass
@@ -48,7 +48,7 @@ past p slot id csn code end =
     record { end = end; csn = record { 0 = csn }; last = record { 0 = max (p .last .0) id }; found = marked (p .found) code slot }
 
 abbrev pub passAfter : Image → Group → Pass → Pass
-passAfter image g p = past p (slotOf image (groupId g)) (groupId g) (csnAfter (p .csn .0) g) (codeOf g) (p .end + groupSize g)
+passAfter image g p = past p (imageSlot image (groupId g)) (groupId g) (csnAfter (p .csn .0) g) (codeOf g) (p .end + groupSize g)
 
 abbrev pub onGroup : Image → Group → Went → Went
 onGroup image g w = wentBy (memoryAfter image g w) (passAfter image g (w .pass))

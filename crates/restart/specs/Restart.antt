@@ -31,5 +31,5 @@ outcome image w tail =
       tail = sets tail 0 (encodeLog (aborts (undoneOf image (w .pass))));
     }
 
-unfoldable pub restartOf : Image → List ℕ → List ℕ → List ℕ → Outcome
-restartOf image log m tail = outcome image (forwardOf image log m) tail
+unfoldable pub recoverOf : Image → List ℕ → List ℕ → List ℕ → Outcome
+recoverOf image log m tail = outcome image (forwardOf image log m) tail

@@ -33,8 +33,8 @@ abbrev pub hasId : Image → ℕ → ℕ → Bool
 hasId image id i = eqb (txAt image i .id) id
 
 -- where an id stands in the image
-abbrev pub slotOf : Image → ℕ → Slot
-slotOf image id = firstBelow (hasId image id) (image .count)
+abbrev pub imageSlot : Image → ℕ → Slot
+imageSlot image id = firstBelow (hasId image id) (image .count)
 
 -- one element, or none
 abbrev pub oneIf : {A : Type 0} → Bool → A → List A

@@ -12,7 +12,7 @@ ghost use Prim.Native.Nat.{_≤_, max};
 ghost use lib.ListN.{length};
 ghost use Rattle.recovery.specs.Replay.{redoAll, layBytes};
 ghost use Rattle.log.specs.Record.{readRecord};
-ghost use Rattle.restart.specs.Slots.{slotOf};
+ghost use Rattle.restart.specs.Slots.{imageSlot};
 ghost use Rattle.restart.specs.Forward.{wentBy, undoLogged, past, forwardOf};
 ghost use Rattle.restart.specs.Turns.{Undoable, Below, layFront, frontSize, frontWrites, stepOf};
 
@@ -33,7 +33,7 @@ pub enum Slot {
 
 fn find(image: Image, id: TxId) -> Slot
     requires { ⌜ image .count ≤ 8 ⌝ }
-    ensures { λ r. ⌜ r ≡ slotOf image (id .0) ⌝ }
+    ensures { λ r. ⌜ r ≡ imageSlot image (id .0) ⌝ }
 {
     let n = image.count as usize;
     let mut i: usize = 0;

@@ -12,7 +12,7 @@ ghost use mathlib.Core.Path.{_≡_};
 ghost use mathlib.Core.Bool.{true};
 ghost use lib.ListN.{length};
 ghost use Rattle.image.specs.Rules.{keepsRules};
-ghost use Rattle.restart.specs.Restart.{restartOf};
+ghost use Rattle.restart.specs.Restart.{recoverOf};
 
 // Where the log ends, counted from the front of the part handed in, the last commit number found, the last id given, how many transactions
 // step 4 undid, and for each transaction of the image a code: 0 no group of its id found, 1 a commit first, 2 an abort first.
@@ -29,9 +29,9 @@ pub fn recover(image: Image, log: &[u8], memory: &mut [u8], tail: &mut [u8]) -> 
     requires { ⌜ keepsRules image ≡ true ⌝ }
     requires { ⌜ length (now memory) ≡ 4096 ⌝ }
     requires { ⌜ length (now tail) ≡ 16384 ⌝ }
-    ensures { λ r. ⌜ r ≡ restartOf image (now (log .entry)) (now (memory .entry)) (now (tail .entry)) .answer ⌝ }
-    ensures { λ _. ⌜ now (memory .exit) ≡ restartOf image (now (log .entry)) (now (memory .entry)) (now (tail .entry)) .memory ⌝ }
-    ensures { λ _. ⌜ now (tail .exit) ≡ restartOf image (now (log .entry)) (now (memory .entry)) (now (tail .entry)) .tail ⌝ }
+    ensures { λ r. ⌜ r ≡ recoverOf image (now (log .entry)) (now (memory .entry)) (now (tail .entry)) .answer ⌝ }
+    ensures { λ _. ⌜ now (memory .exit) ≡ recoverOf image (now (log .entry)) (now (memory .entry)) (now (tail .entry)) .memory ⌝ }
+    ensures { λ _. ⌜ now (tail .exit) ≡ recoverOf image (now (log .entry)) (now (memory .entry)) (now (tail .entry)) .tail ⌝ }
 {
     let p = forward(image, log, memory);
     let n = undo_running(image, p, memory, tail);

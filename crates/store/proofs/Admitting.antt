@@ -23,7 +23,7 @@ use Rattle.store.specs.State.{txAt, txsOf, outlineAt, outlinesOf}
 use Rattle.image.specs.Rules.{distinct, outlinesOk}
 use Rattle.store.specs.Rules.{allZero, tailLength, tailOk, roomUsed, unfit}
 use Rattle.store.specs.Numbers.{Check, check, firstNumber, sharedChecks, numberBy}
-use Rattle.store.specs.Admission.{headOk, measuredIf, measuredTxs, measuredTail, admission, numberAfter, Seen}
+use Rattle.store.specs.Admission.{countersOk, measuredIf, measuredTxs, measuredTail, admission, numberAfter, Seen}
 use Rattle.store.proofs.Fits.{Fit, fit, unfit-no, running-redo}
 use Rattle.store.proofs.Checks.{stops, passes, passed}
 
@@ -94,10 +94,10 @@ module _ (s : State) where
 
 module _ (s : State) (t : List ℕ) where
   abbrev head : Bool
-  head = headOk (s .recovered) (s .logend) (s .ondisk .0) (s .assigned .0) (s .count)
+  head = countersOk (s .recovered) (s .logend) (s .ondisk .0) (s .assigned .0) (s .count)
 
   pub unfit-head : head ≡ false → unfit s t ≡ true
-  unfolding unfit headOk
+  unfolding unfit countersOk
   unfit-head e =
       rw (length-up (outlineAt s) (s .count) 0)
       (go (s .recovered) (leb (s .logend) 16384) (leb (s .ondisk .0) (s .assigned .0)) (leb (s .count) 8) (outlinesOk (s .lastid .0) (s .assigned .0) (outlinesOf s))
@@ -131,12 +131,12 @@ module _ (s : State) (t : List ℕ) where
 
   module _ (e : head ≡ true) where
     pub head-count : s .count ≤ 8
-    unfolding headOk
+    unfolding countersOk
     head-count = leb-true _ _ (and-right (s .recovered && leb (s .logend) 16384 && leb (s .ondisk .0) (s .assigned .0)) (leb (s .count) 8) e)
 
     pub unfit-none : outlinesOk (s .lastid .0) (s .assigned .0) (outlinesOf s) && every redoOk (txsOf s) ≡ true → tailOk (s .ondisk .0) (s .assigned .0) t ≡ true
         → roomUsed s t ≤ 16384 → unfit s t ≡ false
-    unfolding headOk
+    unfolding countersOk
     unfit-none m q h =
         let a = s .recovered in
         let b = leb (s .logend) 16384 in

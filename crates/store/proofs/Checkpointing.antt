@@ -19,7 +19,7 @@ use Rattle.store.specs.declared.State.{State}
 use Rattle.store.specs.State.{imageOf, unrecovered}
 use Rattle.store.specs.Answer.{done, cut, refused}
 use Rattle.store.specs.Stored.{stored, zeroed}
-use Rattle.store.specs.Checkpoint.{slotStores, intoA, slotAt, slotName, imageStores, checkpointStores, checkpointPlan, checkpointOf}
+use Rattle.store.specs.Checkpoint.{storesAt, intoA, targetAt, targetName, imageStores, checkpointStores, checkpointPlan, checkpointOf}
 use Rattle.store.proofs.Storing.{diskNumber, disk-admitted, disk-passes, stored-refused, stored-cut, stored-done}
 
 -- ---- the stores
@@ -29,13 +29,13 @@ apply-append [] ys d = refl
 apply-append (store i v ∷ xs) ys d = apply-append xs ys (set d i v)
 
 module _ (at name : ℕ) (bytes : List ℕ) where
-  pub length-slot : length (slotStores at name bytes) ≡ length bytes + 1
+  pub length-slot : length (storesAt at name bytes) ≡ length bytes + 1
   length-slot = simp (length-append, length-copies) (omega arith)
 
   module _ (d : List ℕ) (allowed made : ℕ) (e : made ≡ min allowed (length (copies at bytes))) where
     -- the allowance ends within the image, or right after it
     pub slot-short : made ≡ allowed
-        → (made ≡ min allowed (length (slotStores at name bytes))) × (apply (take allowed (copies at bytes)) d ≡ apply (take allowed (slotStores at name bytes)) d)
+        → (made ≡ min allowed (length (storesAt at name bytes))) × (apply (take allowed (copies at bytes)) d ≡ apply (take allowed (storesAt at name bytes)) d)
     slot-short h =
         let c = length-copies at bytes in (
           omega (arith, length-slot, c, e, h),
@@ -44,32 +44,32 @@ module _ (at name : ℕ) (bytes : List ℕ) where
 
     -- one more store is allowed
     pub slot-whole : (made ≡ allowed → ⊥)
-        → (made + 1 ≡ min allowed (length (slotStores at name bytes))) × (set (apply (take allowed (copies at bytes)) d) 0 name ≡ apply (take allowed (slotStores at name bytes)) d)
+        → (made + 1 ≡ min allowed (length (storesAt at name bytes))) × (set (apply (take allowed (copies at bytes)) d) 0 name ≡ apply (take allowed (storesAt at name bytes)) d)
     slot-whole h =
         let c = length-copies at bytes in
-        let p : made + 1 ≡ min allowed (length (slotStores at name bytes)) = omega (arith, length-slot, c, e, h) in (
+        let p : made + 1 ≡ min allowed (length (storesAt at name bytes)) = omega (arith, length-slot, c, e, h) in (
           p,
           sym
-              (ap (λ (ss : List Store). apply ss d) (take-all allowed (slotStores at name bytes) (omega (arith, length-slot, c, e, h)))
+              (ap (λ (ss : List Store). apply ss d) (take-all allowed (storesAt at name bytes) (omega (arith, length-slot, c, e, h)))
               ∙ apply-append (copies at bytes) (store 0 name ∷ []) d
               ∙ ap (λ (ss : List Store). set (apply ss d) 0 name) (sym (take-all allowed (copies at bytes) (omega (arith, e, h))))),
         )
 
 -- which slot
 module _ (pointer : ℕ) (bytes : List ℕ) where
-  pub into-a-fresh : pointer ≡ 0 → slotStores 1 1 bytes ≡ imageStores pointer bytes
+  pub into-a-fresh : pointer ≡ 0 → storesAt 1 1 bytes ≡ imageStores pointer bytes
   into-a-fresh e = rw (eq-eqb pointer 0 e)
 
-  pub into-a : (pointer ≡ 0 → ⊥) → pointer ≡ 2 → slotStores 1 1 bytes ≡ imageStores pointer bytes
+  pub into-a : (pointer ≡ 0 → ⊥) → pointer ≡ 2 → storesAt 1 1 bytes ≡ imageStores pointer bytes
   into-a h e = rw (ne-eqb pointer 0 h, eq-eqb pointer 2 e)
 
-  pub into-b : (pointer ≡ 0 → ⊥) → (pointer ≡ 2 → ⊥) → slotStores 8654 2 bytes ≡ imageStores pointer bytes
+  pub into-b : (pointer ≡ 0 → ⊥) → (pointer ≡ 2 → ⊥) → storesAt 8654 2 bytes ≡ imageStores pointer bytes
   into-b h e = rw (ne-eqb pointer 0 h, ne-eqb pointer 2 e)
 
 -- "only its used bytes", and the pointer byte
 pub checkpoint-length : (s : State) (d m : List ℕ) → length m ≡ 4096 → length (checkpointStores s d m) ≡ imageSize (imageOf s) + 1
 checkpoint-length s d m l =
-    length-slot (slotAt (getD d 0 0)) (slotName (getD d 0 0)) (encodeImage (imageOf s) m) ∙ ap (λ (n : ℕ). n + 1) (length-content (contentOf (imageOf s)) m l)
+    length-slot (targetAt (getD d 0 0)) (targetName (getD d 0 0)) (encodeImage (imageOf s) m) ∙ ap (λ (n : ℕ). n + 1) (length-content (contentOf (imageOf s)) m l)
 
 -- ---- what stands on the disk after n stores
 
@@ -78,26 +78,26 @@ module _ (s : State) (d m : List ℕ) (n : ℕ) (l : length m ≡ 4096) where
   bytes = encodeImage (imageOf s) m
 
   -- cut: the pointer byte is old, and of the slot that it doesn't name the first n bytes are new
-  pub checkpoint-part : n ≤ imageSize (imageOf s) → apply (take n (checkpointStores s d m)) d ≡ sets d (slotAt (getD d 0 0)) (take n bytes)
+  pub checkpoint-part : n ≤ imageSize (imageOf s) → apply (take n (checkpointStores s d m)) d ≡ sets d (targetAt (getD d 0 0)) (take n bytes)
   checkpoint-part h =
       let p = getD d 0 0 in
-      let c = length-copies (slotAt p) bytes in
+      let c = length-copies (targetAt p) bytes in
       let k = length-content (contentOf (imageOf s)) m l in
-      ap (λ (ss : List Store). apply ss d) (take-append-le n (copies (slotAt p) bytes) (store 0 (slotName p) ∷ []) (omega (arith, c, k, h)))
-      ∙ copies-cut n (slotAt p) bytes d
+      ap (λ (ss : List Store). apply ss d) (take-append-le n (copies (targetAt p) bytes) (store 0 (targetName p) ∷ []) (omega (arith, c, k, h)))
+      ∙ copies-cut n (targetAt p) bytes d
 
   -- done: the whole image, and the pointer byte names it
-  pub checkpoint-whole : imageSize (imageOf s) < n → apply (take n (checkpointStores s d m)) d ≡ set (sets d (slotAt (getD d 0 0)) bytes) 0 (slotName (getD d 0 0))
+  pub checkpoint-whole : imageSize (imageOf s) < n → apply (take n (checkpointStores s d m)) d ≡ set (sets d (targetAt (getD d 0 0)) bytes) 0 (targetName (getD d 0 0))
   checkpoint-whole h =
       let p = getD d 0 0 in
-      let c = length-copies (slotAt p) bytes in
+      let c = length-copies (targetAt p) bytes in
       let k = length-content (contentOf (imageOf s)) m l in
-      ap (λ (ss : List Store). apply ss d) (take-all n (slotStores (slotAt p) (slotName p) bytes) (omega (arith, length-slot (slotAt p) (slotName p) bytes, k, h)))
-      ∙ apply-append (copies (slotAt p) bytes) (store 0 (slotName p) ∷ []) d
-      ∙ ap (λ (x : List ℕ). set x 0 (slotName p))
-      (ap (λ (ss : List Store). apply ss d) (sym (take-all n (copies (slotAt p) bytes) (omega (arith, c, k, h))))
-      ∙ copies-cut n (slotAt p) bytes d
-      ∙ ap (sets d (slotAt p)) (take-all n bytes (omega (arith, k, h))))
+      ap (λ (ss : List Store). apply ss d) (take-all n (storesAt (targetAt p) (targetName p) bytes) (omega (arith, length-slot (targetAt p) (targetName p) bytes, k, h)))
+      ∙ apply-append (copies (targetAt p) bytes) (store 0 (targetName p) ∷ []) d
+      ∙ ap (λ (x : List ℕ). set x 0 (targetName p))
+      (ap (λ (ss : List Store). apply ss d) (sym (take-all n (copies (targetAt p) bytes) (omega (arith, c, k, h))))
+      ∙ copies-cut n (targetAt p) bytes d
+      ∙ ap (sets d (targetAt p)) (take-all n bytes (omega (arith, k, h))))
 
 -- what stands before and behind a run of stores stays
 pub sets-before : (vs d : List ℕ) (a j : ℕ) → j ≤ a → take j (sets d a vs) ≡ take j d
@@ -116,7 +116,7 @@ module _ (s : State) (d m t : List ℕ) (n : ℕ) (z : diskNumber s d m t ≡ 0)
   image = encodeImage (imageOf s) m
 
   abbrev slot : ℕ
-  slot = slotAt (getD d 0 0)
+  slot = targetAt (getD d 0 0)
 
   slot-range : (1 ≤ slot) × (slot ≤ 8654)
   slot-range = go (intoA (getD d 0 0))
@@ -148,34 +148,34 @@ module _ (s : State) (d m t : List ℕ) (n : ℕ) (z : diskNumber s d m t ≡ 0)
 
     -- A, and the pointer byte, which names it
     pub kept-a : getD d 0 0 ≡ 1 → take 8654 left ≡ take 8654 d
-    kept-a e = ap (take 8654) part-left ∙ sets-before (take n image) d slot 8654 (omega (arith, ap slotAt e))
+    kept-a e = ap (take 8654) part-left ∙ sets-before (take n image) d slot 8654 (omega (arith, ap targetAt e))
 
     -- B, and the log behind it
     pub kept-b : getD d 0 0 ≡ 2 → drop 8654 left ≡ drop 8654 d
-    kept-b e = ap (drop 8654) part-left ∙ sets-behind (take n image) d slot 8654 (omega (arith, part-size, ap slotAt e))
+    kept-b e = ap (drop 8654) part-left ∙ sets-behind (take n image) d slot 8654 (omega (arith, part-size, ap targetAt e))
 
   -- then the pointer byte names the slot that holds the image, and the log is the same
   module _ (h : imageSize (imageOf s) < n) where
-    whole-left : left ≡ set (sets d slot image) 0 (slotName (getD d 0 0))
+    whole-left : left ≡ set (sets d slot image) 0 (targetName (getD d 0 0))
     whole-left = checkpoint-whole s d m n (disk-admitted s d m t z .memory) h
 
-    pub new-pointer : getD left 0 0 ≡ slotName (getD d 0 0)
+    pub new-pointer : getD left 0 0 ≡ targetName (getD d 0 0)
     new-pointer =
         ap (λ (x : List ℕ). getD x 0 0) whole-left
-        ∙ getD-set-same (sets d slot image) 0 (slotName (getD d 0 0)) 0 (omega (arith, length-sets d slot image, disk-admitted s d m t z .disk))
+        ∙ getD-set-same (sets d slot image) 0 (targetName (getD d 0 0)) 0 (omega (arith, length-sets d slot image, disk-admitted s d m t z .disk))
 
     pub new-image : drop slot left ≡ image ++ drop (slot + length image) d
     new-image =
         let l = disk-admitted s d m t z .disk in
         ap (drop slot) whole-left
-        ∙ drop-set-lt slot (sets d slot image) 0 (slotName (getD d 0 0)) (omega (arith, slot-range .0))
+        ∙ drop-set-lt slot (sets d slot image) 0 (targetName (getD d 0 0)) (omega (arith, slot-range .0))
         ∙ ap (drop slot) (sets-eq image d slot (omega (arith, slot-range .1, image-length, l)) ∙ append-assoc (take slot d) image (drop (slot + length image) d))
         ∙ drop-at (take slot d) (image ++ drop (slot + length image) d) slot (length-take-le slot d (omega (arith, slot-range .1, l)))
 
     pub new-log : drop 17307 left ≡ drop 17307 d
     new-log =
         ap (drop 17307) whole-left
-        ∙ drop-set-lt 17307 (sets d slot image) 0 (slotName (getD d 0 0)) (omega arith)
+        ∙ drop-set-lt 17307 (sets d slot image) 0 (targetName (getD d 0 0)) (omega arith)
         ∙ sets-behind image d slot 17307 (omega (arith, slot-range .1, image-length))
 
 -- ---- the cases, as the code comes to them
@@ -219,7 +219,7 @@ module _ (s : State) (d m t : List ℕ) (allowed : ℕ) where
 
       needed : length (checkpointStores s d m) ≡ n + 1
       needed =
-          length-slot (slotAt (getD d 0 0)) (slotName (getD d 0 0)) (encodeImage (imageOf s) m)
+          length-slot (targetAt (getD d 0 0)) (targetName (getD d 0 0)) (encodeImage (imageOf s) m)
           ∙ ap (λ (k : ℕ). k + 1) (ap length (sym (e .bytes)) ∙ e .counted)
 
       on-disk : y ≡ apply (take allowed (checkpointStores s d m)) d

@@ -17,8 +17,8 @@ use Rattle.store.specs.Rules.{keepsImageRules, tailLength, tailOk, roomU
 use Rattle.store.specs.Numbers.{Check, firstNumber, sharedChecks}
 
 -- recovered, and the image rules of the counters
-unfoldable pub headOk : Bool → ℕ → ℕ → ℕ → ℕ → Bool
-headOk recovered logEnd ondisk assigned count = recovered && leb logEnd 16384 && leb ondisk assigned && leb count 8
+unfoldable pub countersOk : Bool → ℕ → ℕ → ℕ → ℕ → Bool
+countersOk recovered logend ondisk assigned count = recovered && leb logend 16384 && leb ondisk assigned && leb count 8
 
 abbrev pub measuredIf : Bool → ℕ → Measured
 measuredIf true n = record { ok = true; room = n }

@@ -12,21 +12,21 @@ use Rattle.store.specs.State.{imageOf}
 use Rattle.store.specs.Stored.{DiskOutcome, Plan, storedBy}
 
 -- an image's bytes "in order; then the pointer byte"
-abbrev pub slotStores : ℕ → ℕ → List ℕ → List Store
-slotStores at name bytes = copies at bytes ++ (store 0 name ∷ [])
+abbrev pub storesAt : ℕ → ℕ → List ℕ → List Store
+storesAt at name bytes = copies at bytes ++ (store 0 name ∷ [])
 
 -- "into A if the pointer byte is 0 or 2, else into B": A starts at offset 1, B at 8,654; the pointer byte names A by 1, B by 2
 abbrev pub intoA : ℕ → Bool
 intoA pointer = eqb pointer 0 || eqb pointer 2
 
-abbrev pub slotAt : ℕ → ℕ
-slotAt pointer = cond (intoA pointer) 1 8654
+abbrev pub targetAt : ℕ → ℕ
+targetAt pointer = cond (intoA pointer) 1 8654
 
-abbrev pub slotName : ℕ → ℕ
-slotName pointer = cond (intoA pointer) 1 2
+abbrev pub targetName : ℕ → ℕ
+targetName pointer = cond (intoA pointer) 1 2
 
 abbrev pub imageStores : ℕ → List ℕ → List Store
-imageStores pointer bytes = slotStores (slotAt pointer) (slotName pointer) bytes
+imageStores pointer bytes = storesAt (targetAt pointer) (targetName pointer) bytes
 
 -- "only its used bytes": those of the encoding
 abbrev pub checkpointStores : State → List ℕ → List ℕ → List Store

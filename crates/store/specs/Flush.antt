@@ -12,8 +12,8 @@ use Rattle.store.specs.Stored.{DiskOutcome, Plan, storedBy}
 
 -- the state with this log end and commit number on disk
 abbrev pub withLog : State → ℕ → Csn → State
-withLog s logEnd ondisk =
-    record { recovered = s .recovered; logend = logEnd; ondisk = ondisk; assigned = s .assigned; lastid = s .lastid; count = s .count; txs = s .txs }
+withLog s logend ondisk =
+    record { recovered = s .recovered; logend = logend; ondisk = ondisk; assigned = s .assigned; lastid = s .lastid; count = s .count; txs = s .txs }
 
 -- "the first k groups of the tail, or all if fewer"
 abbrev pub firstGroups : State → List ℕ → ℕ → List Group

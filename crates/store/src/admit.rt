@@ -7,7 +7,7 @@ use log::scan::read_log;
 ghost use mathlib.Core.Path.{_≡_};
 ghost use Prim.Native.Nat.{_≤_};
 ghost use Rattle.store.specs.Rules.{allZero};
-ghost use Rattle.store.specs.Admission.{headOk, measuredTxs, measuredTail, admission};
+ghost use Rattle.store.specs.Admission.{countersOk, measuredTxs, measuredTail, admission};
 
 // Whether what was looked at keeps its rules, and the log room that it takes.
 pub struct Measured {
@@ -36,8 +36,8 @@ fn all_zero(s: &[u8]) -> bool
 }
 
 // The counters: recovered, and the image rules of the log's end, the two commit numbers and the count.
-fn head_ok(recovered: bool, logend: u16, ondisk: Csn, assigned: Csn, count: u8) -> bool
-    ensures { λ r. ⌜ r ≡ headOk recovered logend (ondisk .0) (assigned .0) count ⌝ }
+fn counters_ok(recovered: bool, logend: u16, ondisk: Csn, assigned: Csn, count: u8) -> bool
+    ensures { λ r. ⌜ r ≡ countersOk recovered logend (ondisk .0) (assigned .0) count ⌝ }
 {
     if !recovered {
         return false;
@@ -120,7 +120,7 @@ impl State {
                 room: 0,
             };
         }
-        if !head_ok(
+        if !counters_ok(
             self.recovered,
             self.logend,
             self.ondisk,

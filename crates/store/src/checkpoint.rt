@@ -11,13 +11,13 @@ ghost use Prim.Native.Nat.{_+_, _<_, _≤_, min};
 ghost use lib.ListN.{length, take, getD};
 ghost use Rattle.log.specs.Stores.{apply};
 ghost use Rattle.store.specs.State.{imageOf};
-ghost use Rattle.store.specs.Checkpoint.{slotStores, imageStores, checkpointOf};
+ghost use Rattle.store.specs.Checkpoint.{storesAt, imageStores, checkpointOf};
 
 // An image into the slot that starts at an offset, then its name into the pointer byte, as far as stores are allowed; how many were made.
-fn store_slot(disk: &mut [u8], at: usize, name: u8, image: &[u8], allowed: usize) -> usize
+fn store_at(disk: &mut [u8], at: usize, name: u8, image: &[u8], allowed: usize) -> usize
     requires { ⌜ (0 < length (now disk)) × (at + length (now image) ≤ length (now disk)) ⌝ }
-    ensures { λ r. ⌜ r ≡ min allowed (length (slotStores at name (now (image .entry)))) ⌝ }
-    ensures { λ _. ⌜ now (disk .exit) ≡ apply (take allowed (slotStores at name (now (image .entry)))) (now (disk .entry)) ⌝ }
+    ensures { λ r. ⌜ r ≡ min allowed (length (storesAt at name (now (image .entry)))) ⌝ }
+    ensures { λ _. ⌜ now (disk .exit) ≡ apply (take allowed (storesAt at name (now (image .entry)))) (now (disk .entry)) ⌝ }
 {
     let made = copy_up(disk, at, image, allowed);
     if made == allowed {
@@ -35,12 +35,12 @@ fn store_image(disk: &mut [u8], image: &[u8], allowed: usize) -> usize
 {
     let pointer = disk[0];
     if pointer == 0 {
-        return store_slot(disk, 1, 1, image, allowed);
+        return store_at(disk, 1, 1, image, allowed);
     }
     if pointer == 2 {
-        return store_slot(disk, 1, 1, image, allowed);
+        return store_at(disk, 1, 1, image, allowed);
     }
-    store_slot(disk, 8654, 2, image, allowed)
+    store_at(disk, 8654, 2, image, allowed)
 }
 
 impl State {

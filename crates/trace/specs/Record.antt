@@ -4,14 +4,14 @@ use mathlib.Core.Bool.{cond}
 use mathlib.Core.List.{List, []}
 use lib.ListN.{length, getD, take, drop}
 use lib.Dec.{eqb}
-use Rattle.log.specs.Number.{be2, be4}
+use Rattle.log.specs.Number.{be16, be32}
 use Rattle.trace.specs.declared.record.Record.{Record}
 
 -- all zero, which is no call, where the bytes are not 64
 unfoldable pub recordOf : List ℕ → Record
 recordOf b =
     cond (eqb (length b) 64)
-    (record { call = getD b 0 0; id = record { 0 = be2 b 2 }; addr = be4 b 4; len = be4 b 8; groups = be4 b 12; allowed = be4 b 16 })
+    (record { call = getD b 0 0; id = record { 0 = be16 b 2 }; addr = be32 b 4; len = be32 b 8; groups = be32 b 12; allowed = be32 b 16 })
     (record { call = 0; id = record { 0 = 0 }; addr = 0; len = 0; groups = 0; allowed = 0 })
 
 -- the data: as many bytes from 24 on as byte 1 says, at most 40

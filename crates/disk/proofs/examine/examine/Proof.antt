@@ -10,9 +10,9 @@ use Rattle.image.specs.declared.Image.{Image}
 use Rattle.image.specs.Rules.{keepsRules}
 use Rattle.image.proofs.Rules.{image-logend}
 use Rattle.restart.specs.declared.Recovered.{Recovered}
-use Rattle.restart.specs.Restart.{Outcome, restartOf}
+use Rattle.restart.specs.Restart.{Outcome, recoverOf}
 use Rattle.disk.specs.Examine.{stepsOf}
-use Rattle.disk.proofs.Examining.{keeps, steps-are, end-within, undone-within, told, means-3, means-4, means-5, means}
+use Rattle.disk.proofs.Examining.{keeps, steps-are, end-within, undone-within, answered, means-3, means-4, means-5, means}
 use Rattle.disk.proofs.examine.examine.Statement.{statement}
 use Rattle.disk.proofs.examine.examine.Tie as tie
 
@@ -32,7 +32,7 @@ returns : tie.Need-returns
 returns c =
     let r = c .before .before .before .before .refuse .ensures in
     let e = means-3 (c .before .before .before .before .before .before .before .before .before .before .before .before .args .disk .now) (c .before .before .before .before .before .before .before .if1 .taken) in
-    told e (r .0) (r .1 .0) (r .1 .1)
+    answered e (r .0) (r .1 .0) (r .1 .1)
 
 load-requires : tie.Need-load-requires
 load-requires c κs = search needs
@@ -56,7 +56,7 @@ returns-2 c =
     let l = c .before .before .before .before .before .before .before .before .before .before .before in
     let r = c .before .before .before .before .refuse2 .ensures in
     let e = means-4 (entry l .args .disk .now) (l .before .before .if1 .left) (l .load .result) (l .load .last .1 .1 .0) (l .load .ensures .0) (l .load .ensures .1) (not-true _ (c .before .before .before .before .before .before .before .if2 .taken)) in
-    told e (r .0) (r .1 .0) (r .1 .1)
+    answered e (r .0) (r .1 .0) (r .1 .1)
 
 abbrev loaded : tie.Else2 → tie.After-load
 loaded c = c .before .before .before .before
@@ -112,7 +112,7 @@ abbrev diskAt : tie.After-recover → List ℕ
 diskAt c = begun c .args .disk .now
 
 steps : (c : tie.After-recover)
-    → restartOf (imageAt c) (take (length (diskAt c) - (17307 + imageAt c .logend)) (drop (17307 + imageAt c .logend) (diskAt c))) (memoryAt c) (c .before .before .before .before .before .before .before .before .fill-zero .last .0)
+    → recoverOf (imageAt c) (take (length (diskAt c) - (17307 + imageAt c .logend)) (drop (17307 + imageAt c .logend) (diskAt c))) (memoryAt c) (c .before .before .before .before .before .before .before .before .fill-zero .last .0)
     ≡ stepsOf (imageAt c) (memoryAt c) (diskAt c)
 steps c = steps-are (imageAt c) (diskAt c) (memoryAt c) _ (c .before .before .before .before .before .before .before .before .fill-zero .ensures ∙ ap (λ (n : ℕ). replicate n 0) (begun c .pre .2))
 
@@ -164,7 +164,7 @@ returns-3 c =
     let f = found x in
     let e = means-5 (diskAt x) (l .before .before .if1 .left) (l .load .result) (memoryAt x) (l .load .ensures .0) (l .load .ensures .1) (not-false _ (passed x .if2 .left))
     (omega (arith, c .before .before .before .before .before .before .before .if3 .taken, ap (λ (y : Recovered). y .end) f, ap (λ (y : Recovered). y .undone) f)) in
-    told e (r .0) (r .1 .0) (r .1 .1)
+    answered e (r .0) (r .1 .0) (r .1 .1)
 
 same-length-7 : tie.Need-same-length-7
 same-length-7 c = let x = c .before .before .before .before .before .before .before .before .before .before in memory-whole x ∙ sym (begun x .pre .1)
@@ -179,7 +179,7 @@ returns-4 c =
     let f = found x in
     let e = means (diskAt x) (l .before .before .if1 .left) (l .load .result) (memoryAt x) (l .load .ensures .0) (l .load .ensures .1) (not-false _ (passed x .if2 .left))
     (omega (arith, c .before .before .before .if3 .left, ap (λ (y : Recovered). y .end) f, ap (λ (y : Recovered). y .undone) f)) in
-    told e
+    answered e
     (ap (λ (y : Recovered). record { number = 0; end = imageAt x .logend + y .end; csn = y .csn; last = y .last; undone = y .undone; found = y .found }) f)
     (remembered x) (appended x)
 

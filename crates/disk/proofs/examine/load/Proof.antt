@@ -7,7 +7,7 @@ use lib.ListN.{take, drop, replicate}
 use Rattle.image.specs.declared.Image.{Image}
 use Rattle.image.specs.Decode.{decodeOf}
 use Rattle.image.specs.Reading.{memoryOf}
-use Rattle.disk.specs.Layout.{slotOf}
+use Rattle.disk.specs.Layout.{imageAt}
 use Rattle.disk.specs.Examine.{Loaded}
 use Rattle.disk.proofs.Loading.{slot-within, load-none, load-image, memory-loaded}
 use Rattle.disk.proofs.examine.load.Statement.{statement}
@@ -29,12 +29,12 @@ returns c =
       c .before .before .before .fill-zero .ensures ∙ ap (λ (n : ℕ). replicate n 0) (c .before .before .before .before .before .before .before .before .pre .1) ∙ sym (ap (λ (l : Loaded). l .memory) e),
     )
 
-slot-of-requires : tie.Need-slot-of-requires
-slot-of-requires c κs = search needs
+image-at-requires : tie.Need-image-at-requires
+image-at-requires c κs = search needs
 
 -- the slot lies within the images
-slot : (c : tie.After-slot-of) → c .slot-of .result ≤ 8654
-slot c = subst (λ (n : ℕ). n ≤ 8654) (sym (c .slot-of .ensures)) (slot-within (c .before .before .before .before .args .pointer))
+slot : (c : tie.After-image-at) → c .image-at .result ≤ 8654
+slot c = subst (λ (n : ℕ). n ≤ 8654) (sym (c .image-at .ensures)) (slot-within (c .before .before .before .before .args .pointer))
 
 add-copy : tie.Need-add-copy
 add-copy c = omega (arith, slot (c .before))
@@ -76,8 +76,8 @@ returns-2 : tie.Need-returns-2
 returns-2 c =
     let a = c .before .before .before .before .before .before .before .before .before .before .before .args in
     let e = load-image (a .pointer) (a .disk .now) (c .before .before .before .before .before .before .before .before .if1 .left) in
-    let f = c .before .before .before .before .before .before .before .slot-of .result in
-    let s : f ≡ slotOf (a .pointer) = c .before .before .before .before .before .before .before .slot-of .ensures in
+    let f = c .before .before .before .before .before .before .before .image-at .result in
+    let s : f ≡ imageAt (a .pointer) = c .before .before .before .before .before .before .before .image-at .ensures in
     let z : f + 8653 - f ≡ 8653 = omega arith in (
       c .decode .ensures
           ∙ ap decodeOf (ap₂ (λ (n k : ℕ). take n (drop k (a .disk .now))) z s)
@@ -96,7 +96,7 @@ load-spec =
     empty-requires
     same-length
     returns
-    slot-of-requires
+    image-at-requires
     add-copy
     add-copy-2
     sub-copy

@@ -5,7 +5,7 @@ use mathlib.Core.Option.{some}
 use mathlib.Core.Path.{_≡_, sym, ap, ap₂, _∙_}
 use lib.ListN.{getD, drop, replicate}
 use borrow.Author.Tests.{not-true, not-false}
-use Rattle.log.specs.Number.{be2, be4}
+use Rattle.log.specs.Number.{be16, be32}
 use Rattle.log.proofs.Basics.{from}
 use Rattle.transaction.specs.Flat.{emptyTx}
 use Rattle.image.specs.declared.Image.{Image}
@@ -98,7 +98,7 @@ made-here c =
     let n = getD s 12 0 in
     let txs = c .before .before .before .before .before .before .read-txs .result .txs in
     ap₂ (λ (e d : ℕ). imageWith e d (c .before .before .be322 .result) (c .before .be162 .result) n txs) (c .before .before .before .before .be16 .ensures) (c .before .before .before .be32 .ensures)
-    ∙ ap₂ (λ (a l : ℕ). imageWith (be2 s 0) (be4 s 2) a l n txs) (c .before .before .be322 .ensures) (c .before .be162 .ensures)
+    ∙ ap₂ (λ (a l : ℕ). imageWith (be16 s 0) (be32 s 2) a l n txs) (c .before .before .be322 .ensures) (c .before .be162 .ensures)
 
 -- the content that was read, its layout, and what the rules say of it
 found : (c : tie.After-ok)

@@ -7,7 +7,7 @@ use mathlib.Core.Path.{_≡_, sym, ap, ap₂, _∙_}
 use lib.ListN.{length, getD, drop, length-drop}
 use borrow.Author.Tests.{not-true, not-false}
 use Rattle.recovery.specs.Group.{Write}
-use Rattle.log.specs.Number.{be2, be4}
+use Rattle.log.specs.Number.{be16, be32}
 use Rattle.log.proofs.Basics.{from}
 use Rattle.transaction.specs.declared.Tx.{Tx}
 use Rattle.transaction.specs.Flat.{emptyRecords}
@@ -64,7 +64,7 @@ read-at c =
 -- what the head says, if the records are there or not
 head-read : (c : tie.After-read-undos)
     → let s = c .before .before .before .before .before .before .args .s .now in
-    readTx s ≡ savedIf (be2 s 0) (getD s 2 0) (be4 s 3) (readUndos (getD s 7 0) (drop 8 s))
+    readTx s ≡ savedIf (be16 s 0) (getD s 2 0) (be32 s 3) (readUndos (getD s 7 0) (drop 8 s))
 head-read c = tx-undos (c .before .before .before .before .before .before .args .s .now) (c .before .before .before .before .if1 .left) (c .before .before .if2 .left)
 
 found : (c : tie.Else3)
@@ -82,7 +82,7 @@ returns-3 : tie.Need-returns-3
 returns-3 c =
     let s = c .before .before .before .before .before .before .before .before .before .args .s .now in
     let y = undos-none 0 emptyRecords (readUndos (getD s 7 0) (drop 8 s)) (c .before .before .before .read-undos .result) (read-at (c .before .before .before)) (not-true _ (c .before .if3 .taken)) in
-    c .no-tx3 .ensures ∙ sym (ap txRead (head-read (c .before .before .before) ∙ ap (savedIf (be2 s 0) (getD s 2 0) (be4 s 3)) y))
+    c .no-tx3 .ensures ∙ sym (ap txRead (head-read (c .before .before .before) ∙ ap (savedIf (be16 s 0) (getD s 2 0) (be32 s 3)) y))
 
 be16-requires : tie.Need-be16-requires
 be16-requires c κs = search needs
@@ -109,13 +109,13 @@ returns-4 c =
     let s = c .before .before .before .before .before .before .before .before .before .before .before .before .before .before .args .s .now in
     let w = found (c .before .before .before .before .before .before) in
     let r = c .before .before .before .before .before .before .before .before .read-undos .result .undo in
-    let p : c .before .loaded .result ≡ packedTx (saved (be2 s 0) (getD s 2 0) (be4 s 3) (w .0)) =
+    let p : c .before .loaded .result ≡ packedTx (saved (be16 s 0) (getD s 2 0) (be32 s 3) (w .0)) =
     c .before .loaded .ensures
     ∙ ap₂ (λ (i n : ℕ). loaded i (getD s 2 0) n r) (c .before .before .before .before .be16 .ensures) (c .before .before .before .be32 .ensures)
-    ∙ ap (loaded (be2 s 0) (getD s 2 0) (be4 s 3)) (w .2) in
+    ∙ ap (loaded (be16 s 0) (getD s 2 0) (be32 s 3)) (w .2) in
     let z : 8 + c .before .before .before .before .before .before .before .before .read-undos .result .size ≡ 8 + undosSize (w .0) = omega (arith, w .3) in
-    let q : readTx s ≡ some (saved (be2 s 0) (getD s 2 0) (be4 s 3) (w .0)) =
-    head-read (c .before .before .before .before .before .before .before .before) ∙ ap (savedIf (be2 s 0) (getD s 2 0) (be4 s 3)) (w .1) in
+    let q : readTx s ≡ some (saved (be16 s 0) (getD s 2 0) (be32 s 3) (w .0)) =
+    head-read (c .before .before .before .before .before .before .before .before) ∙ ap (savedIf (be16 s 0) (getD s 2 0) (be32 s 3)) (w .1) in
     ap₂ (λ (t : Tx) (m : ℕ). record { ok = true; tx = t; size = m }) p z ∙ sym (ap txRead q)
 
 pub read-tx-spec : {M : Type 1} → statement M

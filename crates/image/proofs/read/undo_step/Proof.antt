@@ -3,7 +3,7 @@ use native.Mathlib.Omega.{arith}
 use mathlib.Core.Path.{_≡_, sym, ap, ap₂, _∙_}
 use lib.ListN.{getD, take, drop}
 use borrow.Author.Tests.{not-true, not-false}
-use Rattle.log.specs.Number.{be2}
+use Rattle.log.specs.Number.{be16}
 use Rattle.log.specs.Record.{inRange}
 use Rattle.transaction.specs.Steps.{pushed}
 use Rattle.transaction.proofs.Ranges.{in-range}
@@ -36,7 +36,7 @@ in-range-requires : tie.Need-in-range-requires
 in-range-requires c κs = search needs
 
 -- the range rule, of the bytes in place
-ranged : (c : tie.After-in-range) → let s = c .before .before .before .before .before .args .s .now in c .in-range .result ≡ inRange (be2 s 0) (getD s 2 0)
+ranged : (c : tie.After-in-range) → let s = c .before .before .before .before .before .args .s .now in c .in-range .result ≡ inRange (be16 s 0) (getD s 2 0)
 ranged c = let s = c .before .before .before .before .before .args .s .now in c .in-range .ensures ∙ ap (λ (a : ℕ). inRange a (getD s 2 0)) (c .before .before .be16 .ensures)
 
 no-undos-requires-2 : tie.Need-no-undos-requires-2
@@ -70,7 +70,7 @@ part-push-end c = search needs
 push-requires : tie.Need-push-requires
 push-requires c κs =
     let s = c .before .before .before .before .before .before .before .before .args .s .now in
-    let m = in-range (be2 s 0) (getD s 2 0) (sym (ranged (c .before .before .before)) ∙ not-false _ (c .before .before .if2 .left)) in
+    let m = in-range (be16 s 0) (getD s 2 0) (sym (ranged (c .before .before .before)) ∙ not-false _ (c .before .before .if2 .left)) in
     (omega (arith, c .push-arg .given .2, m), omega arith)
 
 returns-4 : tie.Need-returns-4
@@ -80,7 +80,7 @@ returns-4 c =
     let n = getD s 2 0 in
     let g = here-yes s (sym (ranged (c .before .before .before .before)) ∙ not-false _ (c .before .before .before .if2 .left)) (c .before .before .if3 .left) in
     let z : 3 + n - 3 ≡ n = omega arith in
-    let p : c .push .result ≡ pushed (a .undo) (be2 s 0) (take n (drop 3 s)) =
+    let p : c .push .result ≡ pushed (a .undo) (be16 s 0) (take n (drop 3 s)) =
     c .push .ensures ∙ ap₂ (λ (b k : ℕ). pushed (a .undo) b (take k (drop 3 s))) (c .before .before .before .before .before .before .be16 .ensures) z in
     rw p (sym (step-yes (a .undo) s g))
 

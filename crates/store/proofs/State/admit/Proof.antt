@@ -13,7 +13,7 @@ use Rattle.store.specs.declared.State.{State}
 use Rattle.store.specs.State.{txsOf, outlinesOf}
 use Rattle.image.specs.Rules.{outlinesOk}
 use Rattle.store.specs.Rules.{tailLength, tailOk, unfit}
-use Rattle.store.specs.Admission.{headOk, admission}
+use Rattle.store.specs.Admission.{countersOk, admission}
 use Rattle.store.proofs.Admitting.{refusedBy, head-count, unfit-head, unfit-txs, unfit-tail, unfit-room, unfit-none, txs-measured, txs-room, tail-measured, tail-room, reserved-bound, admit-memory, admit-tail, admit-unfit, admit-fit}
 use Rattle.store.proofs.State.admit.Statement.{statement}
 use Rattle.store.proofs.State.admit.Tie as tie
@@ -28,8 +28,8 @@ returns-2 c =
     let args = c .before .before .before .args in
     sym (admit-tail (args .self) (args .memory) (args .tail .now) (c .if2 .taken))
 
-head-ok-requires : tie.Need-head-ok-requires
-head-ok-requires c κs = search needs
+counters-ok-requires : tie.Need-counters-ok-requires
+counters-ok-requires c κs = search needs
 
 refused-2 : (c : tie.Else2) → let args = c .before .before .before .args in
     unfit (args .self) (args .tail .now) ≡ true → admission (args .self) (args .memory) (args .tail .now) ≡ refusedBy 2
@@ -40,12 +40,12 @@ refused-2 c e =
 returns-3 : tie.Need-returns-3
 returns-3 c =
     let args = c .before .before .before .before .before .args in
-    sym (refused-2 (c .before .before) (unfit-head (args .self) (args .tail .now) (sym (c .before .head-ok .ensures) ∙ not-true _ (c .if3 .taken))))
+    sym (refused-2 (c .before .before) (unfit-head (args .self) (args .tail .now) (sym (c .before .counters-ok .ensures) ∙ not-true _ (c .if3 .taken))))
 
 measure-txs-requires : tie.Need-measure-txs-requires
 measure-txs-requires c κs =
     let args = c .before .before .before .before .before .args in
-    head-count (args .self) (args .tail .now) (sym (c .before .head-ok .ensures) ∙ not-false _ (c .if3 .left))
+    head-count (args .self) (args .tail .now) (sym (c .before .counters-ok .ensures) ∙ not-false _ (c .if3 .left))
 
 returns-4 : tie.Need-returns-4
 returns-4 c =
@@ -65,7 +65,7 @@ cast-room c = search needs
 
 -- what was measured, once both parts keep their rules
 pub record Measures (s : State) (t : List ℕ) (a b : ℕ) : Type 0 where
-  pub heads : headOk (s .recovered) (s .logend) (s .ondisk .0) (s .assigned .0) (s .count) ≡ true
+  pub heads : countersOk (s .recovered) (s .logend) (s .ondisk .0) (s .assigned .0) (s .count) ≡ true
   pub txs : outlinesOk (s .lastid .0) (s .assigned .0) (outlinesOf s) && every redoOk (txsOf s) ≡ true
   pub log : tailOk (s .ondisk .0) (s .assigned .0) t ≡ true
   pub end : a ≡ tailLength (s .ondisk .0) t
@@ -79,7 +79,7 @@ measured c =
     let args = c .before .before .before .before .before .before .before .before .before .before .before .args in
     let s = args .self in
     let t = args .tail .now in
-    let h = sym (c .before .before .before .before .before .before .before .head-ok .ensures) ∙ not-false _ (c .before .before .before .before .before .before .if3 .left) in
+    let h = sym (c .before .before .before .before .before .before .before .counters-ok .ensures) ∙ not-false _ (c .before .before .before .before .before .before .if3 .left) in
     let x = not-false _ (c .before .before .before .if4 .left) in
     let y = not-false _ (c .if5 .left) in
     let m = sym (txs-measured s _ (c .before .before .before .before .before .measure-txs .ensures)) ∙ x in
@@ -119,7 +119,7 @@ admit-spec =
     (tie.spec
     returns
     returns-2
-    head-ok-requires
+    counters-ok-requires
     returns-3
     measure-txs-requires
     returns-4

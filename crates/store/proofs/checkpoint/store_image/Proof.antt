@@ -11,8 +11,8 @@ use Rattle.store.proofs.checkpoint.store_image.Tie as tie
 slice-read-pointer : tie.Need-slice-read-pointer
 slice-read-pointer c = search needs
 
-store-slot-requires : tie.Need-store-slot-requires
-store-slot-requires c κs = search needs
+store-at-requires : tie.Need-store-at-requires
+store-at-requires c κs = search needs
 
 same-length : tie.Need-same-length
 same-length c = search needs
@@ -21,10 +21,10 @@ returns : tie.Need-returns
 returns c =
     let a = c .before .before .before .before .before .before .before .before .args in
     let e = into-a-fresh (getD (a .disk .now) 0 0) (a .image .now) (c .before .before .before .before .if1 .taken) in
-    (c .before .before .store-slot .ensures .0 ∙ ap (λ (ss : List Store). min (a .allowed) (length ss)) e, c .before .before .store-slot .ensures .1 ∙ ap (λ (ss : List Store). apply (take (a .allowed) ss) (a .disk .now)) e)
+    (c .before .before .store-at .ensures .0 ∙ ap (λ (ss : List Store). min (a .allowed) (length ss)) e, c .before .before .store-at .ensures .1 ∙ ap (λ (ss : List Store). apply (take (a .allowed) ss) (a .disk .now)) e)
 
-store-slot-requires-2 : tie.Need-store-slot-requires-2
-store-slot-requires-2 c κs = search needs
+store-at-requires-2 : tie.Need-store-at-requires-2
+store-at-requires-2 c κs = search needs
 
 same-length-2 : tie.Need-same-length-2
 same-length-2 c = search needs
@@ -33,10 +33,10 @@ returns-2 : tie.Need-returns-2
 returns-2 c =
     let a = c .before .before .before .before .before .before .before .before .before .args in
     let e = into-a (getD (a .disk .now) 0 0) (a .image .now) (c .before .before .before .before .before .if1 .left) (c .before .before .before .before .if2 .taken) in
-    (c .before .before .store-slot2 .ensures .0 ∙ ap (λ (ss : List Store). min (a .allowed) (length ss)) e, c .before .before .store-slot2 .ensures .1 ∙ ap (λ (ss : List Store). apply (take (a .allowed) ss) (a .disk .now)) e)
+    (c .before .before .store-at2 .ensures .0 ∙ ap (λ (ss : List Store). min (a .allowed) (length ss)) e, c .before .before .store-at2 .ensures .1 ∙ ap (λ (ss : List Store). apply (take (a .allowed) ss) (a .disk .now)) e)
 
-store-slot-requires-3 : tie.Need-store-slot-requires-3
-store-slot-requires-3 c κs = search needs
+store-at-requires-3 : tie.Need-store-at-requires-3
+store-at-requires-3 c κs = search needs
 
 same-length-3 : tie.Need-same-length-3
 same-length-3 c = search needs
@@ -45,19 +45,19 @@ returns-3 : tie.Need-returns-3
 returns-3 c =
     let a = c .before .before .before .before .before .before .before .before .before .args in
     let e = into-b (getD (a .disk .now) 0 0) (a .image .now) (c .before .before .before .before .before .if1 .left) (c .before .before .before .before .if2 .left) in
-    (c .before .before .store-slot3 .ensures .0 ∙ ap (λ (ss : List Store). min (a .allowed) (length ss)) e, c .before .before .store-slot3 .ensures .1 ∙ ap (λ (ss : List Store). apply (take (a .allowed) ss) (a .disk .now)) e)
+    (c .before .before .store-at3 .ensures .0 ∙ ap (λ (ss : List Store). min (a .allowed) (length ss)) e, c .before .before .store-at3 .ensures .1 ∙ ap (λ (ss : List Store). apply (take (a .allowed) ss) (a .disk .now)) e)
 
 pub store-image-spec : {M : Type 1} → statement M
 store-image-spec =
     tie.close
     (tie.spec
     slice-read-pointer
-    store-slot-requires
+    store-at-requires
     same-length
     returns
-    store-slot-requires-2
+    store-at-requires-2
     same-length-2
     returns-2
-    store-slot-requires-3
+    store-at-requires-3
     same-length-3
     returns-3)

@@ -4,8 +4,8 @@ use mathlib.Core.List.{List}
 use mathlib.Core.Path.{ap, _∙_}
 use lib.ListN.{set}
 use Rattle.store.proofs.Checkpointing.{slot-short, slot-whole}
-use Rattle.store.proofs.checkpoint.store_slot.Statement.{statement}
-use Rattle.store.proofs.checkpoint.store_slot.Tie as tie
+use Rattle.store.proofs.checkpoint.store_at.Statement.{statement}
+use Rattle.store.proofs.checkpoint.store_at.Tie as tie
 
 copy-up-requires : tie.Need-copy-up-requires
 copy-up-requires c κs = search needs
@@ -36,8 +36,8 @@ returns-2 c =
     let w = slot-whole (a .at) (a .name) (a .image .now) (a .disk .now) (a .allowed) (up .result) (up .ensures .0) (c .if1 .left) in
     (w .0, ap (λ (d : List ℕ). set d 0 (a .name)) (up .ensures .1) ∙ w .1)
 
-pub store-slot-spec : {M : Type 1} → statement M
-store-slot-spec =
+pub store-at-spec : {M : Type 1} → statement M
+store-at-spec =
     tie.close
     (tie.spec
     copy-up-requires
