@@ -23,7 +23,6 @@ use Rattle.restart.proofs.Recovery.{end-is}
 use Rattle.store.specs.Stored.{DiskOutcome, carriedOut}
 use Rattle.disk.specs.Layout.{pointerOf, imageAt, logFrom}
 use Rattle.disk.specs.Examine.{Loaded, loadOf, Meaning, stepsOf, meant, examineOf}
-use Rattle.disk.specs.declared.call.Restarted.{Restarted}
 use Rattle.disk.specs.Restart.{clearing, refusedWith, ofMeaning}
 use Rattle.disk.specs.Restart as restarts
 use Rattle.disk.proofs.Loading.{slot-within}
@@ -151,7 +150,7 @@ module _ (disk : List ℕ) (d : length disk ≡ 33691) (a : Accepted disk) where
 -- ---- restart after restart
 
 -- the answer, memory and tail are the same
-pub record SameBut (o o' : DiskOutcome Restarted) : Type 0 where
+pub record SameBut (o o' : DiskOutcome) : Type 0 where
   pub result : o .result ≡ o' .result
   pub memory : o .memory ≡ o' .memory
   pub tail : o .tail ≡ o' .tail
@@ -170,8 +169,8 @@ module _ (disk m t m' t' : List ℕ) (n k : ℕ) (d : length disk ≡ 33691) (lm
   left-cleared : examineOf disk .result .number ≡ 0 → left ≡ apply (take n (clearing (examineOf disk .result .end))) disk
   left-cleared number =
       elim (decLe (16384 - examineOf disk .result .end) n) [
-        | yes h ↦ ap (λ (o : DiskOutcome Restarted). o .disk) (restart-done disk m t n d lm lt number h)
-        | no h ↦ ap (λ (o : DiskOutcome Restarted). o .disk) (restart-cut disk m t n d lm lt number (omega (arith, h)))
+        | yes h ↦ ap (λ (o : DiskOutcome). o .disk) (restart-done disk m t n d lm lt number h)
+        | no h ↦ ap (λ (o : DiskOutcome). o .disk) (restart-cut disk m t n d lm lt number (omega (arith, h)))
       ]
 
   -- what the first restart left of the disk: nothing changed, or some of the clearing made
@@ -181,7 +180,7 @@ module _ (disk m t m' t' : List ℕ) (n k : ℕ) (d : length disk ≡ 33691) (lm
       let l : left ≡ apply (take n (clearing (examineOf disk .result .end))) disk = left-cleared number in
       (ap length l ∙ length-apply (take n (clearing (examineOf disk .result .end))) disk ∙ d, ap examineOf l ∙ means-again disk d (accepted-is disk number) n)
   left-is false e =
-      let l : left ≡ disk = ap (λ (o : DiskOutcome Restarted). o .disk) (restart-refused disk m t n d lm lt (eqb-false (examineOf disk .result .number) 0 e)) in
+      let l : left ≡ disk = ap (λ (o : DiskOutcome). o .disk) (restart-refused disk m t n d lm lt (eqb-false (examineOf disk .result .number) 0 e)) in
       (ap length l ∙ d, ap examineOf l)
 
   -- refused, cut or done: a restart of the disk that it left answers and leaves in memory and tail what one of the old disk does
@@ -190,8 +189,8 @@ module _ (disk m t m' t' : List ℕ) (n k : ℕ) (d : length disk ≡ 33691) (lm
   restart-again =
       let l = left-is (eqb (examineOf disk .result .number) 0) refl in
       let m = examineOf disk in
-      subst (λ (o : DiskOutcome Restarted). SameBut o (restarts.restartOf disk m' t' k)) (sym (restart-meant left m' t' k (l .0) lm' lt' ∙ ap (λ (x : Meaning). ofMeaning x left k) (l .1)))
-      (subst (λ (o : DiskOutcome Restarted). SameBut (ofMeaning m left k) o) (sym (restart-meant disk m' t' k d lm' lt'))
+      subst (λ (o : DiskOutcome). SameBut o (restarts.restartOf disk m' t' k)) (sym (restart-meant left m' t' k (l .0) lm' lt' ∙ ap (λ (x : Meaning). ofMeaning x left k) (l .1)))
+      (subst (λ (o : DiskOutcome). SameBut (ofMeaning m left k) o) (sym (restart-meant disk m' t' k d lm' lt'))
       (alike (eqb (m .result .number) 0) (ltb k (length (clearing (m .result .end)))) m left disk k))
 
   -- and with stores enough, which are as many, it leaves the same disk
@@ -202,7 +201,7 @@ module _ (disk m t m' t' : List ℕ) (n k : ℕ) (d : length disk ≡ 33691) (lm
       let c = left-cleared number in
       let e : examineOf left .result .number ≡ 0 = ap (λ (x : Meaning). x .result .number) (l .1) ∙ number in
       let f : examineOf left .result .end ≡ end = ap (λ (x : Meaning). x .result .end) (l .1) in
-      ap (λ (o : DiskOutcome Restarted). o .disk) (restart-done left m' t' k (l .0) lm' lt' e (rw f h))
+      ap (λ (o : DiskOutcome). o .disk) (restart-done left m' t' k (l .0) lm' lt' e (rw f h))
       ∙ ap₂ (λ (x : ℕ) (b : List ℕ). apply (take k (clearing x)) b) f c
       ∙ cleared-again disk d (accepted-is disk number) n k h
-      ∙ sym (ap (λ (o : DiskOutcome Restarted). o .disk) (restart-done disk m' t' k d lm' lt' number h))
+      ∙ sym (ap (λ (o : DiskOutcome). o .disk) (restart-done disk m' t' k d lm' lt' number h))

@@ -9,7 +9,6 @@ use lib.Dec.{eqb}
 use borrow.Author.Tests.{eq-eqb, ne-eqb, eqb-true}
 use Rattle.log.proofs.Basics.{and-left, and-right}
 use Rattle.store.specs.Stored.{DiskOutcome}
-use Rattle.disk.specs.declared.call.Restarted.{Restarted}
 use Rattle.disk.specs.Examine.{examineOf}
 use Rattle.disk.specs.Restart.{restartOf}
 use Rattle.disk.specs.Equal.{sameBytes, accepted, equalOf}
@@ -60,8 +59,8 @@ module _ (a b m m' t t' : List ℕ) (n n' : ℕ) where
   equal-if p q e =
       let x = done-inv a m t n p in
       let y = done-inv b m' t' n' q in
-      let f = ap (λ (o : DiskOutcome Restarted). o .memory) (done-with a m t n x) in
-      let g = ap (λ (o : DiskOutcome Restarted). o .memory) (done-with b m' t' n' y) in
+      let f = ap (λ (o : DiskOutcome). o .memory) (done-with a m t n x) in
+      let g = ap (λ (o : DiskOutcome). o .memory) (done-with b m' t' n' y) in
       both a b (taken a (x .disk-length) (x .number)) (taken b (y .disk-length) (y .number)) ∙ ap (sameBytes (examineOf a .memory)) (sym g ∙ sym e ∙ f) ∙ same-self (examineOf a .memory)
 
   pub equal-only : equalOf a b ≡ true → length m ≡ 4096 → length m' ≡ 4096 → length t ≡ 16384 → length t' ≡ 16384 → 16384 ≤ n → 16384 ≤ n'
@@ -72,7 +71,7 @@ module _ (a b m m' t t' : List ℕ) (n n' : ℕ) where
       let s = and-right (accepted a && accepted b) (sameBytes (examineOf a .memory) (examineOf b .memory)) e in
       let f = done-with a m t n (enough-for a m t n (and-left (accepted a) (accepted b) xy) lm lt h) in
       let g = done-with b m' t' n' (enough-for b m' t' n' (and-right (accepted a) (accepted b) xy) lm' lt' h') in (
-        ap (λ (o : DiskOutcome Restarted). o .result .answer) f,
-        ap (λ (o : DiskOutcome Restarted). o .result .answer) g,
-        ap (λ (o : DiskOutcome Restarted). o .memory) f ∙ same-equal (examineOf a .memory) (examineOf b .memory) s ∙ sym (ap (λ (o : DiskOutcome Restarted). o .memory) g),
+        ap (λ (o : DiskOutcome). o .result .says) f,
+        ap (λ (o : DiskOutcome). o .result .says) g,
+        ap (λ (o : DiskOutcome). o .memory) f ∙ same-equal (examineOf a .memory) (examineOf b .memory) s ∙ sym (ap (λ (o : DiskOutcome). o .memory) g),
       )

@@ -10,13 +10,12 @@ use borrow.Author.Tests.{eq-eqb, ne-eqb, eqb-true, ltb-false}
 use Rattle.log.specs.Stores.{Store, apply, clears}
 use Rattle.log.proofs.Basics.{clash, from}
 use Rattle.log.proofs.StoreLaws.{length-clears}
-use Rattle.store.specs.Answer.{done, answer}
+use Rattle.store.specs.Answer.{done}
 use Rattle.store.specs.Stored.{DiskOutcome, cutShort, madeWhole, carriedOut}
 use Rattle.store.proofs.Storing.{clears-moved, part-stored, carried-cut, carried-done}
-use Rattle.disk.specs.declared.call.Restarted.{Restarted}
 use Rattle.disk.specs.Layout.{lengthsOk}
 use Rattle.disk.specs.Examine.{Meaning, examineOf}
-use Rattle.disk.specs.Restart.{clearing, restartResult, restartPlan, refusedRestart, refusedWith, ofMeaning, restartOf}
+use Rattle.disk.specs.Restart.{clearing, restartPlan, refusedRestart, refusedWith, ofMeaning, restartOf}
 
 pub clearing-length : (end : ℕ) → length (clearing end) ≡ 16384 - end
 clearing-length end = length-clears (17307 + end) (16384 - end)
@@ -41,11 +40,11 @@ log-count end d l =
     length-clears end (lent d - end) ∙ ap (λ (k : ℕ). k - end) (lent-log d l) ∙ sym (clearing-length end)
 
 -- a disk that is accepted, with n stores allowed: cut or done
-abbrev pub cutFrom : Meaning → List ℕ → ℕ → DiskOutcome Restarted
-cutFrom m disk n = cutShort (restartResult (m .result .undone)) (restartPlan m) n disk
+abbrev pub cutFrom : Meaning → List ℕ → ℕ → DiskOutcome
+cutFrom m disk n = cutShort (restartPlan m) n disk
 
-abbrev pub doneFrom : Meaning → List ℕ → ℕ → DiskOutcome Restarted
-doneFrom m disk n = madeWhole (restartResult (m .result .undone)) (restartPlan m) n disk
+abbrev pub doneFrom : Meaning → List ℕ → ℕ → DiskOutcome
+doneFrom m disk n = madeWhole (restartPlan m) n disk
 
 pub restart-1 : (disk memory tail : List ℕ) (allowed : ℕ) → lengthsOk disk memory tail ≡ false → restartOf disk memory tail allowed ≡ refusedWith 1 disk memory tail
 unfolding restartOf
@@ -61,22 +60,21 @@ module _ (disk memory tail : List ℕ) (allowed : ℕ) (d : length disk ≡ 3369
   restart-refused n = restart-meant ∙ rw (ne-eqb (examineOf disk .result .number) 0 n)
 
   module _ (e : examineOf disk .result .number ≡ 0) where
-    taken : restartOf disk memory tail allowed ≡ carriedOut (restartResult (examineOf disk .result .undone)) (restartPlan (examineOf disk)) allowed disk
+    taken : restartOf disk memory tail allowed ≡ carriedOut (restartPlan (examineOf disk)) allowed disk
     taken = restart-meant ∙ rw (eq-eqb (examineOf disk .result .number) 0 e)
 
     pub restart-cut : allowed < 16384 - examineOf disk .result .end → restartOf disk memory tail allowed ≡ cutFrom (examineOf disk) disk allowed
-    restart-cut h = taken ∙ carried-cut _ (restartPlan (examineOf disk)) allowed disk (omega (arith, clearing-length (examineOf disk .result .end)))
+    restart-cut h = taken ∙ carried-cut (restartPlan (examineOf disk)) allowed disk (omega (arith, clearing-length (examineOf disk .result .end)))
 
     pub restart-done : 16384 - examineOf disk .result .end ≤ allowed → restartOf disk memory tail allowed ≡ doneFrom (examineOf disk) disk allowed
-    restart-done h = taken ∙ carried-done _ (restartPlan (examineOf disk)) allowed disk (omega (arith, clearing-length (examineOf disk .result .end)))
+    restart-done h = taken ∙ carried-done (restartPlan (examineOf disk)) allowed disk (omega (arith, clearing-length (examineOf disk .result .end)))
 
 -- ---- the answer "done"
 
-abbrev pub Done? : DiskOutcome Restarted → Type 0
-Done? o = o .result .answer ≡ answer done
+abbrev pub Done? : DiskOutcome → Type 0
+Done? o = o .result .says ≡ done
 
-refused-not : (n : ℕ) → refusedRestart n .answer ≡ answer done → _≡_ {A = ℕ} 0 1
-unfolding refusedRestart
+refused-not : (n : ℕ) → refusedRestart n .says ≡ done → _≡_ {A = ℕ} 0 1
 refused-not n e = cc
 
 -- the buffers then had their lengths, no number refused, and the stores were enough
@@ -94,7 +92,7 @@ module _ (disk memory tail : List ℕ) (allowed : ℕ) where
   abbrev n : ℕ
   n = length (clearing (m .result .end))
 
-  abbrev chosen : Bool → Bool → Bool → Bool → Bool → DiskOutcome Restarted
+  abbrev chosen : Bool → Bool → Bool → Bool → Bool → DiskOutcome
   chosen x y z b w =
       cond (x && y && z) (cond b (cond w (cutFrom m disk allowed) (doneFrom m disk allowed)) (refusedWith (m .result .number) disk (m .memory) (m .tail))) (refusedWith 1 disk memory tail)
 

@@ -21,7 +21,6 @@ use Rattle.restart.proofs.Recovery.{undoneBy, count-is, tail-is, tail-read}
 use Rattle.store.specs.Rules.{allZero, tailLength, tailOk, unfit}
 use Rattle.store.specs.Stored.{DiskOutcome}
 use Rattle.store.proofs.Zeros.{zeros-pass}
-use Rattle.disk.specs.declared.call.Restarted.{Restarted}
 use Rattle.disk.specs.Examine.{Meaning, stepsOf, examineOf}
 use Rattle.disk.specs.Restart.{recoveredState, clearing}
 use Rattle.disk.specs.Restart as left
@@ -66,7 +65,7 @@ module _ (disk : List ℕ) (a : Accepted disk) where
       fit-empty (examineOf disk .result .end) csn last (examineOf disk .tail) (omega (arith, a .fits, s, steps-undone, e, u))
       (aborts-pass (csn .0) undoneIn (16384 - 4 * length undoneIn) (examineOf disk .tail) (steps-tail ∙ tail-is (imageIn disk) (a .rules) (logIn disk) (memoryIn disk)) (tail-reads (csn .0)))
 
-pub record Ready (o : DiskOutcome Restarted) : Type 0 where
+pub record Ready (o : DiskOutcome) : Type 0 where
   pub disk : length (o .disk) ≡ 33691
   pub memory : length (o .memory) ≡ 4096
   pub tail : length (o .tail) ≡ 16384

@@ -8,7 +8,7 @@ use store::State;
 use store::stored::cut_off;
 use transaction::Tx;
 ghost use mathlib.Core.Path.{_≡_};
-ghost use Rattle.disk.specs.Restart.{recoveredState, refusedRestart, restartOf};
+ghost use Rattle.disk.specs.Restart.{recoveredState, ofRestarted, refusedRestart, restartOf};
 
 // Refused or cut, undone is 0 and the state is the unrecovered one.
 pub struct Restarted {
@@ -35,7 +35,7 @@ fn recovered(end: u16, csn: Csn, last: TxId) -> State
 }
 
 fn refused(number: u8) -> Restarted
-    ensures { λ r. ⌜ r ≡ refusedRestart number ⌝ }
+    ensures { λ r. ⌜ ofRestarted r ≡ refusedRestart number ⌝ }
 {
     let state = State::unrecovered();
     Restarted {
@@ -47,7 +47,7 @@ fn refused(number: u8) -> Restarted
 }
 
 pub fn restart(disk: &mut [u8], memory: &mut [u8], tail: &mut [u8], allowed: usize) -> Restarted
-    ensures { λ r. ⌜ r ≡ restartOf (now (disk .entry)) (now (memory .entry)) (now (tail .entry)) allowed .result ⌝ }
+    ensures { λ r. ⌜ ofRestarted r ≡ restartOf (now (disk .entry)) (now (memory .entry)) (now (tail .entry)) allowed .result ⌝ }
     ensures { λ _. ⌜ now (disk .exit) ≡ restartOf (now (disk .entry)) (now (memory .entry)) (now (tail .entry)) allowed .disk ⌝ }
     ensures { λ _. ⌜ now (memory .exit) ≡ restartOf (now (disk .entry)) (now (memory .entry)) (now (tail .entry)) allowed .memory ⌝ }
     ensures { λ _. ⌜ now (tail .exit) ≡ restartOf (now (disk .entry)) (now (memory .entry)) (now (tail .entry)) allowed .tail ⌝ }

@@ -23,12 +23,12 @@ use Rattle.store.specs.declared.State.{State}
 use Rattle.store.specs.declared.choose.Choice.{Choice}
 use Rattle.store.specs.declared.admit.Admission.{Admission}
 use Rattle.store.specs.State.{txAt, txsOf, slotOf, imageOf}
-use Rattle.store.specs.Answer.{done, refused, answer}
+use Rattle.store.specs.Answer.{done, tells}
 use Rattle.store.specs.Rules.{tailLength, roomUsed}
 use Rattle.store.specs.Numbers.{Check, check, firstNumber, txOf, check6, check7, check8, check9, check10, writeChecks}
 use Rattle.store.specs.Admission.{admission, choice}
 use Rattle.store.specs.Steps.{begunState, writtenState, precommittedState, droppedState}
-use Rattle.store.specs.Calls.{refusedReturn, doneReturn, beginNumber, beginOf, writeNumber, writeOf, readNumber, readOf, readAnswerOf, appended, precommitNumber, precommitOf, abortNumber, abortOf, settleNumber, settleOf}
+use Rattle.store.specs.Calls.{refusing, beginNumber, beginOf, writeNumber, writeOf, readNumber, readOf, readAnswerOf, appended, precommitNumber, precommitOf, abortNumber, abortOf, settleNumber, settleOf}
 use Rattle.store.proofs.Checks.{passed}
 use Rattle.store.proofs.Fits.{Fit, status-at, redo-at, room-at}
 use Rattle.store.proofs.Admitting.{accepted, admitted, seen}
@@ -37,22 +37,22 @@ use Rattle.store.proofs.Choosing.{slotted, Running, running, ranged-by-
 -- ---- outcomes, by the number
 
 module _ (s : State) (m t : List ℕ) where
-  pub begin-refused : (n : ℕ) → beginNumber s m t ≡ n → (n ≡ 0 → ⊥) → beginOf s m t ≡ record { answer = answer (refused n); id = record { 0 = 0 }; state = s }
+  pub begin-refused : (n : ℕ) → beginNumber s m t ≡ n → (n ≡ 0 → ⊥) → beginOf s m t ≡ refusing n s
   unfolding beginOf
   begin-refused n e h = rw (e, ne-eqb n 0 h)
 
-  pub begin-done : beginNumber s m t ≡ 0 → beginOf s m t ≡ record { answer = answer done; id = record { 0 = s .lastid .0 + 1 }; state = begunState s }
+  pub begin-done : beginNumber s m t ≡ 0 → beginOf s m t ≡ tells done (s .lastid .0 + 1) 0 (begunState s)
   unfolding beginOf
   begin-done e = rw e
 
   module _ (id : TxId) where
     pub write-refused : (a : ℕ) (bs : List ℕ) (n : ℕ) → writeNumber s m t id a (length bs) ≡ n → (n ≡ 0 → ⊥)
-        → writeOf s m t id a bs ≡ record { result = refusedReturn n s; memory = m; tail = t }
+        → writeOf s m t id a bs ≡ record { result = refusing n s; memory = m; tail = t }
     unfolding writeOf
     write-refused a bs n e h = rw (e, ne-eqb n 0 h)
 
     pub write-done : (a : ℕ) (bs : List ℕ) → writeNumber s m t id a (length bs) ≡ 0
-        → writeOf s m t id a bs ≡ record { result = doneReturn (writtenState s (slotOf s (id .0)) m a bs); memory = sets m a bs; tail = t }
+        → writeOf s m t id a bs ≡ record { result = tells done 0 0 (writtenState s (slotOf s (id .0)) m a bs); memory = sets m a bs; tail = t }
     unfolding writeOf
     write-done a bs e = rw e
 
@@ -64,48 +64,48 @@ module _ (s : State) (m t : List ℕ) where
     unfolding readOf
     read-done a k e = rw e
 
-    pub answer-refused : (a k n : ℕ) → readNumber s m t id a k ≡ n → (n ≡ 0 → ⊥) → readAnswerOf s m t id a k ≡ refusedReturn n s
+    pub answer-refused : (a k n : ℕ) → readNumber s m t id a k ≡ n → (n ≡ 0 → ⊥) → readAnswerOf s m t id a k ≡ refusing n s
     unfolding readAnswerOf
     answer-refused a k n e h = rw (e, ne-eqb n 0 h)
 
-    pub answer-done : (a k : ℕ) → readNumber s m t id a k ≡ 0 → readAnswerOf s m t id a k ≡ doneReturn s
+    pub answer-done : (a k : ℕ) → readNumber s m t id a k ≡ 0 → readAnswerOf s m t id a k ≡ tells done 0 0 s
     unfolding readAnswerOf
     answer-done a k e = rw e
 
     pub precommit-refused : (n : ℕ) → precommitNumber s m t id ≡ n → (n ≡ 0 → ⊥)
-        → precommitOf s m t id ≡ record { result = record { answer = answer (refused n); csn = record { 0 = 0 }; state = s }; memory = m; tail = t }
+        → precommitOf s m t id ≡ record { result = refusing n s; memory = m; tail = t }
     unfolding precommitOf
     precommit-refused n e h = rw (e, ne-eqb n 0 h)
 
     pub precommit-done : precommitNumber s m t id ≡ 0
         → precommitOf s m t id
         ≡ record {
-          result = record { answer = answer done; csn = record { 0 = s .assigned .0 + 1 }; state = precommittedState s (slotOf s (id .0)) };
+          result = tells done (s .assigned .0 + 1) 0 (precommittedState s (slotOf s (id .0)));
           memory = m;
           tail = appended s t (committed (id .0) (s .assigned .0 + 1) (writesOf (txOf s (id .0) .redo)));
         }
     unfolding precommitOf
     precommit-done e = rw e
 
-    pub abort-refused : (n : ℕ) → abortNumber s m t id ≡ n → (n ≡ 0 → ⊥) → abortOf s m t id ≡ record { result = refusedReturn n s; memory = m; tail = t }
+    pub abort-refused : (n : ℕ) → abortNumber s m t id ≡ n → (n ≡ 0 → ⊥) → abortOf s m t id ≡ record { result = refusing n s; memory = m; tail = t }
     unfolding abortOf
     abort-refused n e h = rw (e, ne-eqb n 0 h)
 
     pub abort-done : abortNumber s m t id ≡ 0
         → abortOf s m t id
         ≡ record {
-          result = doneReturn (droppedState s (slotOf s (id .0)));
+          result = tells done 0 0 (droppedState s (slotOf s (id .0)));
           memory = undoAll layBytes (writesOf (txOf s (id .0) .undo)) m;
           tail = appended s t (aborted (id .0));
         }
     unfolding abortOf
     abort-done e = rw e
 
-    pub settle-refused : (n : ℕ) → settleNumber s m t id ≡ n → (n ≡ 0 → ⊥) → settleOf s m t id ≡ refusedReturn n s
+    pub settle-refused : (n : ℕ) → settleNumber s m t id ≡ n → (n ≡ 0 → ⊥) → settleOf s m t id ≡ refusing n s
     unfolding settleOf
     settle-refused n e h = rw (e, ne-eqb n 0 h)
 
-    pub settle-done : settleNumber s m t id ≡ 0 → settleOf s m t id ≡ doneReturn (droppedState s (slotOf s (id .0)))
+    pub settle-done : settleNumber s m t id ≡ 0 → settleOf s m t id ≡ tells done 0 0 (droppedState s (slotOf s (id .0)))
     unfolding settleOf
     settle-done e = rw e
 

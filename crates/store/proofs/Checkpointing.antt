@@ -17,8 +17,9 @@ use Rattle.image.proofs.Sizes.{length-content, image-small}
 use Rattle.image.proofs.RoundTrip.{encode-used}
 use Rattle.store.specs.declared.State.{State}
 use Rattle.store.specs.State.{imageOf, unrecovered}
-use Rattle.store.specs.Answer.{done, cut, refused}
-use Rattle.store.specs.Stored.{stored, zeroed}
+use Rattle.store.specs.Answer.{done, cut, tells}
+use Rattle.store.specs.Calls.{refusing}
+use Rattle.store.specs.Stored.{zeroed}
 use Rattle.store.specs.Checkpoint.{storesAt, intoA, targetAt, targetName, imageStores, checkpointStores, checkpointPlan, checkpointOf}
 use Rattle.store.proofs.Storing.{diskNumber, disk-admitted, disk-passes, stored-refused, stored-cut, stored-done}
 
@@ -188,7 +189,7 @@ pub record Encoded (s : State) (d m b : List ℕ) (n : ℕ) : Type 0 where
   pub small : n ≤ 8653
 
 module _ (s : State) (d m t : List ℕ) (allowed : ℕ) where
-  pub checkpoint-refused : (n : ℕ) → diskNumber s d m t ≡ n → (n ≡ 0 → ⊥) → checkpointOf s d m t allowed ≡ record { result = stored (refused n) 0 s; disk = d; memory = m; tail = t }
+  pub checkpoint-refused : (n : ℕ) → diskNumber s d m t ≡ n → (n ≡ 0 → ⊥) → checkpointOf s d m t allowed ≡ record { result = refusing n s; disk = d; memory = m; tail = t }
   unfolding checkpointOf
   checkpoint-refused = stored-refused s d m t (checkpointPlan s d m t) allowed
 
@@ -225,13 +226,13 @@ module _ (s : State) (d m t : List ℕ) (allowed : ℕ) where
       on-disk : y ≡ apply (take allowed (checkpointStores s d m)) d
       on-disk = g ∙ ap (λ (bs : List ℕ). apply (take allowed (imageStores (getD d 0 0) bs)) d) (e .bytes)
 
-      pub checkpoint-cut : made ≤ n → checkpointOf s d m t allowed ≡ record { result = stored cut made unrecovered; disk = y; memory = zeroed m; tail = zeroed t }
+      pub checkpoint-cut : made ≤ n → checkpointOf s d m t allowed ≡ record { result = tells cut 0 made unrecovered; disk = y; memory = zeroed m; tail = zeroed t }
       unfolding checkpointOf
       checkpoint-cut h =
           let a = disk-admitted s d m t z in
           rw (on-disk, a .memory, a .tail, count) (stored-cut s d m t (checkpointPlan s d m t) allowed z (omega (arith, needed, count)))
 
-      pub checkpoint-done : n < made → checkpointOf s d m t allowed ≡ record { result = stored done made s; disk = y; memory = m; tail = t }
+      pub checkpoint-done : n < made → checkpointOf s d m t allowed ≡ record { result = tells done 0 made s; disk = y; memory = m; tail = t }
       unfolding checkpointOf
       checkpoint-done h = rw (on-disk, count) (stored-done s d m t (checkpointPlan s d m t) allowed z (omega (arith, needed, count)))
 

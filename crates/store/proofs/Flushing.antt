@@ -25,10 +25,11 @@ use Rattle.log.proofs.Torn.{log-cut}
 use Rattle.log.proofs.Basics.{and-left, and-right}
 use Rattle.store.specs.declared.State.{State}
 use Rattle.store.specs.State.{unrecovered, outlinesOf}
-use Rattle.store.specs.Answer.{done, cut, refused}
+use Rattle.store.specs.Answer.{done, cut, tells}
+use Rattle.store.specs.Calls.{refusing}
 use Rattle.image.specs.Rules.{outlinesOk}
 use Rattle.store.specs.Rules.{allZero, tailLength}
-use Rattle.store.specs.Stored.{stored, zeroed}
+use Rattle.store.specs.Stored.{zeroed}
 use Rattle.store.specs.Flush.{withLog, firstGroups, firstSize, flushedState, flushedTail, flushStores, flushPlan, flushOf}
 use Rattle.store.proofs.Zeros.{zeros-behind}
 use Rattle.store.proofs.Fits.{Fit}
@@ -66,7 +67,7 @@ pub record Room (s : State) (d t : List ℕ) (n : ℕ) : Type 0 where
   pub log : s .logend + n ≤ 16384
 
 module _ (s : State) (d m t : List ℕ) (k allowed : ℕ) where
-  pub flush-refused : (n : ℕ) → diskNumber s d m t ≡ n → (n ≡ 0 → ⊥) → flushOf s d m t k allowed ≡ record { result = stored (refused n) 0 s; disk = d; memory = m; tail = t }
+  pub flush-refused : (n : ℕ) → diskNumber s d m t ≡ n → (n ≡ 0 → ⊥) → flushOf s d m t k allowed ≡ record { result = refusing n s; disk = d; memory = m; tail = t }
   unfolding flushOf
   flush-refused = stored-refused s d m t (flushPlan s m t k) allowed
 
@@ -104,7 +105,7 @@ module _ (s : State) (d m t : List ℕ) (k allowed : ℕ) where
           ∙ ap (λ (ss : List Store). apply (take allowed ss) d)
           (sym (copies-moved 17307 (s .logend) (take (read .end) t)) ∙ ap (λ (n : ℕ). copies (17307 + s .logend) (take n t)) size)
 
-      pub flush-cut : made < read .end → flushOf s d m t k allowed ≡ record { result = stored cut made unrecovered; disk = left; memory = zeroed m; tail = zeroed t }
+      pub flush-cut : made < read .end → flushOf s d m t k allowed ≡ record { result = tells cut 0 made unrecovered; disk = left; memory = zeroed m; tail = zeroed t }
       unfolding flushOf
       flush-cut h =
           let a = disk-admitted s d m t z in
@@ -113,7 +114,7 @@ module _ (s : State) (d m t : List ℕ) (k allowed : ℕ) where
 
       pub flush-done : read .end ≤ made
           → flushOf s d m t k allowed
-          ≡ record { result = stored done made (withLog s (s .logend + read .end) (read .csn)); disk = left; memory = m; tail = shifted (read .end) t }
+          ≡ record { result = tells done 0 made (withLog s (s .logend + read .end) (read .csn)); disk = left; memory = m; tail = shifted (read .end) t }
       unfolding flushOf
       flush-done h =
           let l = flush-length s t k in
@@ -121,8 +122,8 @@ module _ (s : State) (d m t : List ℕ) (k allowed : ℕ) where
           ap₂ (λ (n : ℕ) (c : Csn). withLog s (s .logend + n) c) size (ap (λ (x : LogEnd). x .csn) e) in
           stored-done s d m t (flushPlan s m t k) allowed z (omega (arith, size, count))
           ∙ sym
-          (ap₂ (λ (n : ℕ) (u : State). record { result = stored done n u; disk = left; memory = m; tail = shifted (read .end) t }) count w
-          ∙ ap₂ (λ (x : List ℕ) (n : ℕ). record { result = stored done (min allowed (length (flushStores s t k))) (flushedState s t k); disk = x; memory = m; tail = shifted n t }) on-disk size)
+          (ap₂ (λ (n : ℕ) (u : State). record { result = tells done 0 n u; disk = left; memory = m; tail = shifted (read .end) t }) count w
+          ∙ ap₂ (λ (x : List ℕ) (n : ℕ). record { result = tells done 0 (min allowed (length (flushStores s t k))) (flushedState s t k); disk = x; memory = m; tail = shifted n t }) on-disk size)
 
 -- ---- the bytes stored
 

@@ -31,9 +31,7 @@ use Rattle.image.specs.Rules.{alikeTo, distinct}
 use Rattle.image.proofs.Rules.{image-logend, image-ordered, image-count, image-distinct, outline-at, head-at, undo-at, ruled-at, distinct-at}
 use Rattle.recovery.proofs.Bool.{or-left}
 use Rattle.store.specs.Rules.{keepsImageRules, roomUsed, unfit}
-use Rattle.store.specs.declared.call.Begun.{Begun}
-use Rattle.store.specs.declared.call.Precommitted.{Precommitted}
-use Rattle.store.specs.declared.call.Returned.{Returned}
+use Rattle.store.specs.Answer.{Told}
 use Rattle.store.specs.Numbers.{check, txOf, check8, check9, check10, beginChecks, writeChecks, precommitChecks, abortChecks, settleChecks}
 use Rattle.store.specs.Calls.{Outcome, appended, beginNumber, beginOf, writeNumber, writeOf, precommitNumber, precommitOf, abortNumber, abortOf, settleNumber, settleOf}
 use Rattle.store.proofs.Checks.{passed}
@@ -399,7 +397,7 @@ module _ (s : State) (m t : List ℕ) (z : SizedState s) where
   begin-keeps e =
       let a = accepted s (length m) t (beginChecks (s .count) (s .lastid .0) (roomUsed s t)) e in
       let b = begin-free s (roomUsed s t) (image-count (imageOf s) (a .fits .image)) (a .own) in
-      subst (λ (o : Begun). Kept (o .state) t) (sym (begin-done s m t e))
+      subst (λ (o : Told). Kept (o .state) t) (sym (begin-done s m t e))
       (record { fits = unfit-no (begunState s) t (begun-fits s t z (a .fits) (b .0) (b .1)); sizes = begun-sized s z (b .0) })
 
   module _ (id : TxId) where
@@ -420,14 +418,14 @@ module _ (s : State) (m t : List ℕ) (z : SizedState s) where
         let w = writable s t (roomUsed s t) (id .0) a n (x .fits) (x .own) in
         let i : inRange a n ≡ true = rw (le-leb _ _ (g .0), le-leb _ _ (g .1), le-leb _ _ (g .2)) in
         let f = written-fits s t at m a bs z (x .fits) (r .listed) (status-at s t (x .fits) at (r .listed) (r .notCommitting)) (x .memory) w i (ltb-false _ _ (q'' .0)) in
-        subst (λ (o : Outcome Returned). Kept (o .result .state) (o .tail)) (sym (write-done s m t id a bs e))
+        subst (λ (o : Outcome). Kept (o .result .state) (o .tail)) (sym (write-done s m t id a bs e))
         (record { fits = unfit-no (writtenState s at m a bs) t f; sizes = written-sized s z at (r .listed) (image-count (imageOf s) (x .fits .image)) m a bs })
 
     pub precommit-keeps : precommitNumber s m t id ≡ 0 → Kept (precommitOf s m t id .result .state) (precommitOf s m t id .tail)
     precommit-keeps e =
         let x = accepted s (length m) t (precommitChecks s (id .0)) e in
         let r = running s (id .0) (check 12 (eqb (s .assigned .0) 4294967295) ∷ []) (x .own) .0 in
-        subst (λ (o : Outcome Precommitted). Kept (o .result .state) (o .tail)) (sym (precommit-done s m t id e))
+        subst (λ (o : Outcome). Kept (o .result .state) (o .tail)) (sym (precommit-done s m t id e))
         (record {
           fits = unfit-no (precommittedState s at) (appended s t (commitOf s (id .0))) (precommitted-fits s t (id .0) z (x .tail) (x .fits) r);
           sizes = precommitted-sized s z at (r .listed) (image-count (imageOf s) (x .fits .image));
@@ -437,7 +435,7 @@ module _ (s : State) (m t : List ℕ) (z : SizedState s) where
     abort-keeps e =
         let x = accepted s (length m) t (abortChecks s (id .0)) e in
         let r = running s (id .0) [] (x .own) .0 in
-        subst (λ (o : Outcome Returned). Kept (o .result .state) (o .tail)) (sym (abort-done s m t id e))
+        subst (λ (o : Outcome). Kept (o .result .state) (o .tail)) (sym (abort-done s m t id e))
         (record {
           fits = unfit-no (droppedState s at) (appended s t (aborted (id .0))) (aborted-fits s t (id .0) z (x .tail) (x .fits) r);
           sizes = dropped-sized s z at (r .listed) (image-count (imageOf s) (x .fits .image));
@@ -447,5 +445,5 @@ module _ (s : State) (m t : List ℕ) (z : SizedState s) where
     settle-keeps e =
         let x = accepted s (length m) t (settleChecks s (id .0)) e in
         let l = listed-slot s (id .0) (check 14 (eqb (txOf s (id .0) .status) 1 || ltb (s .ondisk .0) (txOf s (id .0) .csn .0)) ∷ []) (x .own) in
-        subst (λ (o : Returned). Kept (o .state) t) (sym (settle-done s m t id e))
+        subst (λ (o : Told). Kept (o .state) t) (sym (settle-done s m t id e))
         (record { fits = unfit-no (droppedState s at) t (settled-fits s t at z (x .fits) (l .0)); sizes = dropped-sized s z at (l .0) (image-count (imageOf s) (x .fits .image)) })

@@ -16,4 +16,3 @@ pub mod Storing
 pub mod Flushing
 pub mod Checkpointing
 pub mod Premises
-pub mod Answers

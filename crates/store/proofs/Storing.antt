@@ -11,9 +11,10 @@ use lib.Dec.{eqb}
 use borrow.Author.Tests.{eq-eqb, ne-eqb, lt-ltb, le-ltb, eqb-true, not-false}
 use Rattle.log.specs.Stores.{Store, store, apply, copies, clears}
 use Rattle.store.specs.declared.State.{State}
-use Rattle.store.specs.Answer.{Word, refused}
+use Rattle.store.specs.Answer.{Told}
 use Rattle.store.specs.Numbers.{firstNumber, sharedChecks}
-use Rattle.store.specs.Stored.{diskChecks, DiskOutcome, Plan, cutShort, madeWhole, carriedOut, stored, storedBy}
+use Rattle.store.specs.Calls.{refusing}
+use Rattle.store.specs.Stored.{diskChecks, DiskOutcome, Plan, cutShort, madeWhole, carriedOut, storedBy}
 use Rattle.store.proofs.Fits.{Fit, unfit-no}
 use Rattle.store.proofs.Checks.{passed}
 use Rattle.store.proofs.Admitting.{accepted}
@@ -58,15 +59,15 @@ part-stored a n ss d ys e =
 
 -- ---- a plan, by the stores allowed
 
-pub carried-cut : {R : Type 0} (result : Word → ℕ → State → R) (p : Plan) (n : ℕ) (d : List ℕ) → n < length (p .stores)
-    → carriedOut result p n d ≡ cutShort result p n d
+pub carried-cut : (p : Plan) (n : ℕ) (d : List ℕ) → n < length (p .stores)
+    → carriedOut p n d ≡ cutShort p n d
 unfolding carriedOut
-carried-cut result p n d h = rw (lt-ltb _ _ h)
+carried-cut p n d h = rw (lt-ltb _ _ h)
 
-pub carried-done : {R : Type 0} (result : Word → ℕ → State → R) (p : Plan) (n : ℕ) (d : List ℕ) → length (p .stores) ≤ n
-    → carriedOut result p n d ≡ madeWhole result p n d
+pub carried-done : (p : Plan) (n : ℕ) (d : List ℕ) → length (p .stores) ≤ n
+    → carriedOut p n d ≡ madeWhole p n d
 unfolding carriedOut
-carried-done result p n d h = rw (le-ltb _ _ h)
+carried-done p n d h = rw (le-ltb _ _ h)
 
 -- ---- a call that is not refused
 
@@ -92,22 +93,22 @@ module _ (s : State) (d m t : List ℕ) where
   -- ---- the outcome, by the number and the stores allowed
 
   module _ (p : Plan) (allowed : ℕ) where
-    pub stored-refused : (n : ℕ) → diskNumber ≡ n → (n ≡ 0 → ⊥) → storedBy s d m t p allowed ≡ record { result = stored (refused n) 0 s; disk = d; memory = m; tail = t }
+    pub stored-refused : (n : ℕ) → diskNumber ≡ n → (n ≡ 0 → ⊥) → storedBy s d m t p allowed ≡ record { result = refusing n s; disk = d; memory = m; tail = t }
     unfolding storedBy
     stored-refused n e h = rw (e, ne-eqb n 0 h)
 
-    pub stored-cut : diskNumber ≡ 0 → allowed < length (p .stores) → storedBy s d m t p allowed ≡ cutShort stored p allowed d
+    pub stored-cut : diskNumber ≡ 0 → allowed < length (p .stores) → storedBy s d m t p allowed ≡ cutShort p allowed d
     unfolding storedBy
-    stored-cut e h = rw e (carried-cut stored p allowed d h)
+    stored-cut e h = rw e (carried-cut p allowed d h)
 
-    pub stored-done : diskNumber ≡ 0 → length (p .stores) ≤ allowed → storedBy s d m t p allowed ≡ madeWhole stored p allowed d
+    pub stored-done : diskNumber ≡ 0 → length (p .stores) ≤ allowed → storedBy s d m t p allowed ≡ madeWhole p allowed d
     unfolding storedBy
-    stored-done e h = rw e (carried-done stored p allowed d h)
+    stored-done e h = rw e (carried-done p allowed d h)
 
 -- the parts of an outcome x, as a contract asks for them of the definition
-pub leaves : {R : Type 0} {o x : DiskOutcome R} {r : R} {d m t : List ℕ} → o ≡ x → r ≡ x .result → d ≡ x .disk → m ≡ x .memory → t ≡ x .tail
+pub leaves : {o x : DiskOutcome} {r : Told} {d m t : List ℕ} → o ≡ x → r ≡ x .result → d ≡ x .disk → m ≡ x .memory → t ≡ x .tail
     → (r ≡ o .result) × ((d ≡ o .disk) × ((m ≡ o .memory) × (t ≡ o .tail)))
-leaves {R} e p q u v = (
-  p ∙ ap (λ (y : DiskOutcome R). y .result) (sym e),
-  (q ∙ ap (λ (y : DiskOutcome R). y .disk) (sym e), (u ∙ ap (λ (y : DiskOutcome R). y .memory) (sym e), v ∙ ap (λ (y : DiskOutcome R). y .tail) (sym e))),
+leaves e p q u v = (
+  p ∙ ap (λ (y : DiskOutcome). y .result) (sym e),
+  (q ∙ ap (λ (y : DiskOutcome). y .disk) (sym e), (u ∙ ap (λ (y : DiskOutcome). y .memory) (sym e), v ∙ ap (λ (y : DiskOutcome). y .tail) (sym e))),
 )

@@ -33,14 +33,12 @@ use Rattle.transaction.proofs.Writes.{bytes-length, sized}
 use Rattle.transaction.proofs.Pushed.{Sized, pushed-writes}
 use Rattle.image.proofs.Rules.{image-count, ruled-at}
 use Rattle.store.specs.declared.State.{State}
-use Rattle.store.specs.declared.call.Begun.{Begun}
-use Rattle.store.specs.declared.call.Precommitted.{Precommitted}
-use Rattle.store.specs.declared.call.Returned.{Returned}
+use Rattle.store.specs.Answer.{done, Told, tells}
 use Rattle.store.specs.State.{txAt, slotOf, imageOf}
 use Rattle.store.specs.Rules.{tailLength, allZero, roomUsed}
 use Rattle.store.specs.Numbers.{check, firstNumber, txOf, beginChecks, writeChecks, precommitChecks, abortChecks, settleChecks, check8, check9, check10}
 use Rattle.store.specs.Steps.{begunState, writtenState, precommittedState, droppedState}
-use Rattle.store.specs.Calls.{Outcome, beginNumber, beginOf, writeNumber, writeOf, doneReturn, refusedReturn, readNumber, readAnswerOf, appended, precommitNumber, precommitOf, abortNumber, abortOf, settleNumber, settleOf}
+use Rattle.store.specs.Calls.{Outcome, beginNumber, beginOf, writeNumber, writeOf, refusing, readNumber, readAnswerOf, appended, precommitNumber, precommitOf, abortNumber, abortOf, settleNumber, settleOf}
 use Rattle.store.specs.View.{viewAt, live}
 use Rattle.store.proofs.Slots.{slot}
 use Rattle.store.proofs.Checks.{passed}
@@ -185,7 +183,7 @@ module _ (s : State) (m t : List ℕ) (z : SizedState s) where
   pub begin-live : beginNumber s m t ≡ 0 → live (beginOf s m t .state) m t ≡ afterBegin (live s m t)
   begin-live e =
       let a = accepted s (length m) t (beginChecks (s .count) (s .lastid .0) (roomUsed s t)) e in
-      ap (λ (r : State). live r m t) (ap (λ (b : Begun). b .state) (begin-done s m t e)) ∙ begun-live (begin-free s (roomUsed s t) (image-count (imageOf s) (a .fits .image)) (a .own) .0)
+      ap (λ (r : State). live r m t) (ap (λ (b : Told). b .state) (begin-done s m t e)) ∙ begun-live (begin-free s (roomUsed s t) (image-count (imageOf s) (a .fits .image)) (a .own) .0)
 
   module _ (id : TxId) where
     abbrev j : ℕ
@@ -209,7 +207,7 @@ module _ (s : State) (m t : List ℕ) (z : SizedState s) where
         let c = view-changed s (writtenState s j m a bs) j _ (written-slot s z j (r .listed) (u .few) m a bs) in
         let g = withWrite (record { addr = a; bytes = old }) (record { addr = a; bytes = bs }) in
         let d : Changed (viewAt s) (viewAt (writtenState s j m a bs)) j (g (viewAt s j)) = record { here = c .here ∙ v; other = c .other } in
-        ap (λ (o : Outcome Returned). live (o .result .state) (o .memory) (o .tail)) (write-done s m t id a bs e)
+        ap (λ (o : Outcome). live (o .result .state) (o .memory) (o .tail)) (write-done s m t id a bs e)
         ∙ written-numbers s m t j a bs
         ∙ ap (with-txs s (sets m a bs) t)
         (edited (viewAt s) (viewAt (writtenState s j m a bs)) (id .0) j g (s .count) 0 (first s (id .0) (r .listed)) d (omega (arith, r .listed))
@@ -220,7 +218,7 @@ module _ (s : State) (m t : List ℕ) (z : SizedState s) where
     unfolding readAnswerOf
     read-same a n = go (eqb (readNumber s m t id a n) 0)
       where
-        go : (b : Bool) → cond b (doneReturn s) (refusedReturn (readNumber s m t id a n) s) .state ≡ s
+        go : (b : Bool) → cond b (tells done 0 0 s) (refusing (readNumber s m t id a n) s) .state ≡ s
         go true = refl
         go false = refl
 
@@ -236,7 +234,7 @@ module _ (s : State) (m t : List ℕ) (z : SizedState s) where
         let c = view-changed s (precommittedState s j) j _ (precommitted-slot s z j (r .listed) (u .few)) in
         let d : Changed (viewAt s) (viewAt (precommittedState s j)) j (inCommit (s .assigned .0 + 1) (viewAt s j)) =
         record { here = c .here ∙ precommitted-view (txAt s j) (s .assigned .0 + 1); other = c .other } in
-        ap (λ (o : Outcome Precommitted). live (o .result .state) (o .memory) (o .tail)) (precommit-done s m t id e)
+        ap (λ (o : Outcome). live (o .result .state) (o .memory) (o .tail)) (precommit-done s m t id e)
         ∙ precommitted-numbers s m (appended s t (commitOf s (id .0))) j
         ∙ ap₂ (λ (ts : List Transaction) (gs : List Group). record { txs = ts; memory = m; tail = gs; csn = s .ondisk .0; lastId = s .lastid .0 })
         (edited (viewAt s) (viewAt (precommittedState s j)) (id .0) j (inCommit (s .assigned .0 + 1)) (s .count) 0 (first s (id .0) (r .listed)) d (omega (arith, r .listed))
@@ -253,7 +251,7 @@ module _ (s : State) (m t : List ℕ) (z : SizedState s) where
         let u = usable s t (id .0) (x .fits) r in
         let y = abort-appends s t (id .0) (x .tail) (x .fits) r in
         let m' = undoAll layBytes (writesOf (txOf s (id .0) .undo)) m in
-        ap (λ (o : Outcome Returned). live (o .result .state) (o .memory) (o .tail)) (abort-done s m t id e)
+        ap (λ (o : Outcome). live (o .result .state) (o .memory) (o .tail)) (abort-done s m t id e)
         ∙ dropped-numbers s m' (appended s t (aborted (id .0))) j
         ∙ ap₂ (λ (ts : List Transaction) (gs : List Group). record { txs = ts; memory = m'; tail = gs; csn = s .ondisk .0; lastId = s .lastid .0 })
         (dropped-txs s (id .0) z (u .few) (r .listed) ∙ ap (λ (i : ℕ). remove i (upFrom (viewAt s) (s .count) 0)) (sym (r .named)))
@@ -265,7 +263,7 @@ module _ (s : State) (m t : List ℕ) (z : SizedState s) where
     settle-live e =
         let x = accepted s (length m) t (settleChecks s (id .0)) e in
         let l = listed-slot s (id .0) (check 14 (eqb (txOf s (id .0) .status) 1 || ltb (s .ondisk .0) (txOf s (id .0) .csn .0)) ∷ []) (x .own) in
-        ap (λ (o : Returned). live (o .state) m t) (settle-done s m t id e)
+        ap (λ (o : Told). live (o .state) m t) (settle-done s m t id e)
         ∙ dropped-numbers s m t j
         ∙ ap (with-txs s m t)
         (dropped-txs s (id .0) z (image-count (imageOf s) (x .fits .image)) (l .0) ∙ ap (λ (i : ℕ). remove i (upFrom (viewAt s) (s .count) 0)) (sym (l .1)))

@@ -11,17 +11,14 @@ use Rattle.log.specs.declared.TxId.{TxId}
 use Rattle.log.specs.Group.{encodeGroup}
 use Rattle.transaction.specs.View.{writesOf}
 use Rattle.store.specs.declared.State.{State}
-use Rattle.store.specs.declared.call.Begun.{Begun}
-use Rattle.store.specs.declared.call.Precommitted.{Precommitted}
-use Rattle.store.specs.declared.call.Returned.{Returned}
 use Rattle.store.specs.State.{slotOf}
-use Rattle.store.specs.Answer.{done, refused, answer}
+use Rattle.store.specs.Answer.{done, refused, Told, tells}
 use Rattle.store.specs.Rules.{tailLength, roomUsed}
 use Rattle.store.specs.Numbers.{txOf, numberBy, beginChecks, readChecks, writeChecks, precommitChecks, abortChecks, settleChecks}
 use Rattle.store.specs.Steps.{begunState, writtenState, precommittedState, droppedState}
 
-pub record Outcome (R : Type 0) : Type 0 where
-  pub result : R
+pub record Outcome : Type 0 where
+  pub result : Told
   pub memory : List ℕ
   pub tail : List ℕ
 
@@ -29,33 +26,30 @@ pub record Outcome (R : Type 0) : Type 0 where
 abbrev pub decided : {A : Type 0} → ℕ → A → A → A
 decided n whenDone whenRefused = cond (eqb n 0) whenDone whenRefused
 
-abbrev pub refusedReturn : ℕ → State → Returned
-refusedReturn n s = record { answer = answer (refused n); state = s }
-
-abbrev pub doneReturn : State → Returned
-doneReturn s = record { answer = answer done; state = s }
+-- a refusal tells its number alone, and gives the state back as it was
+abbrev pub refusing : ℕ → State → Told
+refusing n s = tells (refused n) 0 0 s
 
 -- ---- begin
 
 abbrev pub beginNumber : State → List ℕ → List ℕ → ℕ
 beginNumber s m t = numberBy s (length m) t (beginChecks (s .count) (s .lastid .0) (roomUsed s t))
 
-unfoldable pub beginOf : State → List ℕ → List ℕ → Begun
+unfoldable pub beginOf : State → List ℕ → List ℕ → Told
 beginOf s m t =
     let n = beginNumber s m t in
-    decided n (record { answer = answer done; id = record { 0 = s .lastid .0 + 1 }; state = begunState s })
-    (record { answer = answer (refused n); id = record { 0 = 0 }; state = s })
+    decided n (tells done (s .lastid .0 + 1) 0 (begunState s)) (refusing n s)
 
 -- ---- write
 
 abbrev pub writeNumber : State → List ℕ → List ℕ → TxId → ℕ → ℕ → ℕ
 writeNumber s m t id a n = numberBy s (length m) t (writeChecks s (roomUsed s t) (id .0) a n)
 
-unfoldable pub writeOf : State → List ℕ → List ℕ → TxId → ℕ → List ℕ → Outcome Returned
+unfoldable pub writeOf : State → List ℕ → List ℕ → TxId → ℕ → List ℕ → Outcome
 writeOf s m t id a bs =
     let n = writeNumber s m t id a (length bs) in
-    decided n (record { result = doneReturn (writtenState s (slotOf s (id .0)) m a bs); memory = sets m a bs; tail = t })
-    (record { result = refusedReturn n s; memory = m; tail = t })
+    decided n (record { result = tells done 0 0 (writtenState s (slotOf s (id .0)) m a bs); memory = sets m a bs; tail = t })
+    (record { result = refusing n s; memory = m; tail = t })
 
 -- ---- read and its sister
 
@@ -67,8 +61,8 @@ unfoldable pub readOf : State → List ℕ → List ℕ → TxId → ℕ → ℕ
 readOf s m t id a n = decided (readNumber s m t id a n) (take n (drop a m)) []
 
 -- "A sister call with the same arguments tells the number."
-unfoldable pub readAnswerOf : State → List ℕ → List ℕ → TxId → ℕ → ℕ → Returned
-readAnswerOf s m t id a n = decided (readNumber s m t id a n) (doneReturn s) (refusedReturn (readNumber s m t id a n) s)
+unfoldable pub readAnswerOf : State → List ℕ → List ℕ → TxId → ℕ → ℕ → Told
+readAnswerOf s m t id a n = decided (readNumber s m t id a n) (tells done 0 0 s) (refusing (readNumber s m t id a n) s)
 
 -- ---- precommit
 
@@ -79,17 +73,17 @@ precommitNumber s m t id = numberBy s (length m) t (precommitChecks s (id .0))
 abbrev pub appended : State → List ℕ → Group → List ℕ
 appended s t g = sets t (tailLength (s .ondisk .0) t) (encodeGroup g)
 
-unfoldable pub precommitOf : State → List ℕ → List ℕ → TxId → Outcome Precommitted
+unfoldable pub precommitOf : State → List ℕ → List ℕ → TxId → Outcome
 precommitOf s m t id =
     let n = precommitNumber s m t id in
     let csn = s .assigned .0 + 1 in
     decided n
     (record {
-      result = record { answer = answer done; csn = record { 0 = csn }; state = precommittedState s (slotOf s (id .0)) };
+      result = tells done csn 0 (precommittedState s (slotOf s (id .0)));
       memory = m;
       tail = appended s t (committed (id .0) csn (writesOf (txOf s (id .0) .redo)));
     })
-    (record { result = record { answer = answer (refused n); csn = record { 0 = 0 }; state = s }; memory = m; tail = t })
+    (record { result = refusing n s; memory = m; tail = t })
 
 -- ---- abort
 
@@ -97,22 +91,22 @@ abbrev pub abortNumber : State → List ℕ → List ℕ → TxId → ℕ
 abortNumber s m t id = numberBy s (length m) t (abortChecks s (id .0))
 
 -- "undoes newest first, appends the abort record, drops the transaction"
-unfoldable pub abortOf : State → List ℕ → List ℕ → TxId → Outcome Returned
+unfoldable pub abortOf : State → List ℕ → List ℕ → TxId → Outcome
 abortOf s m t id =
     let n = abortNumber s m t id in
     decided n
     (record {
-      result = doneReturn (droppedState s (slotOf s (id .0)));
+      result = tells done 0 0 (droppedState s (slotOf s (id .0)));
       memory = undoAll layBytes (writesOf (txOf s (id .0) .undo)) m;
       tail = appended s t (aborted (id .0));
     })
-    (record { result = refusedReturn n s; memory = m; tail = t })
+    (record { result = refusing n s; memory = m; tail = t })
 
 -- ---- settle
 
 abbrev pub settleNumber : State → List ℕ → List ℕ → TxId → ℕ
 settleNumber s m t id = numberBy s (length m) t (settleChecks s (id .0))
 
-unfoldable pub settleOf : State → List ℕ → List ℕ → TxId → Returned
+unfoldable pub settleOf : State → List ℕ → List ℕ → TxId → Told
 settleOf s m t id =
-    decided (settleNumber s m t id) (doneReturn (droppedState s (slotOf s (id .0)))) (refusedReturn (settleNumber s m t id) s)
+    decided (settleNumber s m t id) (tells done 0 0 (droppedState s (slotOf s (id .0)))) (refusing (settleNumber s m t id) s)

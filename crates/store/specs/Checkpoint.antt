@@ -7,7 +7,6 @@ use lib.Dec.{eqb}
 use Rattle.log.specs.Stores.{Store, store, copies}
 use Rattle.image.specs.Format.{encodeImage}
 use Rattle.store.specs.declared.State.{State}
-use Rattle.store.specs.declared.stored.Stored.{Stored}
 use Rattle.store.specs.State.{imageOf}
 use Rattle.store.specs.Stored.{DiskOutcome, Plan, storedBy}
 
@@ -33,7 +32,7 @@ abbrev pub checkpointStores : State → List ℕ → List ℕ → List Store
 checkpointStores s d m = imageStores (getD d 0 0) (encodeImage (imageOf s) m)
 
 abbrev pub checkpointPlan : State → List ℕ → List ℕ → List ℕ → Plan
-checkpointPlan s d m t = record { stores = checkpointStores s d m; state = s; memory = m; tail = t }
+checkpointPlan s d m t = record { stores = checkpointStores s d m; value = 0; state = s; memory = m; tail = t }
 
-unfoldable pub checkpointOf : State → List ℕ → List ℕ → List ℕ → ℕ → DiskOutcome Stored
+unfoldable pub checkpointOf : State → List ℕ → List ℕ → List ℕ → ℕ → DiskOutcome
 checkpointOf s d m t allowed = storedBy s d m t (checkpointPlan s d m t) allowed

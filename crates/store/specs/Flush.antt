@@ -7,7 +7,6 @@ use Rattle.log.specs.declared.Csn.{Csn}
 use Rattle.log.specs.Log.{readLog}
 use Rattle.log.specs.Stores.{Store, copies, shifted}
 use Rattle.store.specs.declared.State.{State}
-use Rattle.store.specs.declared.stored.Stored.{Stored}
 use Rattle.store.specs.Stored.{DiskOutcome, Plan, storedBy}
 
 -- the state with this log end and commit number on disk
@@ -35,7 +34,7 @@ abbrev pub flushStores : State → List ℕ → ℕ → List Store
 flushStores s t k = copies (17307 + s .logend) (take (firstSize s t k) t)
 
 abbrev pub flushPlan : State → List ℕ → List ℕ → ℕ → Plan
-flushPlan s m t k = record { stores = flushStores s t k; state = flushedState s t k; memory = m; tail = flushedTail s t k }
+flushPlan s m t k = record { stores = flushStores s t k; value = 0; state = flushedState s t k; memory = m; tail = flushedTail s t k }
 
-unfoldable pub flushOf : State → List ℕ → List ℕ → List ℕ → ℕ → ℕ → DiskOutcome Stored
+unfoldable pub flushOf : State → List ℕ → List ℕ → List ℕ → ℕ → ℕ → DiskOutcome
 flushOf s d m t k allowed = storedBy s d m t (flushPlan s m t k) allowed

@@ -5,6 +5,7 @@ use crate::choose::begin_number;
 use log::Csn;
 use log::TxId;
 ghost use mathlib.Core.Path.{_≡_};
+ghost use Rattle.store.specs.Answer.{ofBegun, ofPrecommitted, ofReturned};
 ghost use Rattle.store.specs.Calls.{beginOf, writeOf, readOf, readAnswerOf, precommitOf, abortOf, settleOf};
 
 pub struct Begun {
@@ -26,7 +27,7 @@ pub struct Returned {
 
 impl State {
     pub fn begin(mut self, memory: &[u8], tail: &[u8]) -> Begun
-        ensures { λ r. ⌜ r ≡ beginOf self (now (memory .entry)) (now (tail .entry)) ⌝ }
+        ensures { λ r. ⌜ ofBegun r ≡ beginOf self (now (memory .entry)) (now (tail .entry)) ⌝ }
     {
         let admitted = self.admit(memory.len(), tail);
         if admitted.number != 0 {
@@ -61,7 +62,7 @@ impl State {
         addr: usize,
         bytes: &[u8],
     ) -> Returned
-        ensures { λ r. ⌜ r ≡ writeOf self (now (memory .entry)) (now (tail .entry)) id addr (now (bytes .entry)) .result ⌝ }
+        ensures { λ r. ⌜ ofReturned r ≡ writeOf self (now (memory .entry)) (now (tail .entry)) id addr (now (bytes .entry)) .result ⌝ }
         ensures { λ _. ⌜ now (memory .exit) ≡ writeOf self (now (memory .entry)) (now (tail .entry)) id addr (now (bytes .entry)) .memory ⌝ }
     {
         let admitted = self.admit(memory.len(), tail);
@@ -107,7 +108,7 @@ impl State {
         addr: usize,
         len: usize,
     ) -> Returned
-        ensures { λ r. ⌜ r ≡ readAnswerOf self (now (memory .entry)) (now (tail .entry)) id addr len ⌝ }
+        ensures { λ r. ⌜ ofReturned r ≡ readAnswerOf self (now (memory .entry)) (now (tail .entry)) id addr len ⌝ }
     {
         let admitted = self.admit(memory.len(), tail);
         let chosen = self.choose_read(admitted, id, addr, len);
@@ -124,7 +125,7 @@ impl State {
     }
 
     pub fn precommit(mut self, memory: &[u8], tail: &mut [u8], id: TxId) -> Precommitted
-        ensures { λ r. ⌜ r ≡ precommitOf self (now (memory .entry)) (now (tail .entry)) id .result ⌝ }
+        ensures { λ r. ⌜ ofPrecommitted r ≡ precommitOf self (now (memory .entry)) (now (tail .entry)) id .result ⌝ }
         ensures { λ _. ⌜ now (tail .exit) ≡ precommitOf self (now (memory .entry)) (now (tail .entry)) id .tail ⌝ }
     {
         let admitted = self.admit(memory.len(), &*tail);
@@ -146,7 +147,7 @@ impl State {
     }
 
     pub fn abort(mut self, memory: &mut [u8], tail: &mut [u8], id: TxId) -> Returned
-        ensures { λ r. ⌜ r ≡ abortOf self (now (memory .entry)) (now (tail .entry)) id .result ⌝ }
+        ensures { λ r. ⌜ ofReturned r ≡ abortOf self (now (memory .entry)) (now (tail .entry)) id .result ⌝ }
         ensures { λ _. ⌜ now (memory .exit) ≡ abortOf self (now (memory .entry)) (now (tail .entry)) id .memory ⌝ }
         ensures { λ _. ⌜ now (tail .exit) ≡ abortOf self (now (memory .entry)) (now (tail .entry)) id .tail ⌝ }
     {
@@ -166,7 +167,7 @@ impl State {
     }
 
     pub fn settle(mut self, memory: &[u8], tail: &[u8], id: TxId) -> Returned
-        ensures { λ r. ⌜ r ≡ settleOf self (now (memory .entry)) (now (tail .entry)) id ⌝ }
+        ensures { λ r. ⌜ ofReturned r ≡ settleOf self (now (memory .entry)) (now (tail .entry)) id ⌝ }
     {
         let admitted = self.admit(memory.len(), tail);
         let chosen = self.choose_settle(admitted, id);

@@ -10,6 +10,7 @@ ghost use mathlib.Core.Path.{_≡_};
 ghost use Prim.Native.Nat.{_+_, _<_, _≤_, min};
 ghost use lib.ListN.{length, take, getD};
 ghost use Rattle.log.specs.Stores.{apply};
+ghost use Rattle.store.specs.Answer.{ofStored};
 ghost use Rattle.store.specs.State.{imageOf};
 ghost use Rattle.store.specs.Checkpoint.{storesAt, imageStores, checkpointOf};
 
@@ -69,7 +70,7 @@ impl State {
         tail: &mut [u8],
         allowed: usize,
     ) -> Stored
-        ensures { λ r. ⌜ r ≡ checkpointOf self (now (disk .entry)) (now (memory .entry)) (now (tail .entry)) allowed .result ⌝ }
+        ensures { λ r. ⌜ ofStored r ≡ checkpointOf self (now (disk .entry)) (now (memory .entry)) (now (tail .entry)) allowed .result ⌝ }
         ensures { λ _. ⌜ now (disk .exit) ≡ checkpointOf self (now (disk .entry)) (now (memory .entry)) (now (tail .entry)) allowed .disk ⌝ }
         ensures { λ _. ⌜ now (memory .exit) ≡ checkpointOf self (now (disk .entry)) (now (memory .entry)) (now (tail .entry)) allowed .memory ⌝ }
         ensures { λ _. ⌜ now (tail .exit) ≡ checkpointOf self (now (disk .entry)) (now (memory .entry)) (now (tail .entry)) allowed .tail ⌝ }

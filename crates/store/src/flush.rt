@@ -9,6 +9,7 @@ use log::stores::copy_up;
 use log::stores::shift_down;
 ghost use mathlib.Core.Path.{_≡_};
 ghost use Prim.Native.Nat.{_+_, _≤_};
+ghost use Rattle.store.specs.Answer.{ofStored};
 ghost use Rattle.store.specs.Flush.{withLog, flushOf};
 
 impl State {
@@ -30,7 +31,7 @@ impl State {
         k: usize,
         allowed: usize,
     ) -> Stored
-        ensures { λ r. ⌜ r ≡ flushOf self (now (disk .entry)) (now (memory .entry)) (now (tail .entry)) k allowed .result ⌝ }
+        ensures { λ r. ⌜ ofStored r ≡ flushOf self (now (disk .entry)) (now (memory .entry)) (now (tail .entry)) k allowed .result ⌝ }
         ensures { λ _. ⌜ now (disk .exit) ≡ flushOf self (now (disk .entry)) (now (memory .entry)) (now (tail .entry)) k allowed .disk ⌝ }
         ensures { λ _. ⌜ now (memory .exit) ≡ flushOf self (now (disk .entry)) (now (memory .entry)) (now (tail .entry)) k allowed .memory ⌝ }
         ensures { λ _. ⌜ now (tail .exit) ≡ flushOf self (now (disk .entry)) (now (memory .entry)) (now (tail .entry)) k allowed .tail ⌝ }

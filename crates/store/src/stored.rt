@@ -4,9 +4,9 @@ use crate::State;
 use log::stores::fill_zero;
 ghost use mathlib.Core.Path.{_≡_};
 ghost use Rattle.store.specs.State.{unrecovered};
-ghost use Rattle.store.specs.Answer.{cut};
+ghost use Rattle.store.specs.Answer.{cut, tells, ofStored};
 ghost use Rattle.store.specs.Numbers.{firstNumber};
-ghost use Rattle.store.specs.Stored.{diskChecks, stored, zeroed};
+ghost use Rattle.store.specs.Stored.{diskChecks, zeroed};
 
 // stores is the number of stores made.
 pub struct Stored {
@@ -17,7 +17,7 @@ pub struct Stored {
 
 // The current failed after so many stores.
 pub fn cut_off(memory: &mut [u8], tail: &mut [u8], stores: usize) -> Stored
-    ensures { λ r. ⌜ r ≡ stored cut stores unrecovered ⌝ }
+    ensures { λ r. ⌜ ofStored r ≡ tells cut 0 stores unrecovered ⌝ }
     ensures { λ _. ⌜ now (memory .exit) ≡ zeroed (now (memory .entry)) ⌝ }
     ensures { λ _. ⌜ now (tail .exit) ≡ zeroed (now (tail .entry)) ⌝ }
 {

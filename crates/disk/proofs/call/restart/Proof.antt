@@ -7,8 +7,7 @@ use borrow.Rule.Slice.PartMut.{putMid}
 use borrow.Author.Tests.{eq-eqb, ne-eqb}
 use Rattle.log.specs.Stores.{apply}
 use Rattle.store.specs.declared.State.{State}
-use Rattle.store.specs.declared.stored.Stored.{Stored}
-use Rattle.store.specs.declared.Answer.the-variants.{Done, Cut}
+use Rattle.store.specs.Answer.{done, cut, Told, tells}
 use Rattle.store.proofs.Storing.{leaves}
 use Rattle.disk.specs.declared.examine.Examined.{Examined}
 use Rattle.disk.specs.Examine.{examineOf}
@@ -153,7 +152,7 @@ returns-5 c =
     leaves
     (restart-cut (a .disk .now) (a .memory .now) (a .tail .now) (a .allowed) (w .before .before .if1 .left) (w .before .if2 .left) (w .if3 .left) (taken k)
     (omega (arith, made k, found-end x, c .before .before .before .before .before .before .before .before .if5 .taken)))
-    (ap₂ (λ (n : ℕ) (s : State). record { answer = Cut; undone = 0; stores = n; state = s }) (made k) (ap (λ (r : Stored). r .state) (off .ensures .0)))
+    (ap₂ (λ (n : ℕ) (s : State). tells cut 0 n s) (made k) (ap (λ (r : Told). r .state) (off .ensures .0)))
     (emptied k)
     (off .ensures .1 .0 ∙ ap (λ (n : ℕ). replicate n 0) (x .examine .kept .1 .0 ∙ w .before .if2 .left))
     (off .ensures .1 .1 ∙ ap (λ (n : ℕ). replicate n 0) (x .examine .kept .1 .1 .0 ∙ w .if3 .left))
@@ -183,8 +182,8 @@ returns-6 c =
     leaves
     (restart-done (a .disk .now) (a .memory .now) (a .tail .now) (a .allowed) (w .before .before .if1 .left) (w .before .if2 .left) (w .if3 .left) (taken k)
     (omega (arith, made k, found-end x, c .before .before .before .if5 .left)))
-    (ap₂ (λ (n : ℕ) (s : State). record { answer = Done; undone = x .examine .result .undone; stores = n; state = s }) (made k) (c .recovered .ensures)
-    ∙ ap (λ (r : Examined). record { answer = Done; undone = r .undone; stores = min (a .allowed) (length (clearing (examineOf (a .disk .now) .result .end))); state = recoveredState (r .end) (r .csn) (r .last) })
+    (ap₂ (λ (n : ℕ) (s : State). tells done (x .examine .result .undone) n s) (made k) (c .recovered .ensures)
+    ∙ ap (λ (r : Examined). tells done (r .undone) (min (a .allowed) (length (clearing (examineOf (a .disk .now) .result .end)))) (recoveredState (r .end) (r .csn) (r .last)))
     (x .examine .ensures .0))
     (emptied k) (x .examine .ensures .1 .0) (x .examine .ensures .1 .1)
 

@@ -9,11 +9,11 @@ use Rattle.recovery.specs.Group.{aborted}
 use Rattle.recovery.specs.Replay.{undoAll, layBytes}
 use Rattle.log.specs.Group.{encodeGroup}
 use Rattle.transaction.specs.View.{writesOf}
-use Rattle.store.specs.declared.call.Returned.{Returned}
 use Rattle.store.specs.State.{txAt}
+use Rattle.store.specs.Answer.{done, tells}
 use Rattle.store.specs.Numbers.{abortChecks, check7}
 use Rattle.store.specs.Steps.{droppedState}
-use Rattle.store.specs.Calls.{Outcome, doneReturn, abortNumber}
+use Rattle.store.specs.Calls.{Outcome, abortNumber}
 use Rattle.store.proofs.Admitting.{number-after, seen}
 use Rattle.store.proofs.Choosing.{choice-own, running}
 use Rattle.store.proofs.Calling.{Placed, placed, abort-refused, abort-done, usable-at}
@@ -38,7 +38,7 @@ returns : tie.Need-returns
 returns c =
     let a = c .before .before .before .before .before .before .before .args in
     let o = abort-refused (a .self) (a .memory .now) (a .tail .now) (a .id) _ (own (c .before .before)) (c .if1 .taken) in
-    (ap (λ (x : Outcome Returned). x .result) (sym o), (ap (λ (x : Outcome Returned). x .memory) (sym o), ap (λ (x : Outcome Returned). x .tail) (sym o)))
+    (ap (λ (x : Outcome). x .result) (sym o), (ap (λ (x : Outcome). x .memory) (sym o), ap (λ (x : Outcome). x .tail) (sym o)))
 
 found : (c : tie.Else1) → let a = c .before .before .before .before .before .before .before .args in
     Placed (a .self) (length (a .memory .now)) (a .tail .now) (a .id .0) (c .before .before .choose-running .result) (λ k. check7 (a .self) (a .id .0) ∷ [])
@@ -66,12 +66,12 @@ returns-2 c =
     let w = found else in
     let step = c .before .before .before .before .abort-step in
     let o = abort-done s m t (a .id) (own (else .before .before) ∙ else .if1 .left) in (
-      ap doneReturn (step .ensures .0 ∙ ap (droppedState s) (w .slot)) ∙ ap (λ (x : Outcome Returned). x .result) (sym o),
+      ap (tells done 0 0) (step .ensures .0 ∙ ap (droppedState s) (w .slot)) ∙ ap (λ (x : Outcome). x .result) (sym o),
       (
-        step .ensures .1 .0 ∙ ap (λ (k : ℕ). undoAll layBytes (writesOf (txAt s k .undo)) m) (w .slot) ∙ ap (λ (x : Outcome Returned). x .memory) (sym o),
+        step .ensures .1 .0 ∙ ap (λ (k : ℕ). undoAll layBytes (writesOf (txAt s k .undo)) m) (w .slot) ∙ ap (λ (x : Outcome). x .memory) (sym o),
         step .ensures .1 .1
             ∙ ap₂ (λ (e i : ℕ). sets t e (encodeGroup (aborted i))) (w .end) (ap (λ (k : ℕ). txAt s k .id .0) (w .slot) ∙ running s (a .id .0) [] (w .own) .0 .named)
-            ∙ ap (λ (x : Outcome Returned). x .tail) (sym o),
+            ∙ ap (λ (x : Outcome). x .tail) (sym o),
       ),
     )
 

@@ -11,7 +11,7 @@ use borrow.Author.Tests.{eqb-false}
 use Rattle.image.proofs.Rules.{image-count}
 use Rattle.store.specs.State.{imageOf}
 use Rattle.store.specs.declared.State.{State}
-use Rattle.store.specs.Answer.{done, answer}
+use Rattle.store.specs.Answer.{done, tells}
 use Rattle.store.specs.Rules.{roomUsed}
 use Rattle.store.specs.Numbers.{check, firstNumber, beginChecks}
 use Rattle.store.specs.Steps.{begunState}
@@ -71,7 +71,7 @@ returns-3 : tie.Need-returns-3
 unfolding begunState
 returns-3 c =
     let args = c .before .before .before .before .before .before .before .before .before .args in
-    ap (λ (u : State). record { answer = answer done; id = u .lastid; state = u }) (c .before .begin-step .ensures)
+    ap (λ (u : State). tells done (u .lastid .0) 0 u) (c .before .begin-step .ensures)
     ∙ sym (begin-done (args .self) (args .memory .now) (args .tail .now) (own (c .before .before .before) ∙ c .before .before .if2 .left))
 
 pub begin-spec : {M : Type 1} → statement M

@@ -2,8 +2,7 @@ use borrow.Author.Needs.{needs}
 use native.Mathlib.Omega.{arith}
 use mathlib.Core.Path.{_≡_, refl, sym, ap, _∙_}
 use lib.ListN.{length-take, length-drop}
-use Rattle.store.specs.Answer.{done}
-use Rattle.store.specs.Stored.{stored}
+use Rattle.store.specs.Answer.{done, tells}
 use Rattle.store.proofs.Storing.{diskNumber, leaves}
 use Rattle.store.proofs.Flushing.{Room, flush-refused, flush-fits, flush-cut, flush-done}
 use Rattle.store.proofs.State.flush.Statement.{statement}
@@ -105,7 +104,7 @@ returns-3 c =
     let up = c .before .before .before .before .before .before .before .before .copy-up in
     leaves
     (flush-done (a .self) (a .disk .now) (a .memory .now) (a .tail .now) (a .k) (a .allowed) (passed (accepted r)) (r .read-first .result) (r .read-first .ensures) (up .result) (up .last .0) (up .ensures .0) (up .ensures .1) (c .before .before .before .before .before .if2 .left))
-    (ap (stored done (up .result)) (c .flush-step .ensures)) refl refl (c .before .before .before .shift-down .ensures)
+    (ap (tells done 0 (up .result)) (c .flush-step .ensures)) refl refl (c .before .before .before .shift-down .ensures)
 
 pub flush-spec : {M : Type 1} → statement M
 flush-spec =

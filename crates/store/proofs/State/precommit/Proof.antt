@@ -13,9 +13,8 @@ use Rattle.recovery.specs.Group.{committed}
 use Rattle.log.specs.Group.{encodeGroup}
 use Rattle.transaction.specs.View.{writesOf}
 use Rattle.store.specs.declared.State.{State}
-use Rattle.store.specs.declared.call.Precommitted.{Precommitted}
 use Rattle.store.specs.State.{txAt}
-use Rattle.store.specs.Answer.{done, answer}
+use Rattle.store.specs.Answer.{done, tells}
 use Rattle.store.specs.Numbers.{txOf, precommitChecks, check7, check12}
 use Rattle.store.specs.Steps.{precommittedState}
 use Rattle.store.specs.Calls.{Outcome, precommitNumber}
@@ -44,7 +43,7 @@ returns : tie.Need-returns
 returns c =
     let a = c .before .before .before .before .before .before .before .args in
     let o = precommit-refused (a .self) (a .memory .now) (a .tail .now) (a .id) _ (own (c .before .before)) (c .if1 .taken) in
-    (ap (λ (x : Outcome Precommitted). x .result) (sym o), ap (λ (x : Outcome Precommitted). x .tail) (sym o))
+    (ap (λ (x : Outcome). x .result) (sym o), ap (λ (x : Outcome). x .tail) (sym o))
 
 found : (c : tie.Else1) → let a = c .before .before .before .before .before .before .before .args in
     Placed (a .self) (length (a .memory .now)) (a .tail .now) (a .id .0) (c .before .before .choose-precommit .result) (λ k. check7 (a .self) (a .id .0) ∷ check12 (a .self) ∷ [])
@@ -81,8 +80,8 @@ returns-2 c =
     let e : encodeGroup (committed (txAt s k .id .0) csn (writesOf (txAt s k .redo))) ≡ encodeGroup (committed (a .id .0) csn (writesOf (txOf s (a .id .0) .redo))) =
     ap (λ (j : ℕ). encodeGroup (committed (txAt s j .id .0) csn (writesOf (txAt s j .redo)))) (w .slot)
     ∙ ap (λ (i : ℕ). encodeGroup (committed i csn (writesOf (txOf s (a .id .0) .redo)))) (running s (a .id .0) (check12 s ∷ []) (w .own) .0 .named) in (
-      ap (λ (u : State). record { answer = answer done; csn = u .assigned; state = u }) (step .ensures .0 ∙ ap (precommittedState s) (w .slot)) ∙ ap (λ (x : Outcome Precommitted). x .result) (sym o),
-      step .ensures .1 ∙ ap₂ (λ (i : ℕ) (bs : List ℕ). sets t i bs) (w .end) e ∙ ap (λ (x : Outcome Precommitted). x .tail) (sym o),
+      ap (λ (u : State). tells done (u .assigned .0) 0 u) (step .ensures .0 ∙ ap (precommittedState s) (w .slot)) ∙ ap (λ (x : Outcome). x .result) (sym o),
+      step .ensures .1 ∙ ap₂ (λ (i : ℕ) (bs : List ℕ). sets t i bs) (w .end) e ∙ ap (λ (x : Outcome). x .tail) (sym o),
     )
 
 pub precommit-spec : {M : Type 1} → statement M

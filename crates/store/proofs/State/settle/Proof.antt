@@ -2,9 +2,10 @@ use borrow.Author.Needs.{needs}
 use mathlib.Core.List.{[], _∷_}
 use mathlib.Core.Path.{_≡_, sym, ap, _∙_}
 use lib.ListN.{length}
+use Rattle.store.specs.Answer.{done, tells}
 use Rattle.store.specs.Numbers.{settleChecks, check14}
 use Rattle.store.specs.Steps.{droppedState}
-use Rattle.store.specs.Calls.{doneReturn, settleNumber}
+use Rattle.store.specs.Calls.{settleNumber}
 use Rattle.store.proofs.Admitting.{number-after, seen}
 use Rattle.store.proofs.Choosing.{choice-own}
 use Rattle.store.proofs.Calling.{Placed, placed, settle-refused, settle-done}
@@ -37,7 +38,7 @@ drop-step-requires c κs = let w = found c in (w .listed, w .few)
 returns-2 : tie.Need-returns-2
 returns-2 c =
     let a = c .before .before .before .before .before .before .before .args in
-    ap doneReturn (c .drop-step .ensures ∙ ap (droppedState (a .self)) (found (c .before) .slot))
+    ap (tells done 0 0) (c .drop-step .ensures ∙ ap (droppedState (a .self)) (found (c .before) .slot))
     ∙ sym (settle-done (a .self) (a .memory .now) (a .tail .now) (a .id) (own (c .before .before .before) ∙ c .before .if1 .left))
 
 pub settle-spec : {M : Type 1} → statement M

@@ -3,11 +3,11 @@ use Prim.Native.Nat.{ℕ}
 use mathlib.Core.List.{[], _∷_}
 use mathlib.Core.Path.{_≡_, sym, ap, _∙_, subst}
 use lib.ListN.{length}
-use Rattle.store.specs.declared.call.Returned.{Returned}
 use Rattle.store.specs.Rules.{roomUsed}
+use Rattle.store.specs.Answer.{done, tells}
 use Rattle.store.specs.Numbers.{check7, check8, check9, check10, check13, writeChecks}
 use Rattle.store.specs.Steps.{writtenState}
-use Rattle.store.specs.Calls.{Outcome, doneReturn, writeNumber}
+use Rattle.store.specs.Calls.{Outcome, writeNumber}
 use Rattle.store.proofs.Admitting.{number-after, seen}
 use Rattle.store.proofs.Choosing.{choice-own}
 use Rattle.store.proofs.Calling.{Placed, placed, write-refused, write-done, Writable, writable}
@@ -32,7 +32,7 @@ returns : tie.Need-returns
 returns c =
     let a = c .before .before .before .before .before .before .before .args in
     let o = write-refused (a .self) (a .memory .now) (a .tail .now) (a .id) (a .addr) (a .bytes .now) _ (own (c .before .before)) (c .if1 .taken) in
-    (ap (λ (x : Outcome Returned). x .result) (sym o), ap (λ (x : Outcome Returned). x .memory) (sym o))
+    (ap (λ (x : Outcome). x .result) (sym o), ap (λ (x : Outcome). x .memory) (sym o))
 
 found : (c : tie.Else1) → let a = c .before .before .before .before .before .before .before .args in
     let n = length (a .bytes .now) in
@@ -62,8 +62,8 @@ returns-2 c =
     let a = else .before .before .before .before .before .before .before .args in
     let step = c .before .before .write-step in
     let o = write-done (a .self) (a .memory .now) (a .tail .now) (a .id) (a .addr) (a .bytes .now) (own (else .before .before) ∙ else .if1 .left) in (
-      ap doneReturn (step .ensures .0 ∙ ap (λ (k : ℕ). writtenState (a .self) k (a .memory .now) (a .addr) (a .bytes .now)) (found else .slot)) ∙ ap (λ (x : Outcome Returned). x .result) (sym o),
-      step .ensures .1 ∙ ap (λ (x : Outcome Returned). x .memory) (sym o),
+      ap (tells done 0 0) (step .ensures .0 ∙ ap (λ (k : ℕ). writtenState (a .self) k (a .memory .now) (a .addr) (a .bytes .now)) (found else .slot)) ∙ ap (λ (x : Outcome). x .result) (sym o),
+      step .ensures .1 ∙ ap (λ (x : Outcome). x .memory) (sym o),
     )
 
 pub write-spec : {M : Type 1} → statement M

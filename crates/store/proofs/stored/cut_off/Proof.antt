@@ -1,7 +1,6 @@
 use borrow.Author.Needs.{needs}
 use mathlib.Core.Path.{ap}
-use Rattle.store.specs.Answer.{cut}
-use Rattle.store.specs.Stored.{stored}
+use Rattle.store.specs.Answer.{cut, tells}
 use Rattle.store.proofs.stored.cut_off.Statement.{statement}
 use Rattle.store.proofs.stored.cut_off.Tie as tie
 
@@ -22,7 +21,7 @@ same-length-2 c = search needs
 
 returns : tie.Need-returns
 returns c =
-    (ap (stored cut (c .before .before .before .before .before .before .before .before .before .before .before .args .stores)) (c .unrecovered .ensures), (c .before .before .before .before .before .before .before .fill-zero .ensures, c .before .before .before .fill-zero2 .ensures))
+    (ap (tells cut 0 (c .before .before .before .before .before .before .before .before .before .before .before .args .stores)) (c .unrecovered .ensures), (c .before .before .before .before .before .before .before .fill-zero .ensures, c .before .before .before .fill-zero2 .ensures))
 
 pub cut-off-spec : {M : Type 1} → statement M
 cut-off-spec =
