@@ -24,9 +24,7 @@ use Rattle.transaction.specs.View.{writesOf, viewOf}
 use Rattle.transaction.specs.Rules.{heldAgainst}
 use Rattle.image.proofs.Rules.{image-count}
 use Rattle.store.specs.declared.State.{State}
-use Rattle.store.specs.declared.call.Begun.{Begun}
-use Rattle.store.specs.declared.call.Precommitted.{Precommitted}
-use Rattle.store.specs.declared.call.Returned.{Returned}
+use Rattle.store.specs.Answer.{Told}
 use Rattle.store.specs.State.{imageOf, txsOf, slotOf}
 use Rattle.store.specs.Rules.{tailLength, roomUsed}
 use Rattle.store.specs.Numbers.{check, txOf, check8, check9, check10, beginChecks, writeChecks, precommitChecks, abortChecks, settleChecks}
@@ -43,7 +41,7 @@ use Rattle.store.proofs.Admitting.{accepted}
 use Rattle.store.proofs.Views.{begin-free, listed-view, tail-csn, commitOf, commit-appends, abort-appends, begin-live, write-live, precommit-live, abort-live, settle-live}
 use Rattle.store.proofs.Premises.{held-view, room-view}
 use Rattle.store.proofs.Keeping.{Kept, begin-keeps, write-keeps, precommit-keeps, abort-keeps, settle-keeps}
-use Rattle.history.specs.Calls.{Call, begin, write, precommit, abort, settle, World, Stepped, begun, returned, changed, precommitted, stepOf}
+use Rattle.history.specs.Calls.{Call, begin, write, precommit, abort, settle, World, Stepped, returned, changed, stepOf}
 use Rattle.history.specs.Demand.{eventOf}
 use Rattle.history.proofs.OnDisk.{OnDisk, opens}
 use Rattle.history.proofs.Shows.{Neat, LiveOn, awake, FollowsBy, refused-follows, begin-refuses, write-refuses, precommit-refuses, abort-refuses, settle-refuses, appended-neat}
@@ -118,10 +116,10 @@ module _ (w : World) (d : Disk) (l : Live) (o : OnDisk (w .disk) d) (v : LiveOn 
       let x = accepted s (length m) t (beginChecks (s .count) (s .lastid .0) (roomUsed s t)) z in
       let b = begin-free s (roomUsed s t) (image-count (imageOf s) (x .fits .image)) (x .own) in
       let e = begin-done s m t z in
-      follows begin (begun w _) (ledger.begun (suc (l .lastId))) (afterBegin l) (ap (begun w) e) (ap ledger.begun (add-one (s .lastid .0) ∙ ap suc last-id))
+      follows begin (returned w _) (ledger.begun (suc (l .lastId))) (afterBegin l) (ap (returned w) e) (ap ledger.begun (add-one (s .lastid .0) ∙ ap suc last-id))
       (begins d l (omega (arith, b .1, room))) o
-      (lives (begunState s) m t (afterBegin l) (begun-same s) (v .memory) (v .tail) (subst (λ (r : Begun). Kept (r .state) t) e (begin-keeps s m t (v .sizes) z))
-      (ap (λ (r : Begun). live (r .state) m t) (sym e) ∙ begin-live s m t (v .sizes) z ∙ ap afterBegin (v .view)) (v .neat)))
+      (lives (begunState s) m t (afterBegin l) (begun-same s) (v .memory) (v .tail) (subst (λ (r : Told). Kept (r .state) t) e (begin-keeps s m t (v .sizes) z))
+      (ap (λ (r : Told). live (r .state) m t) (sym e) ∙ begin-live s m t (v .sizes) z ∙ ap afterBegin (v .view)) (v .neat)))
       (λ h. refused-follows (up d l) w begin (o, awake v) (begin-refuses w h))
 
   -- ---- a call of a transaction
@@ -160,8 +158,8 @@ module _ (w : World) (d : Disk) (l : Live) (o : OnDisk (w .disk) d) (v : LiveOn 
         follows (write id a bs) (changed w _) (ledger.wrote (tx .id) new) (afterWrite tx new l) (ap (changed w) e) (ap (λ (i : ℕ). ledger.wrote i new) (sym (r .named)))
         (writes d l tx new (listed (r .listed) (r .named)) (isRunning r) (g .2) free (omega (arith, ltb-false 16384 (roomUsed s t + (7 + n)) (q'' .0), room))) o
         (lives (writtenState s (slotOf s id) m a bs) (sets m a bs) t (afterWrite tx new l) (written-same s (slotOf s id) m a bs) (length-sets m a bs ∙ v .memory) (v .tail)
-        (subst (λ (y : Outcome Returned). Kept (y .result .state) (y .tail)) e (write-keeps s m t (v .sizes) tid a bs z))
-        (ap (λ (y : Outcome Returned). live (y .result .state) (y .memory) (y .tail)) (sym e) ∙ write-live s m t (v .sizes) tid a bs z ∙ ap (afterWrite tx new) (v .view))
+        (subst (λ (y : Outcome). Kept (y .result .state) (y .tail)) e (write-keeps s m t (v .sizes) tid a bs z))
+        (ap (λ (y : Outcome). live (y .result .state) (y .memory) (y .tail)) (sym e) ∙ write-live s m t (v .sizes) tid a bs z ∙ ap (afterWrite tx new) (v .view))
         (v .neat)))
         (λ h. refused-follows (up d l) w (write id a bs) (o, awake v) (write-refuses w id a bs h))
 
@@ -177,11 +175,11 @@ module _ (w : World) (d : Disk) (l : Live) (o : OnDisk (w .disk) d) (v : LiveOn 
         add-one (s .assigned .0) ∙ ap suc (sym (tail-csn s t fits) ∙ ap (λ (k : Live). lastAssigned k) (v .view)) in
         let e = precommit-done s m t tid z in
         let t' = appended s t (commitOf s id) in
-        follows (precommit id) (precommitted w _) (ledger.precommitted (tx .id) (suc (lastAssigned l))) (afterPrecommit tx l) (ap (precommitted w) e) (ap₂ ledger.precommitted (sym (r .named)) n)
+        follows (precommit id) (changed w _) (ledger.precommitted (tx .id) (suc (lastAssigned l))) (afterPrecommit tx l) (ap (changed w) e) (ap₂ ledger.precommitted (sym (r .named)) n)
         (precommits d l tx (listed (r .listed) (r .named)) (isRunning r)) o
         (lives (precommittedState s (slotOf s id)) m t' (afterPrecommit tx l) (precommitted-same s (slotOf s id)) (v .memory) (appended-length (commitOf s id))
-        (subst (λ (k : Outcome Precommitted). Kept (k .result .state) (k .tail)) e (precommit-keeps s m t (v .sizes) tid z))
-        (ap (λ (k : Outcome Precommitted). live (k .result .state) (k .memory) (k .tail)) (sym e) ∙ precommit-live s m t (v .sizes) tid z ∙ ap (afterPrecommit tx) (v .view))
+        (subst (λ (k : Outcome). Kept (k .result .state) (k .tail)) e (precommit-keeps s m t (v .sizes) tid z))
+        (ap (λ (k : Outcome). live (k .result .state) (k .memory) (k .tail)) (sym e) ∙ precommit-live s m t (v .sizes) tid z ∙ ap (afterPrecommit tx) (v .view))
         (appended-neat s t (commitOf s id) (v .tail) fits (v .neat) y)))
         (λ h. refused-follows (up d l) w (precommit id) (o, awake v) (precommit-refuses w id h))
 
@@ -198,8 +196,8 @@ module _ (w : World) (d : Disk) (l : Live) (o : OnDisk (w .disk) d) (v : LiveOn 
         follows (abort id) (changed w _) (ledger.rolledBack (tx .id)) (afterAbort tx l) (ap (changed w) e) (ap ledger.rolledBack (sym (r .named)))
         (rollsBack d l tx (listed (r .listed) (r .named)) (isRunning r)) o
         (lives (droppedState s (slotOf s id)) (undoAll layBytes (writesOf (txOf s id .undo)) m) (appended s t g) (afterAbort tx l) (dropped-same s (slotOf s id)) (undo-length 4096 m (v .memory) (writesOf (txOf s id .undo))) (appended-length g)
-        (subst (λ (k : Outcome Returned). Kept (k .result .state) (k .tail)) e (abort-keeps s m t (v .sizes) tid z))
-        (ap (λ (k : Outcome Returned). live (k .result .state) (k .memory) (k .tail)) (sym e) ∙ abort-live s m t (v .sizes) tid z ∙ ap (afterAbort tx) (v .view))
+        (subst (λ (k : Outcome). Kept (k .result .state) (k .tail)) e (abort-keeps s m t (v .sizes) tid z))
+        (ap (λ (k : Outcome). live (k .result .state) (k .memory) (k .tail)) (sym e) ∙ abort-live s m t (v .sizes) tid z ∙ ap (afterAbort tx) (v .view))
         (appended-neat s t g (v .tail) fits (v .neat) y)))
         (λ h. refused-follows (up d l) w (abort id) (o, awake v) (abort-refuses w id h))
 
@@ -219,8 +217,8 @@ module _ (w : World) (d : Disk) (l : Live) (o : OnDisk (w .disk) d) (v : LiveOn 
         follows (settle id) (returned w _) (ledger.settled (tx .id)) (afterSettle tx l) (ap (returned w) e) (ap ledger.settled (sym (p .1)))
         (settles d l tx (listed (p .0) (p .1)) committing on-disk) o
         (lives (droppedState s (slotOf s id)) m t (afterSettle tx l) (dropped-same s (slotOf s id)) (v .memory) (v .tail)
-        (subst (λ (r : Returned). Kept (r .state) t) e (settle-keeps s m t (v .sizes) tid z))
-        (ap (λ (r : Returned). live (r .state) m t) (sym e) ∙ settle-live s m t (v .sizes) tid z ∙ ap (afterSettle tx) (v .view))
+        (subst (λ (r : Told). Kept (r .state) t) e (settle-keeps s m t (v .sizes) tid z))
+        (ap (λ (r : Told). live (r .state) m t) (sym e) ∙ settle-live s m t (v .sizes) tid z ∙ ap (afterSettle tx) (v .view))
         (v .neat)))
         (λ h. refused-follows (up d l) w (settle id) (o, awake v) (settle-refuses w id h))
       where

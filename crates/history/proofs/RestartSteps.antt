@@ -32,7 +32,7 @@ use Rattle.disk.proofs.Accepted.{imageIn, memoryIn, logIn, stepsIn, Accepted, m
 use Rattle.disk.proofs.Restarting.{cutFrom, doneFrom, restart-cut, restart-done}
 use Rattle.disk.proofs.Usable.{tail-reads, usable}
 use Rattle.disk.proofs.Again.{cleared}
-use Rattle.history.specs.Calls.{restart, restarted, World, stepOf}
+use Rattle.history.specs.Calls.{restart, stored, World, stepOf}
 use Rattle.history.proofs.Padded.{padded}
 use Rattle.history.proofs.OnDisk.{OnDisk, opens, same-front, groups-after, undone-shown, accepts, number-none, end-shown, count-shown, csn-shown, memory-shown, tail-shown}
 use Rattle.history.proofs.Shows.{Neat, LiveOn, awake, rests, cut-rests, FollowsBy}
@@ -158,7 +158,7 @@ restart-follows w s o lm lt n room a =
     let d = diskOf s in
     elim (decLe (16384 - end (w .disk) d o n room) a) [
       | yes h ↦
-          subst (FollowsBy s (restart a)) (sym (ap restarted (restart-made (w .disk) d o n room (w .memory) (w .tail) lm lt a h)))
+          subst (FollowsBy s (restart a)) (sym (ap stored (restart-made (w .disk) d o n room (w .memory) (w .tail) lm lt a h)))
           (record {
             next = up d (afterRestart d (last (w .disk) d o n room));
             step = subst (λ (e : ledger.Event). Step opens s e (up d (afterRestart d (last (w .disk) d o n room)))) (ap ledger.restarted (sym (count-shown (w .disk) d o n room)))
@@ -166,6 +166,6 @@ restart-follows w s o lm lt n room a =
             shows = (shows-left (w .disk) d o n room a, awake (lives (w .disk) d o n room a h));
           })
       | no h ↦
-          subst (FollowsBy s (restart a)) (sym (ap restarted (restart-broken (w .disk) d o n room (w .memory) (w .tail) lm lt a (omega (arith, h)))))
+          subst (FollowsBy s (restart a)) (sym (ap stored (restart-broken (w .disk) d o n room (w .memory) (w .tail) lm lt a (omega (arith, h)))))
           (record { next = down d; step = restartIsCut s; shows = (shows-left (w .disk) d o n room a, rests cut-rests) })
     ]

@@ -15,11 +15,8 @@ use Rattle.log.specs.Log.{readLog, encodeLog}
 use Rattle.log.proofs.Parts.{encode-append}
 use Rattle.log.proofs.RoundTrip.{length-group, length-log}
 use Rattle.store.specs.declared.State.{State}
-use Rattle.store.specs.declared.call.Begun.{Begun}
-use Rattle.store.specs.declared.call.Precommitted.{Precommitted}
-use Rattle.store.specs.declared.call.Returned.{Returned}
-use Rattle.store.specs.declared.stored.Stored.{Stored}
 use Rattle.store.specs.State.{unrecovered}
+use Rattle.store.specs.Answer.{Told}
 use Rattle.store.specs.Rules.{roomUsed, unfit}
 use Rattle.store.specs.Numbers.{Check, firstNumber, sharedChecks, beginChecks, writeChecks, precommitChecks, abortChecks, settleChecks}
 use Rattle.store.specs.Calls.{Outcome, beginNumber, writeNumber, precommitNumber, abortNumber, settleNumber, readNumber, appended}
@@ -33,7 +30,7 @@ use Rattle.store.proofs.Appending.{appended-log}
 use Rattle.store.proofs.Stepping.{SizedState, same-or-other}
 use Rattle.store.proofs.Fits.{Fit}
 use Rattle.store.proofs.Views.{Appends, tail-zeros}
-use Rattle.history.specs.Calls.{Call, begin, write, read, readAnswer, precommit, abort, flush, settle, checkpoint, restart, World, Stepped, begun, returned, changed, precommitted, stored, stepOf}
+use Rattle.history.specs.Calls.{Call, begin, write, read, readAnswer, precommit, abort, flush, settle, checkpoint, restart, World, Stepped, returned, changed, stored, stepOf}
 use Rattle.history.specs.Demand.{eventOf}
 use Rattle.history.proofs.Padded.{padded, padded-append}
 use Rattle.history.proofs.OnDisk.{OnDisk, opens}
@@ -97,13 +94,13 @@ module _ (w : World) where
   unfolding stepOf
   begin-refuses h =
       let e = begin-refused (w .state) (w .memory) (w .tail) _ refl h in
-      record { event = ap (λ (r : Begun). eventOf begin (begun w r .reply)) e; world = ap (λ (r : Begun). begun w r .world) e }
+      record { event = ap (λ (r : Told). eventOf begin (returned w r .reply)) e; world = ap (λ (r : Told). returned w r .world) e }
 
   pub write-refuses : (id a : ℕ) (bs : List ℕ) → (writeNumber (w .state) (w .memory) (w .tail) (record { 0 = id }) a (length bs) ≡ 0 → ⊥) → Refuses w (write id a bs)
   unfolding stepOf
   write-refuses id a bs h =
       let e = write-refused (w .state) (w .memory) (w .tail) (record { 0 = id }) a bs _ refl h in
-      record { event = ap (λ (r : Outcome Returned). eventOf (write id a bs) (changed w r .reply)) e; world = ap (λ (r : Outcome Returned). changed w r .world) e }
+      record { event = ap (λ (r : Outcome). eventOf (write id a bs) (changed w r .reply)) e; world = ap (λ (r : Outcome). changed w r .world) e }
 
   pub read-refuses : (id a k : ℕ) → Refuses w (read id a k)
   unfolding stepOf
@@ -116,40 +113,40 @@ module _ (w : World) where
       same-or-other n 0
       (λ z.
       let e = answer-done (w .state) (w .memory) (w .tail) (record { 0 = id }) a k z in
-      record { event = ap (λ (r : Returned). eventOf (readAnswer id a k) (returned w r .reply)) e; world = ap (λ (r : Returned). returned w r .world) e })
+      record { event = ap (λ (r : Told). eventOf (readAnswer id a k) (returned w r .reply)) e; world = ap (λ (r : Told). returned w r .world) e })
       (λ h.
       let e = answer-refused (w .state) (w .memory) (w .tail) (record { 0 = id }) a k n refl h in
-      record { event = ap (λ (r : Returned). eventOf (readAnswer id a k) (returned w r .reply)) e; world = ap (λ (r : Returned). returned w r .world) e })
+      record { event = ap (λ (r : Told). eventOf (readAnswer id a k) (returned w r .reply)) e; world = ap (λ (r : Told). returned w r .world) e })
 
   pub precommit-refuses : (id : ℕ) → (precommitNumber (w .state) (w .memory) (w .tail) (record { 0 = id }) ≡ 0 → ⊥) → Refuses w (precommit id)
   unfolding stepOf
   precommit-refuses id h =
       let e = precommit-refused (w .state) (w .memory) (w .tail) (record { 0 = id }) _ refl h in
-      record { event = ap (λ (r : Outcome Precommitted). eventOf (precommit id) (precommitted w r .reply)) e; world = ap (λ (r : Outcome Precommitted). precommitted w r .world) e }
+      record { event = ap (λ (r : Outcome). eventOf (precommit id) (changed w r .reply)) e; world = ap (λ (r : Outcome). changed w r .world) e }
 
   pub abort-refuses : (id : ℕ) → (abortNumber (w .state) (w .memory) (w .tail) (record { 0 = id }) ≡ 0 → ⊥) → Refuses w (abort id)
   unfolding stepOf
   abort-refuses id h =
       let e = abort-refused (w .state) (w .memory) (w .tail) (record { 0 = id }) _ refl h in
-      record { event = ap (λ (r : Outcome Returned). eventOf (abort id) (changed w r .reply)) e; world = ap (λ (r : Outcome Returned). changed w r .world) e }
+      record { event = ap (λ (r : Outcome). eventOf (abort id) (changed w r .reply)) e; world = ap (λ (r : Outcome). changed w r .world) e }
 
   pub settle-refuses : (id : ℕ) → (settleNumber (w .state) (w .memory) (w .tail) (record { 0 = id }) ≡ 0 → ⊥) → Refuses w (settle id)
   unfolding stepOf
   settle-refuses id h =
       let e = settle-refused (w .state) (w .memory) (w .tail) (record { 0 = id }) _ refl h in
-      record { event = ap (λ (r : Returned). eventOf (settle id) (returned w r .reply)) e; world = ap (λ (r : Returned). returned w r .world) e }
+      record { event = ap (λ (r : Told). eventOf (settle id) (returned w r .reply)) e; world = ap (λ (r : Told). returned w r .world) e }
 
   pub flush-refuses : (k a : ℕ) → (diskNumber (w .state) (w .disk) (w .memory) (w .tail) ≡ 0 → ⊥) → Refuses w (flush k a)
   unfolding stepOf flushOf
   flush-refuses k a h =
       let e = stored-refused (w .state) (w .disk) (w .memory) (w .tail) (flushPlan (w .state) (w .memory) (w .tail) k) a _ refl h in
-      record { event = ap (λ (r : DiskOutcome Stored). eventOf (flush k a) (stored r .reply)) e; world = ap (λ (r : DiskOutcome Stored). stored r .world) e }
+      record { event = ap (λ (r : DiskOutcome). eventOf (flush k a) (stored r .reply)) e; world = ap (λ (r : DiskOutcome). stored r .world) e }
 
   pub checkpoint-refuses : (a : ℕ) → (diskNumber (w .state) (w .disk) (w .memory) (w .tail) ≡ 0 → ⊥) → Refuses w (checkpoint a)
   unfolding stepOf checkpointOf
   checkpoint-refuses a h =
       let e = stored-refused (w .state) (w .disk) (w .memory) (w .tail) (checkpointPlan (w .state) (w .disk) (w .memory) (w .tail)) a _ refl h in
-      record { event = ap (λ (r : DiskOutcome Stored). eventOf (checkpoint a) (stored r .reply)) e; world = ap (λ (r : DiskOutcome Stored). stored r .world) e }
+      record { event = ap (λ (r : DiskOutcome). eventOf (checkpoint a) (stored r .reply)) e; world = ap (λ (r : DiskOutcome). stored r .world) e }
 
 -- ---- an unrecovered state: every call but restart is refused, by 2
 

@@ -4,17 +4,12 @@ use Prim.Native.Nat.{ℕ}
 use mathlib.Core.List.{List, [], _∷_}
 use lib.ListN.{replicate}
 use Rattle.store.specs.declared.State.{State}
-use Rattle.store.specs.declared.Answer.{Answer}
-use Rattle.store.specs.declared.call.Begun.{Begun}
-use Rattle.store.specs.declared.call.Precommitted.{Precommitted}
-use Rattle.store.specs.declared.call.Returned.{Returned}
-use Rattle.store.specs.declared.stored.Stored.{Stored}
 use Rattle.store.specs.State.{unrecovered}
+use Rattle.store.specs.Answer.{Word, Told}
 use Rattle.store.specs.Calls.{Outcome, beginOf, writeOf, readOf, readAnswerOf, precommitOf, abortOf, settleOf}
 use Rattle.store.specs.Stored.{DiskOutcome}
 use Rattle.store.specs.Flush.{flushOf}
 use Rattle.store.specs.Checkpoint.{checkpointOf}
-use Rattle.disk.specs.declared.call.Restarted.{Restarted}
 use Rattle.disk.specs.Restart.{restartOf}
 
 -- the nine calls and read's sister (`readAnswer`), with their arguments
@@ -30,10 +25,9 @@ pub data Call : Type 0 where
   checkpoint : (allowed : ℕ) → Call
   restart : (allowed : ℕ) → Call
 
--- what a call tells: its answer, a value (begin's id, precommit's commit number, restart's count of transactions undone, else 0) and the stores
--- made; read hands back a part of memory
+-- what a call tells: its word, its value and the stores made; read hands back a part of memory
 pub data Reply : Type 0 where
-  told : (answer : Answer) (value stores : ℕ) → Reply
+  told : (says : Word) (value stores : ℕ) → Reply
   part : List ℕ → Reply
 
 -- what is lent to the calls, and the state between them
@@ -54,50 +48,35 @@ pub record Stepped : Type 0 where
   pub reply : Reply
   pub world : World
 
--- ---- of each kind of result: the reply, and the world that the call leaves
+-- ---- the reply, and the world that the call leaves
 
-abbrev pub begun : World → Begun → Stepped
-begun w r = record { reply = told (r .answer) (r .id .0) 0; world = withState (r .state) w }
+abbrev pub replyOf : Told → Reply
+replyOf r = told (r .says) (r .value) (r .stores)
 
-abbrev pub returned : World → Returned → Stepped
-returned w r = record { reply = told (r .answer) 0 0; world = withState (r .state) w }
+-- of a call that changes no buffer
+abbrev pub returned : World → Told → Stepped
+returned w r = record { reply = replyOf r; world = withState (r .state) w }
 
-abbrev pub changed : World → Outcome Returned → Stepped
-changed w o = record { reply = told (o .result .answer) 0 0; world = record { disk = w .disk; memory = o .memory; tail = o .tail; state = o .result .state } }
+-- of one that may change memory and tail
+abbrev pub changed : World → Outcome → Stepped
+changed w o = record { reply = replyOf (o .result); world = record { disk = w .disk; memory = o .memory; tail = o .tail; state = o .result .state } }
 
-abbrev pub precommitted : World → Outcome Precommitted → Stepped
-precommitted w o =
-    record {
-      reply = told (o .result .answer) (o .result .csn .0) 0;
-      world = record { disk = w .disk; memory = o .memory; tail = o .tail; state = o .result .state };
-    }
-
-abbrev pub stored : DiskOutcome Stored → Stepped
-stored o =
-    record {
-      reply = told (o .result .answer) 0 (o .result .stores);
-      world = record { disk = o .disk; memory = o .memory; tail = o .tail; state = o .result .state };
-    }
-
-abbrev pub restarted : DiskOutcome Restarted → Stepped
-restarted o =
-    record {
-      reply = told (o .result .answer) (o .result .undone) (o .result .stores);
-      world = record { disk = o .disk; memory = o .memory; tail = o .tail; state = o .result .state };
-    }
+-- of one that stores on the disk
+abbrev pub stored : DiskOutcome → Stepped
+stored o = record { reply = replyOf (o .result); world = record { disk = o .disk; memory = o .memory; tail = o .tail; state = o .result .state } }
 
 -- one call
 unfoldable pub stepOf : Call → World → Stepped
-stepOf begin w = begun w (beginOf (w .state) (w .memory) (w .tail))
+stepOf begin w = returned w (beginOf (w .state) (w .memory) (w .tail))
 stepOf (write id addr bytes) w = changed w (writeOf (w .state) (w .memory) (w .tail) (record { 0 = id }) addr bytes)
 stepOf (read id addr len) w = record { reply = part (readOf (w .state) (w .memory) (w .tail) (record { 0 = id }) addr len); world = w }
 stepOf (readAnswer id addr len) w = returned w (readAnswerOf (w .state) (w .memory) (w .tail) (record { 0 = id }) addr len)
-stepOf (precommit id) w = precommitted w (precommitOf (w .state) (w .memory) (w .tail) (record { 0 = id }))
+stepOf (precommit id) w = changed w (precommitOf (w .state) (w .memory) (w .tail) (record { 0 = id }))
 stepOf (abort id) w = changed w (abortOf (w .state) (w .memory) (w .tail) (record { 0 = id }))
 stepOf (flush groups allowed) w = stored (flushOf (w .state) (w .disk) (w .memory) (w .tail) groups allowed)
 stepOf (settle id) w = returned w (settleOf (w .state) (w .memory) (w .tail) (record { 0 = id }))
 stepOf (checkpoint allowed) w = stored (checkpointOf (w .state) (w .disk) (w .memory) (w .tail) allowed)
-stepOf (restart allowed) w = restarted (restartOf (w .disk) (w .memory) (w .tail) allowed)
+stepOf (restart allowed) w = stored (restartOf (w .disk) (w .memory) (w .tail) allowed)
 
 -- what a list of calls tells, and what it leaves
 pub record Ran : Type 0 where

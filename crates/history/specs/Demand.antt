@@ -8,7 +8,7 @@ use Rattle.recovery.specs.Lists.{All}
 use Rattle.recovery.specs.Ledger.{Event, unchanged, begun, wrote, precommitted, rolledBack, flushed, settled, restarted, cut, Commit, Ledger, noLedger, enter}
 use Rattle.recovery.specs.Claim.{commits, layCommits, Numbered}
 use Rattle.log.specs.Log.{readLog}
-use Rattle.store.specs.declared.Answer.the-variants.{Done, Cut, Refused}
+use Rattle.store.specs.Answer as words
 use Rattle.store.specs.State.{unrecovered}
 use Rattle.disk.specs.Layout.{logFrom}
 use Rattle.disk.specs.Restart.{restartOf}
@@ -43,9 +43,9 @@ cutEvent (checkpoint allowed) = unchanged
 cutEvent (restart allowed) = unchanged
 
 abbrev pub eventOf : Call → Reply → Event
-eventOf c (told Done value stores) = doneEvent c value
-eventOf c (told Cut value stores) = cut (cutEvent c)
-eventOf c (told (Refused n) value stores) = unchanged
+eventOf c (told words.done value stores) = doneEvent c value
+eventOf c (told words.cut value stores) = cut (cutEvent c)
+eventOf c (told (words.refused n) value stores) = unchanged
 eventOf c (part bytes) = unchanged
 
 -- ---- what may happen
@@ -83,7 +83,7 @@ Enough allowed disk = 16384 - groupsSize (readLog 0 (logFrom 0 disk)) ≤ allowe
 -- of one more restart
 pub record Restarts (disk : List ℕ) (durable : List Commit) (memory tail : List ℕ) (allowed : ℕ) : Type 0 where
   -- it isn't refused
-  pub done : restartOf disk memory tail allowed .result .answer ≡ Done
+  pub done : restartOf disk memory tail allowed .result .says ≡ words.done
   -- it leaves "4,096 zeros with the writes of the kept bookings laid over them, booking after booking, each one's writes in order"
   pub restores : restartOf disk memory tail allowed .memory ≡ layCommits durable (replicate 4096 0)
   -- after it the log, read from its first byte, has as its commits exactly the durable ones
