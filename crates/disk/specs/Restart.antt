@@ -4,6 +4,7 @@ use mathlib.Core.Bool.{true, cond}
 use mathlib.Core.List.{List}
 use lib.ListN.{replicate}
 use lib.Dec.{eqb}
+use Rattle.layout.specs.{logStart, logLen, maxTxs}
 use Rattle.log.specs.declared.TxId.{TxId}
 use Rattle.log.specs.declared.Csn.{Csn}
 use Rattle.log.specs.Stores.{Store, clears}
@@ -18,11 +19,11 @@ use Rattle.disk.specs.Examine.{Meaning, examineOf}
 
 -- Step 5: "Both commit numbers = the last found; log end = the end found." Step 6: "No transaction is left."
 unfoldable pub recoveredState : ℕ → Csn → TxId → State
-recoveredState end csn last = record { recovered = true; logend = end; ondisk = csn; assigned = csn; lastid = last; count = 0; txs = replicate 8 emptyTx }
+recoveredState end csn last = record { recovered = true; logend = end; ondisk = csn; assigned = csn; lastid = last; count = 0; txs = replicate maxTxs emptyTx }
 
 -- Step 6: "Store zero at every log place from 33,690 down to the log's end."
 abbrev pub clearing : ℕ → List Store
-clearing end = clears (17307 + end) (16384 - end)
+clearing end = clears (logStart + end) (logLen - end)
 
 -- what restart tells: its value is the count of transactions undone
 abbrev pub ofRestarted : Restarted → Told

@@ -1,5 +1,11 @@
 // The call that takes no state: restart.
 use crate::examine::examine;
+use layout::DISK_LEN;
+use layout::LOG_LEN;
+use layout::LOG_START;
+use layout::MAX_TXS;
+use layout::MEMORY_LEN;
+use layout::TAIL_LEN;
 use log::Csn;
 use log::TxId;
 use log::stores::clear_down;
@@ -30,7 +36,7 @@ fn recovered(end: u16, csn: Csn, last: TxId) -> State
         assigned: csn,
         lastid: last,
         count: 0,
-        txs: [none; 8],
+        txs: [none; MAX_TXS],
     }
 }
 
@@ -52,13 +58,13 @@ pub fn restart(disk: &mut [u8], memory: &mut [u8], tail: &mut [u8], allowed: usi
     ensures { λ _. ⌜ now (memory .exit) ≡ restartOf (now (disk .entry)) (now (memory .entry)) (now (tail .entry)) allowed .memory ⌝ }
     ensures { λ _. ⌜ now (tail .exit) ≡ restartOf (now (disk .entry)) (now (memory .entry)) (now (tail .entry)) allowed .tail ⌝ }
 {
-    if disk.len() != 33691 {
+    if disk.len() != DISK_LEN {
         return refused(1);
     }
-    if memory.len() != 4096 {
+    if memory.len() != MEMORY_LEN {
         return refused(1);
     }
-    if tail.len() != 16384 {
+    if tail.len() != TAIL_LEN {
         return refused(1);
     }
     let found = examine(&*disk, memory, tail);
@@ -66,8 +72,8 @@ pub fn restart(disk: &mut [u8], memory: &mut [u8], tail: &mut [u8], allowed: usi
         return refused(found.number);
     }
     let end = found.end;
-    let made = clear_down(&mut disk[17307..], end, allowed);
-    if made < 16384 - end {
+    let made = clear_down(&mut disk[LOG_START..], end, allowed);
+    if made < LOG_LEN - end {
         let off = cut_off(memory, tail, made);
         let state = off.state;
         return Restarted {

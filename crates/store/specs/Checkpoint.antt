@@ -4,6 +4,7 @@ use mathlib.Core.Bool.{Bool, cond, _||_}
 use mathlib.Core.List.{List, [], _∷_, _++_}
 use lib.ListN.{getD}
 use lib.Dec.{eqb}
+use Rattle.layout.specs.{imageA, imageB, namesA, namesB}
 use Rattle.log.specs.Stores.{Store, store, copies}
 use Rattle.image.specs.Format.{encodeImage}
 use Rattle.store.specs.declared.State.{State}
@@ -14,15 +15,15 @@ use Rattle.store.specs.Stored.{DiskOutcome, Plan, storedBy}
 abbrev pub storesAt : ℕ → ℕ → List ℕ → List Store
 storesAt at name bytes = copies at bytes ++ (store 0 name ∷ [])
 
--- "into A if the pointer byte is 0 or 2, else into B": A starts at offset 1, B at 8,654; the pointer byte names A by 1, B by 2
+-- "into A if the pointer byte is 0 or 2, else into B"
 abbrev pub intoA : ℕ → Bool
-intoA pointer = eqb pointer 0 || eqb pointer 2
+intoA pointer = eqb pointer 0 || eqb pointer namesB
 
 abbrev pub targetAt : ℕ → ℕ
-targetAt pointer = cond (intoA pointer) 1 8654
+targetAt pointer = cond (intoA pointer) imageA imageB
 
 abbrev pub targetName : ℕ → ℕ
-targetName pointer = cond (intoA pointer) 1 2
+targetName pointer = cond (intoA pointer) namesA namesB
 
 abbrev pub imageStores : ℕ → List ℕ → List Store
 imageStores pointer bytes = storesAt (targetAt pointer) (targetName pointer) bytes

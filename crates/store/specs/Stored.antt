@@ -4,6 +4,7 @@ use mathlib.Core.Bool.{cond, not}
 use mathlib.Core.List.{List, _∷_}
 use lib.ListN.{length, take, replicate}
 use lib.Dec.{eqb, ltb}
+use Rattle.layout.specs.{memoryLen, tailLen, diskLen}
 use Rattle.log.specs.Stores.{Store, apply}
 use Rattle.store.specs.declared.State.{State}
 use Rattle.store.specs.State.{unrecovered}
@@ -13,7 +14,7 @@ use Rattle.store.specs.Calls.{decided, refusing}
 
 -- "1. All calls: a lent buffer hasn't its length", the disk's before the shared ones (d, m: the lengths of the lent disk and memory)
 abbrev pub diskChecks : State → ℕ → ℕ → List ℕ → List Check
-diskChecks s d m tail = check 1 (not (eqb d 33691)) ∷ sharedChecks s m tail
+diskChecks s d m tail = check 1 (not (eqb d diskLen)) ∷ sharedChecks s m tail
 
 -- what such a call leaves
 pub record DiskOutcome : Type 0 where
@@ -40,8 +41,8 @@ cutShort p n disk =
     record {
       result = tells cut 0 (min n (length (p .stores))) unrecovered;
       disk = apply (take n (p .stores)) disk;
-      memory = replicate 4096 0;
-      tail = replicate 16384 0;
+      memory = replicate memoryLen 0;
+      tail = replicate tailLen 0;
     }
 
 abbrev pub madeWhole : Plan → ℕ → List ℕ → DiskOutcome

@@ -3,12 +3,19 @@ use crate::Answer;
 use crate::State;
 use crate::stored::Stored;
 use crate::stored::cut_off;
+use crate::stored::refused;
 use image::Image;
 use image::write::encode;
+use layout::IMAGE_A;
+use layout::IMAGE_B;
+use layout::IMAGE_LEN;
+use layout::NAMES_A;
+use layout::NAMES_B;
 use log::stores::copy_up;
 ghost use mathlib.Core.Path.{_≡_};
 ghost use Prim.Native.Nat.{_+_, _<_, _≤_, min};
 ghost use lib.ListN.{length, take, getD};
+ghost use Rattle.layout.specs.{diskLen, imageLen};
 ghost use Rattle.log.specs.Stores.{apply};
 ghost use Rattle.store.specs.Answer.{ofStored};
 ghost use Rattle.store.specs.State.{imageOf};
@@ -30,18 +37,18 @@ fn store_at(disk: &mut [u8], at: usize, name: u8, image: &[u8], allowed: usize) 
 
 // An image into A if the pointer byte is 0 or 2, else into B.
 fn store_image(disk: &mut [u8], image: &[u8], allowed: usize) -> usize
-    requires { ⌜ (length (now disk) ≡ 33691) × (length (now image) ≤ 8653) ⌝ }
+    requires { ⌜ (length (now disk) ≡ diskLen) × (length (now image) ≤ imageLen) ⌝ }
     ensures { λ r. ⌜ r ≡ min allowed (length (imageStores (getD (now (disk .entry)) 0 0) (now (image .entry)))) ⌝ }
     ensures { λ _. ⌜ now (disk .exit) ≡ apply (take allowed (imageStores (getD (now (disk .entry)) 0 0) (now (image .entry)))) (now (disk .entry)) ⌝ }
 {
     let pointer = disk[0];
     if pointer == 0 {
-        return store_at(disk, 1, 1, image, allowed);
+        return store_at(disk, IMAGE_A, NAMES_A, image, allowed);
     }
-    if pointer == 2 {
-        return store_at(disk, 1, 1, image, allowed);
+    if pointer == NAMES_B {
+        return store_at(disk, IMAGE_A, NAMES_A, image, allowed);
     }
-    store_at(disk, 8654, 2, image, allowed)
+    store_at(disk, IMAGE_B, NAMES_B, image, allowed)
 }
 
 impl State {
@@ -77,14 +84,10 @@ impl State {
     {
         let number = self.admit_disk(disk.len(), memory.len(), &*tail);
         if number != 0 {
-            return Stored {
-                answer: Answer::Refused(number),
-                stores: 0,
-                state: self,
-            };
+            return refused(number, self);
         }
         let image = self.image();
-        let mut bytes: [u8; 8653] = [0; 8653];
+        let mut bytes: [u8; IMAGE_LEN] = [0; IMAGE_LEN];
         let size = encode(&mut bytes, image, &*memory);
         let stores = store_image(disk, &bytes[..size], allowed);
         if stores <= size {

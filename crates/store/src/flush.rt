@@ -3,19 +3,22 @@ use crate::Answer;
 use crate::State;
 use crate::stored::Stored;
 use crate::stored::cut_off;
+use crate::stored::refused;
+use layout::LOG_START;
 use log::Csn;
 use log::scan::read_first;
 use log::stores::copy_up;
 use log::stores::shift_down;
 ghost use mathlib.Core.Path.{_≡_};
 ghost use Prim.Native.Nat.{_+_, _≤_};
+ghost use Rattle.layout.specs.{logLen};
 ghost use Rattle.store.specs.Answer.{ofStored};
 ghost use Rattle.store.specs.Flush.{withLog, flushOf};
 
 impl State {
     // n bytes more in the log, and the last commit number on disk.
     pub(crate) fn flush_step(mut self, n: usize, csn: Csn) -> Self
-        requires { ⌜ self .logend + n ≤ 16384 ⌝ }
+        requires { ⌜ self .logend + n ≤ logLen ⌝ }
         ensures { λ r. ⌜ r ≡ withLog self (self .logend + n) csn ⌝ }
     {
         self.logend = self.logend + n as u16;
@@ -38,16 +41,12 @@ impl State {
     {
         let number = self.admit_disk(disk.len(), memory.len(), &*tail);
         if number != 0 {
-            return Stored {
-                answer: Answer::Refused(number),
-                stores: 0,
-                state: self,
-            };
+            return refused(number, self);
         }
         let first = read_first(&*tail, self.ondisk, k);
         let size = first.end;
         let end = self.logend as usize;
-        let stores = copy_up(&mut disk[17307..], end, &tail[..size], allowed);
+        let stores = copy_up(&mut disk[LOG_START..], end, &tail[..size], allowed);
         if stores < size {
             return cut_off(memory, tail, stores);
         }

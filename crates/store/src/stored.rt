@@ -1,11 +1,13 @@
 // Calls that store on the disk: numbers 1 and 2 with the disk lent, and what a power cut leaves.
 use crate::Answer;
 use crate::State;
+use layout::DISK_LEN;
 use log::stores::fill_zero;
 ghost use mathlib.Core.Path.{_≡_};
 ghost use Rattle.store.specs.State.{unrecovered};
 ghost use Rattle.store.specs.Answer.{cut, tells, ofStored};
 ghost use Rattle.store.specs.Numbers.{firstNumber};
+ghost use Rattle.store.specs.Calls.{refusing};
 ghost use Rattle.store.specs.Stored.{diskChecks, zeroed};
 
 // stores is the number of stores made.
@@ -31,12 +33,23 @@ pub fn cut_off(memory: &mut [u8], tail: &mut [u8], stores: usize) -> Stored
     }
 }
 
+// Refused by a number, before any store: the state comes back as it was.
+pub(crate) fn refused(number: u8, state: State) -> Stored
+    ensures { λ r. ⌜ ofStored r ≡ refusing number state ⌝ }
+{
+    Stored {
+        answer: Answer::Refused(number),
+        stores: 0,
+        state: state,
+    }
+}
+
 impl State {
     // The number that refuses, 0 for none. disk and memory are the lengths of those lent.
     pub fn admit_disk(self, disk: usize, memory: usize, tail: &[u8]) -> u8
         ensures { λ r. ⌜ r ≡ firstNumber (diskChecks self disk memory (now (tail .entry))) ⌝ }
     {
-        if disk != 33691 {
+        if disk != DISK_LEN {
             return 1;
         }
         let admitted = self.admit(memory, tail);

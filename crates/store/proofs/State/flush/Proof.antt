@@ -14,10 +14,14 @@ admit-disk-requires c κs = search needs
 same-length : tie.Need-same-length
 same-length c = search needs
 
+refused-requires : tie.Need-refused-requires
+refused-requires c κs = search needs
+
 returns : tie.Need-returns
 returns c =
-    let a = c .before .before .before .before .before .before .args in
-    leaves (flush-refused (a .self) (a .disk .now) (a .memory .now) (a .tail .now) (a .k) (a .allowed) _ (sym (c .before .admit-disk .ensures)) (c .if1 .taken)) refl refl refl refl
+    let a = c .before .before .before .before .before .before .before .args in
+    leaves (flush-refused (a .self) (a .disk .now) (a .memory .now) (a .tail .now) (a .k) (a .allowed) _ (sym (c .before .before .admit-disk .ensures)) (c .before .if1 .taken))
+    (c .refused .ensures) refl refl refl
 
 -- nothing refuses
 
@@ -111,6 +115,7 @@ flush-spec =
     tie.close
     (tie.spec
     admit-disk-requires
+    refused-requires
     same-length
     returns
     read-first-requires
