@@ -23,12 +23,9 @@ use Rattle.store.specs.State.{txAt, txsOf, outlineAt, outlinesOf}
 use Rattle.image.specs.Rules.{distinct, outlinesOk}
 use Rattle.store.specs.Rules.{allZero, tailLength, tailOk, roomUsed, unfit}
 use Rattle.store.specs.Numbers.{Check, check, firstNumber, sharedChecks, numberBy}
-use Rattle.store.specs.Admission.{countersOk, measuredIf, measuredTxs, measuredTail, admission, numberAfter, Seen}
+use Rattle.store.specs.Admission.{notAdmitted, ruleBroken, countersOk, measuredIf, measuredTxs, measuredTail, admission, numberAfter, Seen}
 use Rattle.store.proofs.Fits.{Fit, fit, unfit-no, running-redo}
 use Rattle.store.proofs.Checks.{stops, passes, passed}
-
-abbrev pub refusedBy : ℕ → Admission
-refusedBy n = record { number = n; end = 0; room = 0 }
 
 -- ---- what was measured
 
@@ -40,11 +37,11 @@ if-room : (b : Bool) (n : ℕ) → b ≡ true → measuredIf b n .room ≡ n
 if-room b n e = rw e
 
 module _ (d a : ℕ) (t : List ℕ) where
-  pub other-csn : (lastCsn d (readLog d t) ≡ a → ⊥) → measuredTail d a t ≡ record { ok = false; room = 0 }
+  pub other-csn : (lastCsn d (readLog d t) ≡ a → ⊥) → measuredTail d a t ≡ ruleBroken
   unfolding measuredTail
   other-csn h = rw (ne-eqb (lastCsn d (readLog d t)) a h)
 
-  pub other-rest : allZero (drop (tailLength d t) t) ≡ false → measuredTail d a t ≡ record { ok = false; room = 0 }
+  pub other-rest : allZero (drop (tailLength d t) t) ≡ false → measuredTail d a t ≡ ruleBroken
   unfolding measuredTail
   other-rest e = rw (e, and-false)
 
@@ -64,15 +61,15 @@ module _ (s : State) where
   abbrev outlined : Bool
   outlined = outlinesOk (s .lastid .0) (s .assigned .0) (outlinesOf s)
 
-  pub bad-outline : every (outlineOk (s .lastid .0) (s .assigned .0)) (outlinesOf s) ≡ false → measuredTxs s ≡ record { ok = false; room = 0 }
+  pub bad-outline : every (outlineOk (s .lastid .0) (s .assigned .0)) (outlinesOf s) ≡ false → measuredTxs s ≡ ruleBroken
   unfolding measuredTxs
   bad-outline e = rw e
 
-  pub bad-alike : distinct (outlinesOf s) ≡ false → measuredTxs s ≡ record { ok = false; room = 0 }
+  pub bad-alike : distinct (outlinesOf s) ≡ false → measuredTxs s ≡ ruleBroken
   unfolding measuredTxs
   bad-alike e = rw (e, and-false)
 
-  pub bad-redo : every redoOk (txsOf s) ≡ false → measuredTxs s ≡ record { ok = false; room = 0 }
+  pub bad-redo : every redoOk (txsOf s) ≡ false → measuredTxs s ≡ ruleBroken
   unfolding measuredTxs
   bad-redo e = rw (e, and-false)
 
@@ -189,16 +186,16 @@ reserved-bound s h e =
 -- ---- the admission
 
 module _ (s : State) (m : ℕ) (t : List ℕ) where
-  pub admit-memory : (m ≡ 4096 → ⊥) → admission s m t ≡ refusedBy 1
+  pub admit-memory : (m ≡ 4096 → ⊥) → admission s m t ≡ notAdmitted 1
   unfolding admission
   admit-memory h = rw (ne-eqb m 4096 h)
 
-  pub admit-tail : (length t ≡ 16384 → ⊥) → admission s m t ≡ refusedBy 1
+  pub admit-tail : (length t ≡ 16384 → ⊥) → admission s m t ≡ notAdmitted 1
   unfolding admission
   admit-tail h = rw (ne-eqb (length t) 16384 h, and-false)
 
   module _ (e : m ≡ 4096) (f : length t ≡ 16384) where
-    pub admit-unfit : unfit s t ≡ true → admission s m t ≡ refusedBy 2
+    pub admit-unfit : unfit s t ≡ true → admission s m t ≡ notAdmitted 2
     unfolding admission
     admit-unfit h = rw (eq-eqb m 4096 e, eq-eqb (length t) 16384 f, h)
 

@@ -20,9 +20,12 @@ use Rattle.store.specs.Numbers.{Check, firstNumber, sharedChecks}
 unfoldable pub countersOk : Bool → ℕ → ℕ → ℕ → ℕ → Bool
 countersOk recovered logend ondisk assigned count = recovered && leb logend 16384 && leb ondisk assigned && leb count 8
 
+abbrev pub ruleBroken : Measured
+ruleBroken = record { ok = false; room = 0 }
+
 abbrev pub measuredIf : Bool → ℕ → Measured
 measuredIf true n = record { ok = true; room = n }
-measuredIf false n = record { ok = false; room = 0 }
+measuredIf false n = ruleBroken
 
 unfoldable pub measuredTxs : State → Measured
 measuredTxs s = measuredIf (outlinesOk (s .lastid .0) (s .assigned .0) (outlinesOf s) && every redoOk (txsOf s)) (sumOf roomOf (txsOf s))
@@ -30,9 +33,13 @@ measuredTxs s = measuredIf (outlinesOk (s .lastid .0) (s .assigned .0) (outlines
 unfoldable pub measuredTail : ℕ → ℕ → List ℕ → Measured
 measuredTail ondisk assigned tail = measuredIf (tailOk ondisk assigned tail) (tailLength ondisk tail)
 
+abbrev pub notAdmitted : ℕ → Admission
+notAdmitted n = record { number = n; end = 0; room = 0 }
+
+-- lent: the length of the lent memory
 unfoldable pub admission : State → ℕ → List ℕ → Admission
-admission s m tail =
-    let n = firstNumber (sharedChecks s m tail) in
+admission s lent tail =
+    let n = firstNumber (sharedChecks s lent tail) in
     record { number = n; end = cond (eqb n 0) (tailLength (s .ondisk .0) tail) 0; room = cond (eqb n 0) (roomUsed s tail) 0 }
 
 -- ---- what is decided of a call about the transaction of an id

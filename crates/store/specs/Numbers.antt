@@ -24,13 +24,13 @@ firstNumber (check n b ∷ cs) = cond b n (firstNumber cs)
 abbrev pub txOf : State → ℕ → Tx
 txOf s id = txAt s (slotOf s id)
 
--- "1. All calls: a lent buffer hasn't its length." "2. Calls handed a state: .." (m: the length of the lent memory)
+-- "1. All calls: a lent buffer hasn't its length." "2. Calls handed a state: .." (lent: the length of the lent memory)
 abbrev pub sharedChecks : State → ℕ → List ℕ → List Check
-sharedChecks s m tail = check 1 (not (eqb m 4096 && eqb (length tail) 16384)) ∷ check 2 (unfit s tail) ∷ []
+sharedChecks s lent tail = check 1 (not (eqb lent 4096 && eqb (length tail) 16384)) ∷ check 2 (unfit s tail) ∷ []
 
 -- the number that refuses a call whose own checks these are
 abbrev pub numberBy : State → ℕ → List ℕ → List Check → ℕ
-numberBy s m tail cs = firstNumber (sharedChecks s m tail ++ cs)
+numberBy s lent tail cs = firstNumber (sharedChecks s lent tail ++ cs)
 
 -- "6. .. the id isn't in the list."
 abbrev pub check6 : State → ℕ → Check

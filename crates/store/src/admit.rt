@@ -7,7 +7,7 @@ use log::scan::read_log;
 ghost use mathlib.Core.Path.{_≡_};
 ghost use Prim.Native.Nat.{_≤_};
 ghost use Rattle.store.specs.Rules.{allZero};
-ghost use Rattle.store.specs.Admission.{countersOk, measuredTxs, measuredTail, admission};
+ghost use Rattle.store.specs.Admission.{notAdmitted, ruleBroken, countersOk, measuredTxs, measuredTail, admission};
 
 // Whether what was looked at keeps its rules, and the log room that it takes.
 pub struct Measured {
@@ -20,6 +20,22 @@ pub struct Admission {
     pub number: u8,
     pub end: usize,
     pub room: usize,
+}
+
+fn not_admitted(number: u8) -> Admission
+    ensures { λ r. ⌜ r ≡ notAdmitted number ⌝ }
+{
+    Admission {
+        number: number,
+        end: 0,
+        room: 0,
+    }
+}
+
+fn rule_broken() -> Measured
+    ensures { λ r. ⌜ r ≡ ruleBroken ⌝ }
+{
+    Measured { ok: false, room: 0 }
 }
 
 // An or over all bytes instead of a stop at the first one that is not 0: it runs in wide registers.
@@ -58,10 +74,10 @@ fn measure_tail(tail: &[u8], ondisk: Csn, assigned: Csn) -> Measured
     let log = read_log(tail, ondisk);
     let end = log.end;
     if log.csn.0 != assigned.0 {
-        return Measured { ok: false, room: 0 };
+        return rule_broken();
     }
     if !all_zero(&tail[end..]) {
-        return Measured { ok: false, room: 0 };
+        return rule_broken();
     }
     Measured {
         ok: true,
@@ -85,13 +101,13 @@ impl State {
         while i < n {
             let t = self.txs[i];
             if !t.image_ok(last, assigned) {
-                return Measured { ok: false, room: 0 };
+                return rule_broken();
             }
             if !t.redo_ok() {
-                return Measured { ok: false, room: 0 };
+                return rule_broken();
             }
             if alike_from(keys, n, i + 1, t.id, t.csn) {
-                return Measured { ok: false, room: 0 };
+                return rule_broken();
             }
             room = room + t.room();
             i += 1;
@@ -102,23 +118,15 @@ impl State {
         }
     }
 
-    // memory is the length of the memory that was lent.
-    pub fn admit(self, memory: usize, tail: &[u8]) -> Admission
-        ensures { λ r. ⌜ r ≡ admission self memory (now (tail .entry)) ⌝ }
+    // lent is the length of the memory that was lent.
+    pub fn admit(self, lent: usize, tail: &[u8]) -> Admission
+        ensures { λ r. ⌜ r ≡ admission self lent (now (tail .entry)) ⌝ }
     {
-        if memory != 4096 {
-            return Admission {
-                number: 1,
-                end: 0,
-                room: 0,
-            };
+        if lent != 4096 {
+            return not_admitted(1);
         }
         if tail.len() != 16384 {
-            return Admission {
-                number: 1,
-                end: 0,
-                room: 0,
-            };
+            return not_admitted(1);
         }
         if !counters_ok(
             self.recovered,
@@ -127,35 +135,19 @@ impl State {
             self.assigned,
             self.count,
         ) {
-            return Admission {
-                number: 2,
-                end: 0,
-                room: 0,
-            };
+            return not_admitted(2);
         }
         let txs = self.measure_txs();
         if !txs.ok {
-            return Admission {
-                number: 2,
-                end: 0,
-                room: 0,
-            };
+            return not_admitted(2);
         }
         let log = measure_tail(tail, self.ondisk, self.assigned);
         if !log.ok {
-            return Admission {
-                number: 2,
-                end: 0,
-                room: 0,
-            };
+            return not_admitted(2);
         }
         let room = self.logend as usize + log.room + txs.room;
         if 16384 < room {
-            return Admission {
-                number: 2,
-                end: 0,
-                room: 0,
-            };
+            return not_admitted(2);
         }
         Admission {
             number: 0,

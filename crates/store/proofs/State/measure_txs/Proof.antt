@@ -62,13 +62,19 @@ whole t = t .before .before .before .before .before .before .before .args .t1
 abbrev at : tie.After-t Inv-loop μ-loop → ℕ
 at t = t .before .before .loop .i
 
+rule-broken-requires : tie.Need-rule-broken-requires Inv-loop μ-loop
+rule-broken-requires c κs = search needs
+
 returns : tie.Need-returns Inv-loop μ-loop
 returns c =
-    let t = c .before .before in
+    let t = c .before .before .before in
     let s = whole t in
-    sym
+    let bad = sym (c .before .before .image-ok .ensures) ∙ not-true _ (c .before .if1 .taken) in
+    c .rule-broken .ensures
+    ∙ sym
     (bad-outline s
-    (t .before .before .loop .inv .2 ∙ every-bad (outlineAt s) _ _ (t .before .loop-test .taken) (outlineOk (s .lastid .0) (s .assigned .0)) (sym (c .before .image-ok .ensures) ∙ not-true _ (c .if1 .taken))))
+    (t .before .before .loop .inv .2
+    ∙ every-bad (outlineAt s) _ _ (t .before .loop-test .taken) (outlineOk (s .lastid .0) (s .assigned .0)) bad))
 
 good-outline : (c : tie.Else1 Inv-loop μ-loop) → let s = whole (c .before .before) in outlineOk (s .lastid .0) (s .assigned .0) (outlineAt s (at (c .before .before))) ≡ true
 good-outline c = sym (c .before .image-ok .ensures) ∙ not-false _ (c .if1 .left)
@@ -82,10 +88,15 @@ good-undo c =
 redo-ok-requires : tie.Need-redo-ok-requires Inv-loop μ-loop
 redo-ok-requires c κs = counted (txAt (whole (c .before .before)) (at (c .before .before)) .undo) (good-undo c)
 
+rule-broken-requires-2 : tie.Need-rule-broken-requires-2 Inv-loop μ-loop
+rule-broken-requires-2 c κs = search needs
+
 returns-2 : tie.Need-returns-2 Inv-loop μ-loop
 returns-2 c =
-    let t = c .before .before .before .before in
-    sym (bad-redo (whole t) (t .before .before .loop .inv .4 ∙ every-bad (txAt (whole t)) _ _ (t .before .loop-test .taken) redoOk (sym (c .before .redo-ok .ensures) ∙ not-true _ (c .if2 .taken))))
+    let t = c .before .before .before .before .before in
+    let bad = sym (c .before .before .redo-ok .ensures) ∙ not-true _ (c .before .if2 .taken) in
+    c .rule-broken2 .ensures
+    ∙ sym (bad-redo (whole t) (t .before .before .loop .inv .4 ∙ every-bad (txAt (whole t)) _ _ (t .before .loop-test .taken) redoOk bad))
 
 add-alike-from : tie.Need-add-alike-from Inv-loop μ-loop
 add-alike-from c = search needs
@@ -108,10 +119,15 @@ compared c =
     c .alike-from .ensures
     ∙ by-keys (s .txs) (keys .result) (keys .ensures) (txAt s (at t) .id .0) (txAt s (at t) .csn .0) (s .count - (at t + 1)) (at t + 1) (omega (arith, t .before .before .before .before .before .before .before .pre, t .before .loop-test .taken))
 
+rule-broken-requires-3 : tie.Need-rule-broken-requires-3 Inv-loop μ-loop
+rule-broken-requires-3 c κs = search needs
+
 returns-3 : tie.Need-returns-3 Inv-loop μ-loop
 returns-3 c =
-    let t = c .before .before .before .before .before .before in
-    sym (bad-alike (whole t) (t .before .before .loop .inv .3 ∙ distinct-hit (whole t .txs) _ _ (t .before .loop-test .taken) (sym (compared (c .before)) ∙ c .if3 .taken)))
+    let t = c .before .before .before .before .before .before .before in
+    let hit = sym (compared (c .before .before)) ∙ c .before .if3 .taken in
+    c .rule-broken3 .ensures
+    ∙ sym (bad-alike (whole t) (t .before .before .loop .inv .3 ∙ distinct-hit (whole t .txs) _ _ (t .before .loop-test .taken) hit))
 
 room-requires : tie.Need-room-requires Inv-loop μ-loop
 room-requires c κs = let t = c .before .before .before .before .before .before in redo-records (txAt (whole t) (at t)) (good-undo (c .before .before .before .before)) (good-redo (c .before .before))
@@ -166,11 +182,14 @@ measure-txs-spec =
     mul-t
     element-copy-out-t
     image-ok-requires
+    rule-broken-requires
     returns
     redo-ok-requires
+    rule-broken-requires-2
     returns-2
     add-alike-from
     alike-from-requires
+    rule-broken-requires-3
     returns-3
     room-requires
     add-room
