@@ -2,9 +2,10 @@
 -- numbers.
 use Prim.Native.Nat.{ℕ, _≤_}
 use mathlib.Core.Bool.{Bool, true, false, cond, _&&_}
-use mathlib.Core.List.{List}
+use mathlib.Core.List.{List, [], _∷_}
 use mathlib.Core.Path.{_≡_}
 use lib.Dec.{eqb, leb}
+use Rattle.layout.specs.{logLen, maxTxs}
 use Rattle.transaction.specs.Lists.{every, sumOf}
 use Rattle.transaction.specs.Rules.{redoOk, roomOf}
 use Rattle.store.specs.declared.State.{State}
@@ -14,11 +15,11 @@ use Rattle.store.specs.declared.choose.Choice.{Choice}
 use Rattle.store.specs.State.{txsOf, outlinesOf, slotOf}
 use Rattle.image.specs.Rules.{outlinesOk}
 use Rattle.store.specs.Rules.{keepsImageRules, tailLength, tailOk, roomUsed}
-use Rattle.store.specs.Numbers.{Check, firstNumber, sharedChecks}
+use Rattle.store.specs.Numbers.{Check, firstNumber, sharedChecks, check6}
 
 -- recovered, and the image rules of the counters
 unfoldable pub countersOk : Bool → ℕ → ℕ → ℕ → ℕ → Bool
-countersOk recovered logend ondisk assigned count = recovered && leb logend 16384 && leb ondisk assigned && leb count 8
+countersOk recovered logend ondisk assigned count = recovered && leb logend logLen && leb ondisk assigned && leb count maxTxs
 
 abbrev pub ruleBroken : Measured
 ruleBroken = record { ok = false; room = 0 }
@@ -44,6 +45,10 @@ admission s lent tail =
 
 -- ---- what is decided of a call about the transaction of an id
 
+-- the first of its own numbers, before any other is looked at
+abbrev pub listedChecks : State → ℕ → List Check
+listedChecks s id = check6 s id ∷ []
+
 -- numbers 1 and 2 come before the call's own
 abbrev pub numberAfter : Admission → List Check → ℕ
 numberAfter x cs = cond (eqb (x .number) 0) (firstNumber cs) (x .number)
@@ -60,4 +65,4 @@ choice s x id cs = cond (eqb (numberAfter x cs) 0) (chosen s x id) (refusal (num
 
 -- what deciding rests on: an admission that does not refuse has seen the image rules kept, and room used that lies within the log
 abbrev pub Seen : Admission → State → Type 0
-Seen x s = x .number ≡ 0 → (keepsImageRules s ≡ true) × (x .room ≤ 16384)
+Seen x s = x .number ≡ 0 → (keepsImageRules s ≡ true) × (x .room ≤ logLen)

@@ -1,22 +1,28 @@
 // Numbers 1 and 2, which every call that is handed a state checks first.
+use crate::COUNT_MAX;
+use crate::LOGEND_MAX;
 use crate::State;
 use image::keys::alike_from;
 use image::keys::keys_of;
+use layout::LOG_LEN;
+use layout::MEMORY_LEN;
+use layout::TAIL_LEN;
 use log::Csn;
 use log::scan::read_log;
 ghost use mathlib.Core.Path.{_≡_};
 ghost use Prim.Native.Nat.{_≤_};
+ghost use Rattle.layout.specs.{maxTxs};
 ghost use Rattle.store.specs.Rules.{allZero};
 ghost use Rattle.store.specs.Admission.{notAdmitted, ruleBroken, countersOk, measuredTxs, measuredTail, admission};
 
 // Whether what was looked at keeps its rules, and the log room that it takes.
-pub struct Measured {
+pub(crate) struct Measured {
     pub ok: bool,
     pub room: usize,
 }
 
 // The number that refuses, 0 for none; if none, where the tail's groups end and the log room used.
-pub struct Admission {
+pub(crate) struct Admission {
     pub number: u8,
     pub end: usize,
     pub room: usize,
@@ -58,13 +64,13 @@ fn counters_ok(recovered: bool, logend: u16, ondisk: Csn, assigned: Csn, count: 
     if !recovered {
         return false;
     }
-    if 16384 < logend {
+    if LOGEND_MAX < logend {
         return false;
     }
     if assigned.0 < ondisk.0 {
         return false;
     }
-    count <= 8
+    count <= COUNT_MAX
 }
 
 // Whole groups with commit numbers from the one on disk up to the one assigned, then zeros.
@@ -88,7 +94,7 @@ fn measure_tail(tail: &[u8], ondisk: Csn, assigned: Csn) -> Measured
 impl State {
     // The rules of the transactions, and the log room that they have reserved.
     fn measure_txs(self) -> Measured
-        requires { ⌜ self .count ≤ 8 ⌝ }
+        requires { ⌜ self .count ≤ maxTxs ⌝ }
         ensures { λ r. ⌜ r ≡ measuredTxs self ⌝ }
     {
         let n = self.count as usize;
@@ -119,13 +125,13 @@ impl State {
     }
 
     // lent is the length of the memory that was lent.
-    pub fn admit(self, lent: usize, tail: &[u8]) -> Admission
+    pub(crate) fn admit(self, lent: usize, tail: &[u8]) -> Admission
         ensures { λ r. ⌜ r ≡ admission self lent (now (tail .entry)) ⌝ }
     {
-        if lent != 4096 {
+        if lent != MEMORY_LEN {
             return not_admitted(1);
         }
-        if tail.len() != 16384 {
+        if tail.len() != TAIL_LEN {
             return not_admitted(1);
         }
         if !counters_ok(
@@ -146,7 +152,7 @@ impl State {
             return not_admitted(2);
         }
         let room = self.logend as usize + log.room + txs.room;
-        if 16384 < room {
+        if LOG_LEN < room {
             return not_admitted(2);
         }
         Admission {

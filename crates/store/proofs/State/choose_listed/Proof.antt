@@ -6,7 +6,7 @@ use mathlib.Core.Path.{sym, ap, _∙_}
 use borrow.Author.Tests.{eq-eqb, ne-eqb}
 use Rattle.image.proofs.Rules.{image-count}
 use Rattle.store.specs.State.{imageOf}
-use Rattle.store.specs.Numbers.{listedChecks}
+use Rattle.store.specs.Admission.{listedChecks}
 use Rattle.store.proofs.Choosing.{choice-none, choice-some, refused-6, passes-6}
 use Rattle.store.proofs.State.choose_listed.Statement.{statement}
 use Rattle.store.proofs.State.choose_listed.Tie as tie

@@ -2,7 +2,8 @@ use borrow.Author.Needs.{needs}
 use native.Mathlib.Omega.{arith}
 use mathlib.Core.List.{[], _∷_}
 use mathlib.Core.Path.{refl}
-use Rattle.store.specs.Numbers.{check7, listedChecks}
+use Rattle.store.specs.Numbers.{check7}
+use Rattle.store.specs.Admission.{listedChecks}
 use Rattle.store.proofs.Choosing.{choice-stops, choice-refuses, choice-goes, Slotted, slotted, refused-7, passes-7}
 use Rattle.store.proofs.State.choose_running.Statement.{statement}
 use Rattle.store.proofs.State.choose_running.Tie as tie

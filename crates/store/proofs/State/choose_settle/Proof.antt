@@ -4,7 +4,8 @@ use native.Mathlib.Omega.{arith}
 use mathlib.Core.List.{[], _∷_}
 use mathlib.Core.Path.{_≡_, refl, sym, _∙_}
 use borrow.Author.Tests.{eq-eqb, ne-eqb, lt-ltb, le-ltb}
-use Rattle.store.specs.Numbers.{txOf, listedChecks, check14}
+use Rattle.store.specs.Numbers.{txOf, check14}
+use Rattle.store.specs.Admission.{listedChecks}
 use Rattle.store.proofs.Choosing.{choice-stops, choice-refuses, choice-goes, Slotted, slotted, status-of}
 use Rattle.store.proofs.State.choose_settle.Statement.{statement}
 use Rattle.store.proofs.State.choose_settle.Tie as tie
