@@ -55,9 +55,11 @@ impl State {
 
     pub(crate) fn precommit_step(mut self, tail: &mut [u8], end: usize, slot: usize) -> Self
         requires { ⌜ (slot < maxTxs) × (self .assigned .0 < 4294967295) ⌝ }
-        requires { ⌜ (recordsOk (rangesOf (txAt self slot .redo)) ≡ true) × (end + rangesSize (rangesOf (txAt self slot .redo)) + commitLen ≤ length (now tail)) ⌝ }
+        requires { ⌜ (recordsOk (rangesOf (txAt self slot .redo)) ≡ true)
+            × (end + rangesSize (rangesOf (txAt self slot .redo)) + commitLen ≤ length (now tail)) ⌝ }
         ensures { λ r. ⌜ r ≡ precommittedState self slot ⌝ }
-        ensures { λ _. ⌜ now (tail .exit) ≡ sets (now (tail .entry)) end (encodeGroup (committed (txAt self slot .id .0) (self .assigned .0 + 1) (writesOf (txAt self slot .redo)))) ⌝ }
+        ensures { λ _. ⌜ now (tail .exit) ≡ sets (now (tail .entry)) end
+            (encodeGroup (committed (txAt self slot .id .0) (self .assigned .0 + 1) (writesOf (txAt self slot .redo)))) ⌝ }
     {
         let csn = Csn(self.assigned.0 + 1);
         let t = self.txs[slot];

@@ -14,7 +14,8 @@ use Rattle.store.specs.State.{txsOf, outlinesOf}
 use Rattle.image.specs.Rules.{outlinesOk}
 use Rattle.store.specs.Rules.{tailLength, tailOk, unfit}
 use Rattle.store.specs.Admission.{notAdmitted, countersOk, admission}
-use Rattle.store.proofs.Admitting.{head-count, unfit-head, unfit-txs, unfit-tail, unfit-room, unfit-none, txs-measured, txs-room, tail-measured, tail-room, reserved-bound, admit-memory, admit-tail, admit-unfit, admit-fit}
+use Rattle.store.proofs.Admitting.{head-count, unfit-head, unfit-txs, unfit-tail, unfit-room, unfit-none, txs-measured, txs-room}
+use Rattle.store.proofs.Admitting.{tail-measured, tail-room, reserved-bound, admit-memory, admit-tail, admit-unfit, admit-fit}
 use Rattle.store.proofs.State.admit.Statement.{statement}
 use Rattle.store.proofs.State.admit.Tie as tie
 
