@@ -4,6 +4,7 @@ use mathlib.Core.Bool.{true, cond}
 use mathlib.Core.List.{List}
 use lib.ListN.{replicate}
 use lib.Dec.{eqb, ltb}
+use Rattle.layout.specs.{memoryLen, tailLen, logLen, maxTxs, abortLen, namesB}
 use Rattle.image.specs.declared.Image.{Image}
 use Rattle.image.specs.declared.read.Decoded.{Decoded}
 use Rattle.image.specs.Reading.{memoryOf}
@@ -19,7 +20,7 @@ pub record Loaded : Type 0 where
 
 -- Step 1: "Take the image named (none: zero memory, counters 0, no transactions, log end 0)."
 abbrev pub noImage : Loaded
-noImage = record { decoded = record { ok = true; image = emptyImage }; memory = replicate 4096 0 }
+noImage = record { decoded = record { ok = true; image = emptyImage }; memory = replicate memoryLen 0 }
 
 abbrev pub imageNamed : ℕ → List ℕ → Loaded
 imageNamed pointer disk = record { decoded = decodeOf (imagePart pointer disk); memory = memoryOf (imagePart pointer disk) }
@@ -37,14 +38,14 @@ pub record Meaning : Type 0 where
 unfoldable pub refusedBy : ℕ → Meaning
 refusedBy n =
     record {
-      result = record { number = n; end = 0; csn = record { 0 = 0 }; last = record { 0 = 0 }; undone = 0; found = replicate 8 0 };
-      memory = replicate 4096 0;
-      tail = replicate 16384 0;
+      result = record { number = n; end = 0; csn = record { 0 = 0 }; last = record { 0 = 0 }; undone = 0; found = replicate maxTxs 0 };
+      memory = replicate memoryLen 0;
+      tail = replicate tailLen 0;
     }
 
 -- steps 2 to 5 from an image and its memory on, with a tail of zeros
 unfoldable pub stepsOf : Image → List ℕ → List ℕ → Outcome
-stepsOf image memory disk = recoverOf image (logFrom (image .logend) disk) memory (replicate 16384 0)
+stepsOf image memory disk = recoverOf image (logFrom (image .logend) disk) memory (replicate tailLen 0)
 
 -- the end is counted from the log's first byte
 abbrev pub meant : ℕ → Outcome → Meaning
@@ -65,7 +66,7 @@ meant logend o =
 
 -- "5. Restart: end found + 4 × transactions undone in step 4 exceeds 16,384."
 abbrev pub ifFits : ℕ → Outcome → Meaning
-ifFits logend o = cond (ltb 16384 (logend + o .answer .end + 4 * o .answer .undone)) (refusedBy 5) (meant logend o)
+ifFits logend o = cond (ltb logLen (logend + o .answer .end + abortLen * o .answer .undone)) (refusedBy 5) (meant logend o)
 
 -- "4. Restart: the image breaks a rule."
 abbrev pub ofLoaded : Loaded → List ℕ → Meaning
@@ -73,4 +74,4 @@ ofLoaded l disk = cond (l .decoded .ok) (ifFits (l .decoded .image .logend) (ste
 
 -- "3. Restart: the pointer byte exceeds 2."
 unfoldable pub examineOf : List ℕ → Meaning
-examineOf disk = cond (ltb 2 (pointerOf disk)) (refusedBy 3) (ofLoaded (loadOf (pointerOf disk) disk) disk)
+examineOf disk = cond (ltb namesB (pointerOf disk)) (refusedBy 3) (ofLoaded (loadOf (pointerOf disk) disk) disk)

@@ -5,21 +5,22 @@ use mathlib.Core.Bool.{Bool, cond, _&&_}
 use mathlib.Core.List.{List}
 use lib.ListN.{length, getD, take, drop}
 use lib.Dec.{eqb}
+use Rattle.layout.specs.{memoryLen, tailLen, diskLen, imageA, imageB, imageLen, logStart, namesA}
 
 abbrev pub pointerOf : List ℕ → ℕ
 pointerOf disk = getD disk 0 0
 
 -- where the image stands that a pointer byte names
 abbrev pub imageAt : ℕ → ℕ
-imageAt pointer = cond (eqb pointer 1) 1 8654
+imageAt pointer = cond (eqb pointer namesA) imageA imageB
 
 abbrev pub imagePart : ℕ → List ℕ → List ℕ
-imagePart pointer disk = take 8653 (drop (imageAt pointer) disk)
+imagePart pointer disk = take imageLen (drop (imageAt pointer) disk)
 
 -- the log from a place of it on
 abbrev pub logFrom : ℕ → List ℕ → List ℕ
-logFrom at disk = drop (17307 + at) disk
+logFrom at disk = drop (logStart + at) disk
 
 -- each lent buffer has its length
 abbrev pub lengthsOk : List ℕ → List ℕ → List ℕ → Bool
-lengthsOk disk memory tail = eqb (length disk) 33691 && eqb (length memory) 4096 && eqb (length tail) 16384
+lengthsOk disk memory tail = eqb (length disk) diskLen && eqb (length memory) memoryLen && eqb (length tail) tailLen

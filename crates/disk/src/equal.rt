@@ -1,5 +1,8 @@
 // Equal in meaning.
 use crate::examine::examine;
+use layout::DISK_LEN;
+use layout::MEMORY_LEN;
+use layout::TAIL_LEN;
 ghost use mathlib.Core.Path.{_≡_};
 ghost use lib.ListN.{length};
 ghost use Rattle.disk.specs.Equal.{sameBytes, equalOf};
@@ -21,15 +24,15 @@ fn same(a: &[u8], b: &[u8]) -> bool
 pub fn equal(a: &[u8], b: &[u8]) -> bool
     ensures { λ r. ⌜ r ≡ equalOf (now (a .entry)) (now (b .entry)) ⌝ }
 {
-    if a.len() != 33691 {
+    if a.len() != DISK_LEN {
         return false;
     }
-    if b.len() != 33691 {
+    if b.len() != DISK_LEN {
         return false;
     }
-    let mut tail = [0u8; 16384];
-    let mut memory = [0u8; 4096];
-    let mut other = [0u8; 4096];
+    let mut tail = [0u8; TAIL_LEN];
+    let mut memory = [0u8; MEMORY_LEN];
+    let mut other = [0u8; MEMORY_LEN];
     let x = examine(a, &mut memory, &mut tail);
     if x.number != 0 {
         return false;

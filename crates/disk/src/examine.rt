@@ -2,6 +2,17 @@
 use image::Image;
 use image::read::Decoded;
 use image::read::decode;
+use layout::ABORT_LEN;
+use layout::COUNTERS_LEN;
+use layout::IMAGE_A;
+use layout::IMAGE_B;
+use layout::IMAGE_LEN;
+use layout::LOG_LEN;
+use layout::LOG_START;
+use layout::MAX_TXS;
+use layout::NAMES_A;
+use layout::NAMES_B;
+use layout::TXS_START;
 use log::Csn;
 use log::TxId;
 use log::stores::copy;
@@ -11,33 +22,34 @@ ghost use mathlib.Core.Path.{_≡_};
 ghost use mathlib.Core.Bool.{true};
 ghost use Prim.Native.Nat.{_≤_};
 ghost use lib.ListN.{length, replicate};
+ghost use Rattle.layout.specs.{memoryLen, tailLen, diskLen};
 ghost use Rattle.disk.specs.Layout.{imageAt};
 ghost use Rattle.disk.specs.Examine.{loadOf, refusedBy, examineOf};
 
 // The number that refuses, 0 for none. If none: the log's end counted from its first byte, the last commit number and the last id, how many
 // transactions step 4 undid, and what was found of each of the image's.
-pub struct Examined {
+pub(crate) struct Examined {
     pub number: u8,
     pub end: usize,
     pub csn: Csn,
     pub last: TxId,
     pub undone: usize,
-    pub found: [u8; 8],
+    pub found: [u8; MAX_TXS],
 }
 
 // Where the image stands that a pointer byte of 1 or 2 names.
 fn image_at(pointer: u8) -> usize
     ensures { λ r. ⌜ r ≡ imageAt pointer ⌝ }
 {
-    if pointer == 1 {
-        return 1;
+    if pointer == NAMES_A {
+        return IMAGE_A;
     }
-    8654
+    IMAGE_B
 }
 
 // Step 1, of a pointer byte that names an image or none.
 fn load(disk: &[u8], pointer: u8, memory: &mut [u8]) -> Decoded
-    requires { ⌜ (length (now disk) ≡ 33691) × (length (now memory) ≡ 4096) ⌝ }
+    requires { ⌜ (length (now disk) ≡ diskLen) × (length (now memory) ≡ memoryLen) ⌝ }
     ensures { λ r. ⌜ r ≡ loadOf pointer (now (disk .entry)) .decoded ⌝ }
     ensures { λ _. ⌜ now (memory .exit) ≡ loadOf pointer (now (disk .entry)) .memory ⌝ }
 {
@@ -50,12 +62,12 @@ fn load(disk: &[u8], pointer: u8, memory: &mut [u8]) -> Decoded
         };
     }
     let from = image_at(pointer);
-    copy(memory, 0, &disk[from + 13..from + 4109]);
-    decode(&disk[from..from + 8653])
+    copy(memory, 0, &disk[from + COUNTERS_LEN..from + TXS_START]);
+    decode(&disk[from..from + IMAGE_LEN])
 }
 
 fn refuse(number: u8, memory: &mut [u8], tail: &mut [u8]) -> Examined
-    requires { ⌜ (length (now memory) ≡ 4096) × (length (now tail) ≡ 16384) ⌝ }
+    requires { ⌜ (length (now memory) ≡ memoryLen) × (length (now tail) ≡ tailLen) ⌝ }
     ensures { λ r. ⌜ r ≡ refusedBy number .result ⌝ }
     ensures { λ _. ⌜ now (memory .exit) ≡ refusedBy number .memory ⌝ }
     ensures { λ _. ⌜ now (tail .exit) ≡ refusedBy number .tail ⌝ }
@@ -68,19 +80,19 @@ fn refuse(number: u8, memory: &mut [u8], tail: &mut [u8]) -> Examined
         csn: Csn(0),
         last: TxId(0),
         undone: 0,
-        found: [0; 8],
+        found: [0; MAX_TXS],
     }
 }
 
 // The three buffers have their lengths; what memory and tail held doesn't matter.
-pub fn examine(disk: &[u8], memory: &mut [u8], tail: &mut [u8]) -> Examined
-    requires { ⌜ (length (now disk) ≡ 33691) × (length (now memory) ≡ 4096) × (length (now tail) ≡ 16384) ⌝ }
+pub(crate) fn examine(disk: &[u8], memory: &mut [u8], tail: &mut [u8]) -> Examined
+    requires { ⌜ (length (now disk) ≡ diskLen) × (length (now memory) ≡ memoryLen) × (length (now tail) ≡ tailLen) ⌝ }
     ensures { λ r. ⌜ r ≡ examineOf (now (disk .entry)) .result ⌝ }
     ensures { λ _. ⌜ now (memory .exit) ≡ examineOf (now (disk .entry)) .memory ⌝ }
     ensures { λ _. ⌜ now (tail .exit) ≡ examineOf (now (disk .entry)) .tail ⌝ }
 {
     let pointer = disk[0];
-    if 2 < pointer {
+    if NAMES_B < pointer {
         return refuse(3, memory, tail);
     }
     let loaded = load(disk, pointer, memory);
@@ -90,10 +102,10 @@ pub fn examine(disk: &[u8], memory: &mut [u8], tail: &mut [u8]) -> Examined
     fill_zero(tail);
     let image = loaded.image;
     let logend = image.logend as usize;
-    let start = 17307 + logend;
+    let start = LOG_START + logend;
     let found = recover(image, &disk[start..], memory, tail);
     let end = logend + found.end;
-    if 16384 < end + 4 * found.undone {
+    if LOG_LEN < end + ABORT_LEN * found.undone {
         return refuse(5, memory, tail);
     }
     let csn = found.csn;

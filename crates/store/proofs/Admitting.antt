@@ -1,5 +1,5 @@
 -- The cases of numbers 1 and 2, each from the tests that lead there.
-use Prim.Native.Nat.{ℕ, zero, suc, _+_, _-_, _*_, _≤_, _<_}
+use Prim.Native.Nat.{ℕ, zero, suc, _+_, _*_, _≤_, _<_}
 use native.Mathlib.Omega.{arith}
 use mathlib.Core.Bool.{Bool, true, false, cond, not, _&&_, _||_, or-true, and-false}
 use mathlib.Core.List.{List, [], _∷_}
@@ -23,12 +23,9 @@ use Rattle.store.specs.State.{txAt, txsOf, outlineAt, outlinesOf}
 use Rattle.image.specs.Rules.{distinct, outlinesOk}
 use Rattle.store.specs.Rules.{allZero, tailLength, tailOk, roomUsed, unfit}
 use Rattle.store.specs.Numbers.{Check, check, firstNumber, sharedChecks, numberBy}
-use Rattle.store.specs.Admission.{countersOk, measuredIf, measuredTxs, measuredTail, admission, numberAfter, Seen}
+use Rattle.store.specs.Admission.{notAdmitted, ruleBroken, countersOk, measuredIf, measuredTxs, measuredTail, admission, numberAfter, Seen}
 use Rattle.store.proofs.Fits.{Fit, fit, unfit-no, running-redo}
 use Rattle.store.proofs.Checks.{stops, passes, passed}
-
-abbrev pub refusedBy : ℕ → Admission
-refusedBy n = record { number = n; end = 0; room = 0 }
 
 -- ---- what was measured
 
@@ -40,11 +37,11 @@ if-room : (b : Bool) (n : ℕ) → b ≡ true → measuredIf b n .room ≡ n
 if-room b n e = rw e
 
 module _ (d a : ℕ) (t : List ℕ) where
-  pub other-csn : (lastCsn d (readLog d t) ≡ a → ⊥) → measuredTail d a t ≡ record { ok = false; room = 0 }
+  pub other-csn : (lastCsn d (readLog d t) ≡ a → ⊥) → measuredTail d a t ≡ ruleBroken
   unfolding measuredTail
   other-csn h = rw (ne-eqb (lastCsn d (readLog d t)) a h)
 
-  pub other-rest : allZero (drop (tailLength d t) t) ≡ false → measuredTail d a t ≡ record { ok = false; room = 0 }
+  pub other-rest : allZero (drop (tailLength d t) t) ≡ false → measuredTail d a t ≡ ruleBroken
   unfolding measuredTail
   other-rest e = rw (e, and-false)
 
@@ -64,15 +61,15 @@ module _ (s : State) where
   abbrev outlined : Bool
   outlined = outlinesOk (s .lastid .0) (s .assigned .0) (outlinesOf s)
 
-  pub bad-outline : every (outlineOk (s .lastid .0) (s .assigned .0)) (outlinesOf s) ≡ false → measuredTxs s ≡ record { ok = false; room = 0 }
+  pub bad-outline : every (outlineOk (s .lastid .0) (s .assigned .0)) (outlinesOf s) ≡ false → measuredTxs s ≡ ruleBroken
   unfolding measuredTxs
   bad-outline e = rw e
 
-  pub bad-alike : distinct (outlinesOf s) ≡ false → measuredTxs s ≡ record { ok = false; room = 0 }
+  pub bad-alike : distinct (outlinesOf s) ≡ false → measuredTxs s ≡ ruleBroken
   unfolding measuredTxs
   bad-alike e = rw (e, and-false)
 
-  pub bad-redo : every redoOk (txsOf s) ≡ false → measuredTxs s ≡ record { ok = false; room = 0 }
+  pub bad-redo : every redoOk (txsOf s) ≡ false → measuredTxs s ≡ ruleBroken
   unfolding measuredTxs
   bad-redo e = rw (e, and-false)
 
@@ -100,7 +97,8 @@ module _ (s : State) (t : List ℕ) where
   unfolding unfit countersOk
   unfit-head e =
       rw (length-up (outlineAt s) (s .count) 0)
-      (go (s .recovered) (leb (s .logend) 16384) (leb (s .ondisk .0) (s .assigned .0)) (leb (s .count) 8) (outlinesOk (s .lastid .0) (s .assigned .0) (outlinesOf s))
+      (go (s .recovered) (leb (s .logend) 16384) (leb (s .ondisk .0) (s .assigned .0)) (leb (s .count) 8)
+      (outlinesOk (s .lastid .0) (s .assigned .0) (outlinesOf s))
       (ltb 16384 (roomUsed s t)) (not (every redoOk (txsOf s))) (not (tailOk (s .ondisk .0) (s .assigned .0) t)) e)
     where
       go : (r a b k o x y z : Bool) → r && a && b && k ≡ false → not r || not (a && b && k && o) || x || y || z ≡ true
@@ -113,7 +111,8 @@ module _ (s : State) (t : List ℕ) where
   pub unfit-txs : outlinesOk (s .lastid .0) (s .assigned .0) (outlinesOf s) && every redoOk (txsOf s) ≡ false → unfit s t ≡ true
   unfolding unfit
   unfit-txs e =
-      go (not (s .recovered)) (leb (s .logend) 16384 && leb (s .ondisk .0) (s .assigned .0) && leb (length (outlinesOf s)) 8) (outlinesOk (s .lastid .0) (s .assigned .0) (outlinesOf s))
+      go (not (s .recovered)) (leb (s .logend) 16384 && leb (s .ondisk .0) (s .assigned .0) && leb (length (outlinesOf s)) 8)
+      (outlinesOk (s .lastid .0) (s .assigned .0) (outlinesOf s))
       (every redoOk (txsOf s)) (ltb 16384 (roomUsed s t)) (not (tailOk (s .ondisk .0) (s .assigned .0) t)) e
     where
       go : (r i o d x z : Bool) → o && d ≡ false → r || not (i && o) || x || not d || z ≡ true
@@ -134,7 +133,8 @@ module _ (s : State) (t : List ℕ) where
     unfolding countersOk
     head-count = leb-true _ _ (and-right (s .recovered && leb (s .logend) 16384 && leb (s .ondisk .0) (s .assigned .0)) (leb (s .count) 8) e)
 
-    pub unfit-none : outlinesOk (s .lastid .0) (s .assigned .0) (outlinesOf s) && every redoOk (txsOf s) ≡ true → tailOk (s .ondisk .0) (s .assigned .0) t ≡ true
+    pub unfit-none : outlinesOk (s .lastid .0) (s .assigned .0) (outlinesOf s) && every redoOk (txsOf s) ≡ true
+        → tailOk (s .ondisk .0) (s .assigned .0) t ≡ true
         → roomUsed s t ≤ 16384 → unfit s t ≡ false
     unfolding countersOk
     unfit-none m q h =
@@ -177,82 +177,85 @@ abbrev headOf : State → ℕ → Bool
 headOf s j = headRules (s .lastid .0) (s .assigned .0) (txAt s j .id .0) (txAt s j .status) (txAt s j .csn .0)
 
 -- what the transactions of a state have reserved together
-pub reserved-bound : (s : State) → s .count ≤ 8 → outlinesOk (s .lastid .0) (s .assigned .0) (outlinesOf s) && every redoOk (txsOf s) ≡ true → sumOf roomOf (txsOf s) ≤ 5056
+pub reserved-bound : (s : State) → s .count ≤ 8 → outlinesOk (s .lastid .0) (s .assigned .0) (outlinesOf s) && every redoOk (txsOf s) ≡ true
+    → sumOf roomOf (txsOf s) ≤ 5056
 reserved-bound s h e =
-    let o : every (outlineOk (s .lastid .0) (s .assigned .0)) (outlinesOf s) ≡ true = and-left _ (distinct (outlinesOf s)) (and-left _ (every redoOk (txsOf s)) e) in
+    let o : every (outlineOk (s .lastid .0) (s .assigned .0)) (outlinesOf s) ≡ true =
+    and-left _ (distinct (outlinesOf s)) (and-left _ (every redoOk (txsOf s)) e) in
     let d : every redoOk (txsOf s) ≡ true = and-right (outlinesOk (s .lastid .0) (s .assigned .0) (outlinesOf s)) _ e in
     let b = sum-bound (txAt s) (s .count) 0
-    (λ j p q. room-bound (txAt s j) (and-right (headOf s j) (recordsOk (rangesOf (txAt s j .undo))) (every-at (outlineAt s) (outlineOk (s .lastid .0) (s .assigned .0)) (s .count) 0 o j p q))
+    (λ j p q. room-bound (txAt s j)
+    (and-right (headOf s j) (recordsOk (rangesOf (txAt s j .undo))) (every-at (outlineAt s) (outlineOk (s .lastid .0) (s .assigned .0)) (s .count) 0 o j p q))
     (every-at (txAt s) redoOk (s .count) 0 d j p q)) in
     omega arith
 
 -- ---- the admission
 
-module _ (s : State) (m : ℕ) (t : List ℕ) where
-  pub admit-memory : (m ≡ 4096 → ⊥) → admission s m t ≡ refusedBy 1
+module _ (s : State) (lent : ℕ) (t : List ℕ) where
+  pub admit-memory : (lent ≡ 4096 → ⊥) → admission s lent t ≡ notAdmitted 1
   unfolding admission
-  admit-memory h = rw (ne-eqb m 4096 h)
+  admit-memory h = rw (ne-eqb lent 4096 h)
 
-  pub admit-tail : (length t ≡ 16384 → ⊥) → admission s m t ≡ refusedBy 1
+  pub admit-tail : (length t ≡ 16384 → ⊥) → admission s lent t ≡ notAdmitted 1
   unfolding admission
   admit-tail h = rw (ne-eqb (length t) 16384 h, and-false)
 
-  module _ (e : m ≡ 4096) (f : length t ≡ 16384) where
-    pub admit-unfit : unfit s t ≡ true → admission s m t ≡ refusedBy 2
+  module _ (e : lent ≡ 4096) (f : length t ≡ 16384) where
+    pub admit-unfit : unfit s t ≡ true → admission s lent t ≡ notAdmitted 2
     unfolding admission
-    admit-unfit h = rw (eq-eqb m 4096 e, eq-eqb (length t) 16384 f, h)
+    admit-unfit h = rw (eq-eqb lent 4096 e, eq-eqb (length t) 16384 f, h)
 
-    pub admit-fit : unfit s t ≡ false → admission s m t ≡ record { number = 0; end = tailLength (s .ondisk .0) t; room = roomUsed s t }
+    pub admit-fit : unfit s t ≡ false → admission s lent t ≡ record { number = 0; end = tailLength (s .ondisk .0) t; room = roomUsed s t }
     unfolding admission
-    admit-fit h = rw (eq-eqb m 4096 e, eq-eqb (length t) 16384 f, h)
+    admit-fit h = rw (eq-eqb lent 4096 e, eq-eqb (length t) 16384 f, h)
 
   -- what a call has passed whose own checks are cs
   pub record Accepted (cs : List Check) : Type 0 where
-    pub memory : m ≡ 4096
+    pub memory : lent ≡ 4096
     pub tail : length t ≡ 16384
     pub fits : Fit s t
     pub own : firstNumber cs ≡ 0
 
-  pub accepted : (cs : List Check) → numberBy s m t cs ≡ 0 → Accepted cs
+  pub accepted : (cs : List Check) → numberBy s lent t cs ≡ 0 → Accepted cs
   accepted cs e =
-      let a = passed 1 (not (eqb m 4096 && eqb (length t) 16384)) (check 2 (unfit s t) ∷ cs) (omega arith) e in
+      let a = passed 1 (not (eqb lent 4096 && eqb (length t) 16384)) (check 2 (unfit s t) ∷ cs) (omega arith) e in
       let b = passed 2 (unfit s t) cs (omega arith) (a .1) in
-      let l : eqb m 4096 && eqb (length t) 16384 ≡ true = not-false _ (a .0) in
-      record { memory = eqb-true _ _ (and-left (eqb m 4096) _ l); tail = eqb-true _ _ (and-right (eqb m 4096) _ l); fits = fit s t (b .0); own = b .1 }
+      let l : eqb lent 4096 && eqb (length t) 16384 ≡ true = not-false _ (a .0) in
+      record { memory = eqb-true _ _ (and-left (eqb lent 4096) _ l); tail = eqb-true _ _ (and-right (eqb lent 4096) _ l); fits = fit s t (b .0); own = b .1 }
 
   -- x is the admission
-  module _ (x : Admission) (e : x ≡ admission s m t) where
-    pub number-is : x .number ≡ firstNumber (sharedChecks s m t)
+  module _ (x : Admission) (e : x ≡ admission s lent t) where
+    pub number-is : x .number ≡ firstNumber (sharedChecks s lent t)
     unfolding admission
     number-is = ap (λ (y : Admission). y .number) e
 
     -- a refusal by 1 or 2 is the call's, whatever it would check besides
-    pub shared-stops : (cs : List Check) → (x .number ≡ 0 → ⊥) → numberBy s m t cs ≡ x .number
-    shared-stops cs h = stops (sharedChecks s m t) cs (λ z. h (number-is ∙ z)) ∙ sym number-is
+    pub shared-stops : (cs : List Check) → (x .number ≡ 0 → ⊥) → numberBy s lent t cs ≡ x .number
+    shared-stops cs h = stops (sharedChecks s lent t) cs (λ z. h (number-is ∙ z)) ∙ sym number-is
 
     -- what a call learns of an admission that did not refuse
     pub record Admitted : Type 0 where
       pub fits : Fit s t
-      pub own : (cs : List Check) → numberBy s m t cs ≡ firstNumber cs
+      pub own : (cs : List Check) → numberBy s lent t cs ≡ firstNumber cs
       pub end : x .end ≡ tailLength (s .ondisk .0) t
       pub room : x .room ≡ roomUsed s t
 
     pub admitted : x .number ≡ 0 → Admitted
     unfolding admission
     admitted h =
-        let z : firstNumber (sharedChecks s m t) ≡ 0 = sym number-is ∙ h in
+        let z : firstNumber (sharedChecks s lent t) ≡ 0 = sym number-is ∙ h in
         record {
           fits = accepted [] z .fits;
-          own = λ cs. passes (sharedChecks s m t) cs refl z;
+          own = λ cs. passes (sharedChecks s lent t) cs refl z;
           end = ap (λ (y : Admission). y .end) e ∙ rw z;
           room = ap (λ (y : Admission). y .room) e ∙ rw z;
         }
 
     -- the number by which the call is refused, where its own checks are made with the room that was measured
-    pub number-after : (cs : ℕ → List Check) → numberBy s m t (cs (roomUsed s t)) ≡ numberAfter x (cs (x .room))
+    pub number-after : (cs : ℕ → List Check) → numberBy s lent t (cs (roomUsed s t)) ≡ numberAfter x (cs (x .room))
     number-after cs = go (eqb (x .number) 0) refl
       where
-        go : (b : Bool) → eqb (x .number) 0 ≡ b → numberBy s m t (cs (roomUsed s t)) ≡ cond b (firstNumber (cs (x .room))) (x .number)
+        go : (b : Bool) → eqb (x .number) 0 ≡ b → numberBy s lent t (cs (roomUsed s t)) ≡ cond b (firstNumber (cs (x .room))) (x .number)
         go true q = let a = admitted (eqb-true (x .number) 0 q) in a .own (cs (roomUsed s t)) ∙ ap (λ (n : ℕ). firstNumber (cs n)) (sym (a .room))
         go false q = shared-stops (cs (roomUsed s t)) (eqb-false (x .number) 0 q)
 

@@ -60,7 +60,8 @@ module _ (prev : ℕ) (t : List ℕ) (g : Group) (z : allZero (drop (groupsSize 
       log-same prev (readLog prev t) t after refl (ap (take end) laid ∙ take-at (take end t) (encodeGroup g ++ drop (end + length (encodeGroup g)) t) end front)
       ∙ ap (λ (u : List ℕ). readLog prev t ++ readLog last u) follows
       ∙ ap (λ (hs : List Group). readLog prev t ++ hs)
-      (log-after last g (drop (end + length (encodeGroup g)) t) w ∙ ap (λ (hs : List Group). g ∷ hs) (zeros-log (csnAfter last g) (drop (end + length (encodeGroup g)) t) rest-zero))
+      (log-after last g (drop (end + length (encodeGroup g)) t) w
+      ∙ ap (λ (hs : List Group). g ∷ hs) (zeros-log (csnAfter last g) (drop (end + length (encodeGroup g)) t) rest-zero))
 
   size-snoc : (gs : List Group) → groupsSize (gs ++ (g ∷ [])) ≡ groupsSize gs + groupSize g
   size-snoc [] = omega arith

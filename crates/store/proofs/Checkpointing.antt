@@ -45,7 +45,8 @@ module _ (at name : ℕ) (bytes : List ℕ) where
 
     -- one more store is allowed
     pub slot-whole : (made ≡ allowed → ⊥)
-        → (made + 1 ≡ min allowed (length (storesAt at name bytes))) × (set (apply (take allowed (copies at bytes)) d) 0 name ≡ apply (take allowed (storesAt at name bytes)) d)
+        → (made + 1 ≡ min allowed (length (storesAt at name bytes)))
+        × (set (apply (take allowed (copies at bytes)) d) 0 name ≡ apply (take allowed (storesAt at name bytes)) d)
     slot-whole h =
         let c = length-copies at bytes in
         let p : made + 1 ≡ min allowed (length (storesAt at name bytes)) = omega (arith, length-slot, c, e, h) in (
@@ -70,7 +71,8 @@ module _ (pointer : ℕ) (bytes : List ℕ) where
 -- "only its used bytes", and the pointer byte
 pub checkpoint-length : (s : State) (d m : List ℕ) → length m ≡ 4096 → length (checkpointStores s d m) ≡ imageSize (imageOf s) + 1
 checkpoint-length s d m l =
-    length-slot (targetAt (getD d 0 0)) (targetName (getD d 0 0)) (encodeImage (imageOf s) m) ∙ ap (λ (n : ℕ). n + 1) (length-content (contentOf (imageOf s)) m l)
+    length-slot (targetAt (getD d 0 0)) (targetName (getD d 0 0)) (encodeImage (imageOf s) m)
+    ∙ ap (λ (n : ℕ). n + 1) (length-content (contentOf (imageOf s)) m l)
 
 -- ---- what stands on the disk after n stores
 
@@ -88,12 +90,14 @@ module _ (s : State) (d m : List ℕ) (n : ℕ) (l : length m ≡ 4096) where
       ∙ copies-cut n (targetAt p) bytes d
 
   -- done: the whole image, and the pointer byte names it
-  pub checkpoint-whole : imageSize (imageOf s) < n → apply (take n (checkpointStores s d m)) d ≡ set (sets d (targetAt (getD d 0 0)) bytes) 0 (targetName (getD d 0 0))
+  pub checkpoint-whole : imageSize (imageOf s) < n
+      → apply (take n (checkpointStores s d m)) d ≡ set (sets d (targetAt (getD d 0 0)) bytes) 0 (targetName (getD d 0 0))
   checkpoint-whole h =
       let p = getD d 0 0 in
       let c = length-copies (targetAt p) bytes in
       let k = length-content (contentOf (imageOf s)) m l in
-      ap (λ (ss : List Store). apply ss d) (take-all n (storesAt (targetAt p) (targetName p) bytes) (omega (arith, length-slot (targetAt p) (targetName p) bytes, k, h)))
+      ap (λ (ss : List Store). apply ss d)
+      (take-all n (storesAt (targetAt p) (targetName p) bytes) (omega (arith, length-slot (targetAt p) (targetName p) bytes, k, h)))
       ∙ apply-append (copies (targetAt p) bytes) (store 0 (targetName p) ∷ []) d
       ∙ ap (λ (x : List ℕ). set x 0 (targetName p))
       (ap (λ (ss : List Store). apply ss d) (sym (take-all n (copies (targetAt p) bytes) (omega (arith, c, k, h))))
@@ -170,7 +174,8 @@ module _ (s : State) (d m t : List ℕ) (n : ℕ) (z : diskNumber s d m t ≡ 0)
         let l = disk-admitted s d m t z .disk in
         ap (drop slot) whole-left
         ∙ drop-set-lt slot (sets d slot image) 0 (targetName (getD d 0 0)) (omega (arith, slot-range .0))
-        ∙ ap (drop slot) (sets-eq image d slot (omega (arith, slot-range .1, image-length, l)) ∙ append-assoc (take slot d) image (drop (slot + length image) d))
+        ∙ ap (drop slot) (sets-eq image d slot (omega (arith, slot-range .1, image-length, l))
+        ∙ append-assoc (take slot d) image (drop (slot + length image) d))
         ∙ drop-at (take slot d) (image ++ drop (slot + length image) d) slot (length-take-le slot d (omega (arith, slot-range .1, l)))
 
     pub new-log : drop 17307 left ≡ drop 17307 d
@@ -189,7 +194,8 @@ pub record Encoded (s : State) (d m b : List ℕ) (n : ℕ) : Type 0 where
   pub small : n ≤ 8653
 
 module _ (s : State) (d m t : List ℕ) (allowed : ℕ) where
-  pub checkpoint-refused : (n : ℕ) → diskNumber s d m t ≡ n → (n ≡ 0 → ⊥) → checkpointOf s d m t allowed ≡ record { result = refusing n s; disk = d; memory = m; tail = t }
+  pub checkpoint-refused : (n : ℕ) → diskNumber s d m t ≡ n → (n ≡ 0 → ⊥)
+      → checkpointOf s d m t allowed ≡ record { result = refusing n s; disk = d; memory = m; tail = t }
   unfolding checkpointOf
   checkpoint-refused = stored-refused s d m t (checkpointPlan s d m t) allowed
 
@@ -226,7 +232,8 @@ module _ (s : State) (d m t : List ℕ) (allowed : ℕ) where
       on-disk : y ≡ apply (take allowed (checkpointStores s d m)) d
       on-disk = g ∙ ap (λ (bs : List ℕ). apply (take allowed (imageStores (getD d 0 0) bs)) d) (e .bytes)
 
-      pub checkpoint-cut : made ≤ n → checkpointOf s d m t allowed ≡ record { result = tells cut 0 made unrecovered; disk = y; memory = zeroed m; tail = zeroed t }
+      pub checkpoint-cut : made ≤ n → checkpointOf s d m t allowed
+          ≡ record { result = tells cut 0 made unrecovered; disk = y; memory = zeroed m; tail = zeroed t }
       unfolding checkpointOf
       checkpoint-cut h =
           let a = disk-admitted s d m t z in
@@ -237,7 +244,8 @@ module _ (s : State) (d m t : List ℕ) (allowed : ℕ) where
       checkpoint-done h = rw (on-disk, count) (stored-done s d m t (checkpointPlan s d m t) allowed z (omega (arith, needed, count)))
 
 -- a checkpoint that is done can be followed by a call
-pub checkpoint-next : (s : State) (d m t : List ℕ) (allowed : ℕ) → diskNumber s d m t ≡ 0 → diskNumber s (apply (take allowed (checkpointStores s d m)) d) m t ≡ 0
+pub checkpoint-next : (s : State) (d m t : List ℕ) (allowed : ℕ) → diskNumber s d m t ≡ 0
+    → diskNumber s (apply (take allowed (checkpointStores s d m)) d) m t ≡ 0
 checkpoint-next s d m t allowed z =
     let a = disk-admitted s d m t z in
     disk-passes s (apply (take allowed (checkpointStores s d m)) d) m t

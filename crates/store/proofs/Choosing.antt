@@ -130,7 +130,8 @@ pub record Running (s : State) (id : ℕ) : Type 0 where
   pub named : txOf s id .id .0 ≡ id
   pub notCommitting : txOf s id .status ≡ 2 → ⊥
 
-pub listed-slot : (s : State) (id : ℕ) (cs : List Check) → firstNumber (check6 s id ∷ cs) ≡ 0 → (slotOf s id < s .count) × (txOf s id .id .0 ≡ id) × (firstNumber cs ≡ 0)
+pub listed-slot : (s : State) (id : ℕ) (cs : List Check) → firstNumber (check6 s id ∷ cs) ≡ 0
+    → (slotOf s id < s .count) × (txOf s id .id .0 ≡ id) × (firstNumber cs ≡ 0)
 listed-slot s id cs z =
     let x = find s id in
     let p = passed 6 (not (any (hasId id) (txsOf s))) cs (omega arith) z in
@@ -142,7 +143,8 @@ listed-slot s id cs z =
     ] in
     (l, sym (eqb-true _ _ (x .there (omega arith))), p .1)
 
-pub slotted : (s : State) (x : Admission) (id : ℕ) (r : Choice) (cs : List Check) → Seen x s → r ≡ choice s x id (check6 s id ∷ cs) → r .number ≡ 0 → Slotted s x id r cs
+pub slotted : (s : State) (x : Admission) (id : ℕ) (r : Choice) (cs : List Check) → Seen x s → r ≡ choice s x id (check6 s id ∷ cs) → r .number ≡ 0
+    → Slotted s x id r cs
 slotted s x id r cs seen e h =
     let a = after-none x (check6 s id ∷ cs) [] (choice-own s x id r (check6 s id ∷ cs) e ∙ h) in
     let c = choice-chosen s x id r (check6 s id ∷ cs) e h in
@@ -172,7 +174,15 @@ after : (x y : ℕ) → ltb x y ≡ not (leb y x)
 after x y = elim (decLe y x) [ yes p ↦ rw (le-ltb x y p, le-leb y x p) | no q ↦ rw (lt-ltb x y (omega (arith, q)), lt-leb y x (omega (arith, q))) ]
 
 empty : (n : ℕ) → eqb n 0 ≡ not (leb 1 n)
-empty n = elim (decLe 1 n) [ yes p ↦ rw (ne-eqb n 0 (λ e. omega (arith, p, e)), le-leb 1 n p) | no q ↦ rw (eq-eqb n 0 (omega (arith, q)), lt-leb 1 n (omega (arith, q))) ]
+empty n =
+    elim (decLe 1 n) [
+      | yes p ↦ rw (ne-eqb n 0 (λ e. omega (arith, p, e)), le-leb 1 n p)
+      | no q ↦ rw (
+        eq-eqb n 0 (omega (arith, q)),
+        lt-leb 1 n
+            (omega (arith, q)),
+      )
+    ]
 
 pub out-of-range : (a n : ℕ) → (eqb n 0 || ltb 32 n || ltb 4096 (a + n)) ≡ not (inRange a n)
 out-of-range a n = rw (empty n, after 32 n, after 4096 (a + n)) (go (leb 1 n) (leb n 32) (leb (a + n) 4096))

@@ -67,7 +67,8 @@ pub record Room (s : State) (d t : List ℕ) (n : ℕ) : Type 0 where
   pub log : s .logend + n ≤ 16384
 
 module _ (s : State) (d m t : List ℕ) (k allowed : ℕ) where
-  pub flush-refused : (n : ℕ) → diskNumber s d m t ≡ n → (n ≡ 0 → ⊥) → flushOf s d m t k allowed ≡ record { result = refusing n s; disk = d; memory = m; tail = t }
+  pub flush-refused : (n : ℕ) → diskNumber s d m t ≡ n → (n ≡ 0 → ⊥)
+      → flushOf s d m t k allowed ≡ record { result = refusing n s; disk = d; memory = m; tail = t }
   unfolding flushOf
   flush-refused = stored-refused s d m t (flushPlan s m t k) allowed
 
@@ -96,7 +97,8 @@ module _ (s : State) (d m t : List ℕ) (k allowed : ℕ) where
       count : made ≡ min allowed (length (flushStores s t k))
       count =
           let l : length (copies (s .logend) (take (read .end) t)) ≡ length (flushStores s t k) =
-          length-copies (s .logend) (take (read .end) t) ∙ ap (λ (n : ℕ). length (take n t)) size ∙ sym (length-copies (17307 + s .logend) (take (firstSize s t k) t)) in
+          length-copies (s .logend) (take (read .end) t) ∙ ap (λ (n : ℕ). length (take n t)) size
+          ∙ sym (length-copies (17307 + s .logend) (take (firstSize s t k) t)) in
           f ∙ ap (min allowed) l
 
       on-disk : left ≡ apply (take allowed (flushStores s t k)) d
@@ -105,7 +107,8 @@ module _ (s : State) (d m t : List ℕ) (k allowed : ℕ) where
           ∙ ap (λ (ss : List Store). apply (take allowed ss) d)
           (sym (copies-moved 17307 (s .logend) (take (read .end) t)) ∙ ap (λ (n : ℕ). copies (17307 + s .logend) (take n t)) size)
 
-      pub flush-cut : made < read .end → flushOf s d m t k allowed ≡ record { result = tells cut 0 made unrecovered; disk = left; memory = zeroed m; tail = zeroed t }
+      pub flush-cut : made < read .end
+          → flushOf s d m t k allowed ≡ record { result = tells cut 0 made unrecovered; disk = left; memory = zeroed m; tail = zeroed t }
       unfolding flushOf
       flush-cut h =
           let a = disk-admitted s d m t z in
@@ -123,7 +126,14 @@ module _ (s : State) (d m t : List ℕ) (k allowed : ℕ) where
           stored-done s d m t (flushPlan s m t k) allowed z (omega (arith, size, count))
           ∙ sym
           (ap₂ (λ (n : ℕ) (u : State). record { result = tells done 0 n u; disk = left; memory = m; tail = shifted (read .end) t }) count w
-          ∙ ap₂ (λ (x : List ℕ) (n : ℕ). record { result = tells done 0 (min allowed (length (flushStores s t k))) (flushedState s t k); disk = x; memory = m; tail = shifted n t }) on-disk size)
+          ∙ ap₂ (λ (x : List ℕ) (n : ℕ).
+          record {
+            result = tells done 0 (min allowed (length (flushStores s t k)))
+                (flushedState s t k);
+            disk = x;
+            memory = m;
+            tail = shifted n t;
+          }) on-disk size)
 
 -- ---- the bytes stored
 
@@ -151,12 +161,14 @@ flush-log s d t k n r b h z =
     let gs = firstGroups s t k in
     let bs = take n (encodeLog gs) in
     let l : length bs ≤ firstSize s t k = omega (arith, length-take n (encodeLog gs), length-log gs) in
-    let e : apply (take n (flushStores s t k)) d ≡ sets d a bs = ap (λ (ss : List Store). apply (take n ss) d) (flush-stores s t k b) ∙ copies-cut n a (encodeLog gs) d in
+    let e : apply (take n (flushStores s t k)) d ≡ sets d a bs = ap (λ (ss : List Store). apply (take n ss) d) (flush-stores s t k b)
+    ∙ copies-cut n a (encodeLog gs) d in
     let f : sets d a bs ≡ take a d ++ (bs ++ drop (a + length bs) d) = sets-eq bs d a (omega arith) ∙ append-assoc (take a d) bs (drop (a + length bs) d) in
     let g : drop (a + length bs) d ≡ replicate (r - length bs) 0 = sym (drop-drop (length bs) a d) ∙ ap (drop (length bs)) z ∙ drop-zeros (length bs) r in
     ap (readLog (s .ondisk .0))
     (ap (drop a) (e ∙ f) ∙ drop-at (take a d) (bs ++ drop (a + length bs) d) a (length-take-le a d (omega arith)) ∙ ap (λ (x : List ℕ). bs ++ x) g)
-    ∙ log-cut (s .ondisk .0) gs n (r - length bs) (formed-first k (s .ondisk .0) (readLog (s .ondisk .0) t) (log-formed (s .ondisk .0) (readLog (s .ondisk .0) t) t refl))
+    ∙ log-cut (s .ondisk .0) gs n (r - length bs)
+    (formed-first k (s .ondisk .0) (readLog (s .ondisk .0) t) (log-formed (s .ondisk .0) (readLog (s .ondisk .0) t) t refl))
 
 -- ---- what is left in the tail
 
@@ -212,7 +224,9 @@ module _ (s : State) (t : List ℕ) (k : ℕ) where
       let ordered : prev ≤ s .assigned .0 = omega (arith, last, log-rises prev (drop k groups) formed) in
       record {
         recovered = f .recovered;
-        image = other-first (leb (s .logend) 16384) (leb (s .ondisk .0) (s .assigned .0)) (leb (length (outlinesOf s)) 8) (outlinesOk (s .lastid .0) (s .assigned .0) (outlinesOf s)) _ _ (f .image) (le-leb _ _ (flush-room s t k f)) (le-leb _ _ ordered);
+        image =
+            other-first (leb (s .logend) 16384) (leb (s .ondisk .0) (s .assigned .0)) (leb (length (outlinesOf s)) 8)
+            (outlinesOk (s .lastid .0) (s .assigned .0) (outlinesOf s)) _ _ (f .image) (le-leb _ _ (flush-room s t k f)) (le-leb _ _ ordered);
         room = omega (arith, f .room, ap groupsSize flush-tail, size-split k groups);
         redo = f .redo;
         tail = rw (flush-tail, eq-eqb _ _ last) (rest-zero (and-right c z (f .tail)));

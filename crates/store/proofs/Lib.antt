@@ -11,6 +11,11 @@ pub mod Positions
 pub mod Appending
 pub mod Stepping
 pub mod Views
+pub mod Changing
+pub mod BegunFits
+pub mod WrittenFits
+pub mod PrecommittedFits
+pub mod DroppedFits
 pub mod Keeping
 pub mod Storing
 pub mod Flushing

@@ -37,7 +37,8 @@ module _ {A : Type 0} where
   shifted : (f h : ℕ → A) (k i : ℕ) → ((x : ℕ) → i ≤ x → x < i + k → h x ≡ f (x + 1)) → upFrom h k i ≡ upFrom f k (suc i)
   shifted f h zero i e = refl
   shifted f h (suc k) i e =
-      ap₂ (λ (x : A) (xs : List A). x ∷ xs) (e i (omega arith) (omega arith) ∙ ap f (add-one i)) (shifted f h k (suc i) (λ x a b. e x (omega arith) (omega arith)))
+      ap₂ (λ (x : A) (xs : List A). x ∷ xs) (e i (omega arith) (omega arith) ∙ ap f (add-one i))
+      (shifted f h k (suc i) (λ x a b. e x (omega arith) (omega arith)))
 
   pub sum-changed : (g : A → ℕ) (f h : ℕ → A) (j : ℕ) (u : A) → Changed f h j u → (k i : ℕ) → i ≤ j → j < i + k
       → sumOf g (upFrom h k i) + g (f j) ≡ sumOf g (upFrom f k i) + g u
@@ -45,7 +46,8 @@ module _ {A : Type 0} where
   sum-changed g f h j u c (suc k) i a b =
       at-or-after i j a
       (λ e.
-      let r : sumOf g (upFrom h k (suc i)) ≡ sumOf g (upFrom f k (suc i)) = ap (sumOf g) (up-same h f k (suc i) (λ x p q. c .other x (λ z. omega (arith, p, z, e)))) in
+      let r : sumOf g (upFrom h k (suc i)) ≡ sumOf g (upFrom f k (suc i)) =
+      ap (sumOf g) (up-same h f k (suc i) (λ x p q. c .other x (λ z. omega (arith, p, z, e)))) in
       let x : g (h i) ≡ g u = ap (λ (n : ℕ). g (h n)) (sym e) ∙ ap g (c .here) in
       let y : g (f j) ≡ g (f i) = ap (λ (n : ℕ). g (f n)) e in
       omega (arith, r, x, y))
@@ -60,7 +62,8 @@ module _ {A : Type 0} where
   sum-dropped g f h j n d (suc k) i a b e =
       at-or-after i j a
       (λ z.
-      let r : sumOf g (upFrom h (suc k) i) ≡ sumOf g (upFrom f (suc k) (suc i)) = ap (sumOf g) (shifted f h (suc k) i (λ x p q. d .after x (omega arith) (omega arith))) in
+      let r : sumOf g (upFrom h (suc k) i) ≡ sumOf g (upFrom f (suc k) (suc i)) =
+      ap (sumOf g) (shifted f h (suc k) i (λ x p q. d .after x (omega arith) (omega arith))) in
       let y : g (f j) ≡ g (f i) = ap (λ (m : ℕ). g (f m)) z in
       omega (arith, r, y))
       (λ l.
@@ -97,7 +100,8 @@ edited f h id j g (suc k) i x c b =
     rw t (ap₂ (λ (y : Transaction) (ys : List Transaction). y ∷ ys) u (up-same h f k (suc i) (λ y p q. c .other y (λ z. omega (arith, p, z, e))))))
     (λ l.
     rw (x .before i (omega arith) l)
-    (ap₂ (λ (y : Transaction) (ys : List Transaction). y ∷ ys) (c .other i (λ z. omega (arith, l, z))) (edited f h id j g k (suc i) (later-first f id i j x l) c (omega arith))))
+    (ap₂ (λ (y : Transaction) (ys : List Transaction). y ∷ ys) (c .other i (λ z. omega (arith, l, z)))
+    (edited f h id j g k (suc i) (later-first f id i j x l) c (omega arith))))
 
 pub removed : (f h : ℕ → Transaction) (id j n k i : ℕ) → First f id i j → Dropped f h j n → j < i + suc k → i + suc k ≡ n
     → upFrom h k i ≡ remove id (upFrom f (suc k) i)
@@ -112,4 +116,5 @@ removed f h id j n (suc k) i x d b e =
     rw t (shifted f h (suc k) i (λ y p q. d .after y (omega arith) (omega arith))))
     (λ l.
     rw (x .before i (omega arith) l)
-    (ap₂ (λ (y : Transaction) (ys : List Transaction). y ∷ ys) (d .before i l) (removed f h id j n k (suc i) (later-first f id i j x l) d (omega arith) (omega arith))))
+    (ap₂ (λ (y : Transaction) (ys : List Transaction). y ∷ ys) (d .before i l)
+    (removed f h id j n k (suc i) (later-first f id i j x l) d (omega arith) (omega arith))))

@@ -55,29 +55,34 @@ module _ (s : State) (m t : List ℕ) (z : SizedState s) (f : Fit s t) where
       ≡ (not (eqb id (viewAt s i .id)) && (not (viewAt s i .committing) && any (λ u. overlap u (record { addr = a; bytes = bs })) (viewAt s i .undo)))
   unfolding heldAgainst
   held-at id a bs i h =
-      ap₂ (λ (x y : Bool). not (eqb id (txAt s i .id .0)) && (x && y)) (status i h) (over (txAt s i .undo) a bs (z .each i h .undos) (undo-at (imageOf s) (f .image) i h))
+      ap₂ (λ (x y : Bool). not (eqb id (txAt s i .id .0)) && (x && y)) (status i h)
+      (over (txAt s i .undo) a bs (z .each i h .undos) (undo-at (imageOf s) (f .image) i h))
 
   -- number 9
   pub held-view : (id a : ℕ) (bs : List ℕ) → any (heldAgainst id a (length bs)) (txsOf s) ≡ heldByOther id (record { addr = a; bytes = bs }) (live s m t .txs)
   held-view id a bs =
-      any-same (heldAgainst id a (length bs)) (λ x. not (eqb id (x .id)) && (not (x .committing) && any (λ u. overlap u (record { addr = a; bytes = bs })) (x .undo))) (txAt s) (viewAt s) (s .count) 0
+      any-same (heldAgainst id a (length bs))
+      (λ x. not (eqb id (x .id)) && (not (x .committing) && any (λ u. overlap u (record { addr = a; bytes = bs })) (x .undo))) (txAt s) (viewAt s) (s .count) 0
       (λ i p q. held-at id a bs i (omega arith))
 
   reserved-at : (i : ℕ) → i < s .count → (ts : List Transaction) → roomOf (txAt s i) + reserved (running ts) ≡ reserved (running (viewAt s i ∷ ts))
   reserved-at i h ts = go (eqb (txAt s i .status) 2) refl
     where
-      go : (b : Bool) → eqb (txAt s i .status) 2 ≡ b → roomOf (txAt s i) + reserved (running ts) ≡ reserved (cond (not b) (viewAt s i ∷ running ts) (running ts))
+      go : (b : Bool) → eqb (txAt s i .status) 2 ≡ b
+          → roomOf (txAt s i) + reserved (running ts) ≡ reserved (cond (not b) (viewAt s i ∷ running ts) (running ts))
       go true e = let q : eqb (txAt s i .status) 1 ≡ false = status i h ∙ ap not e in rw q (omega arith)
       go false e =
           let one = status-at s t f i h (eqb-false (txAt s i .status) 2 e) in
           let r = txAt s i .redo in
-          let k = redo-records (txAt s i) (undo-at (imageOf s) (f .image) i h) (every-at (txAt s) redoOk (s .count) 0 (f .redo) i (omega arith) (omega arith)) one in
+          let k = redo-records (txAt s i) (undo-at (imageOf s) (f .image) i h)
+          (every-at (txAt s) redoOk (s .count) 0 (f .redo) i (omega arith) (omega arith)) one in
           let l = sized r (z .each i h .redos .space) (counted r k) (λ j b. ranged r k j b .1) in
           rw (eq-eqb (txAt s i .status) 1 one) (omega (arith, l))
 
   reserved-from : (k i : ℕ) → i + k ≤ s .count → sumOf roomOf (upFrom (txAt s) k i) ≡ reserved (running (upFrom (viewAt s) k i))
   reserved-from zero i h = refl
-  reserved-from (suc k) i h = ap (λ (n : ℕ). roomOf (txAt s i) + n) (reserved-from k (suc i) (omega arith)) ∙ reserved-at i (omega arith) (upFrom (viewAt s) k (suc i))
+  reserved-from (suc k) i h =
+      ap (λ (n : ℕ). roomOf (txAt s i) + n) (reserved-from k (suc i) (omega arith)) ∙ reserved-at i (omega arith) (upFrom (viewAt s) k (suc i))
 
   -- numbers 2 and 13
   pub room-view : roomUsed s t ≡ s .logend + groupsSize (live s m t .tail) + reserved (running (live s m t .txs))

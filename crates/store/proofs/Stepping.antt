@@ -49,7 +49,8 @@ module _ (s r : State) (j : ℕ) (u : Tx) (e : r .txs ≡ set (s .txs) j u) (h :
       record {
         slots = ap length e ∙ length-set (s .txs) j u ∙ z .slots;
         each = λ i l.
-            same-or-other i j (λ q. subst SizedTx (sym (ap (txAt r) q ∙ set-slot .here)) y) (λ q. subst SizedTx (sym (set-slot .other i q)) (z .each i (c i l q)));
+            same-or-other i j (λ q. subst SizedTx (sym (ap (txAt r) q ∙ set-slot .here)) y)
+            (λ q. subst SizedTx (sym (set-slot .other i q)) (z .each i (c i l q)));
       }
 
 module _ (s : State) (z : SizedState s) where
@@ -60,10 +61,12 @@ module _ (s : State) (z : SizedState s) where
   pub begun-sized : s .count < 8 → SizedState (begunState s)
   unfolding begunState freshTx
   begun-sized h =
-      set-sized s (begunState s) (s .count) (freshTx (record { 0 = s .lastid .0 + 1 })) refl (omega (arith, z .slots)) z (record { undos = empty-sized; redos = empty-sized }) (λ i l n. omega (arith, l, n))
+      set-sized s (begunState s) (s .count) (freshTx (record { 0 = s .lastid .0 + 1 })) refl (omega (arith, z .slots)) z
+      (record { undos = empty-sized; redos = empty-sized }) (λ i l n. omega (arith, l, n))
 
   module _ (j : ℕ) (h : j < s .count) (few : s .count ≤ 8) where
-    pub written-slot : (m : List ℕ) (a : ℕ) (bs : List ℕ) → Changed (txAt s) (txAt (writtenState s j m a bs)) j (written (txAt s j) a (take (length bs) (drop a m)) bs)
+    pub written-slot : (m : List ℕ) (a : ℕ) (bs : List ℕ)
+        → Changed (txAt s) (txAt (writtenState s j m a bs)) j (written (txAt s j) a (take (length bs) (drop a m)) bs)
     unfolding writtenState
     written-slot m a bs = set-slot s (writtenState s j m a bs) j (written (txAt s j) a (take (length bs) (drop a m)) bs) refl (omega (arith, z .slots))
 
@@ -72,7 +75,11 @@ module _ (s : State) (z : SizedState s) where
     written-sized m a bs =
         let t = txAt s j in
         set-sized s (writtenState s j m a bs) j (written t a (take (length bs) (drop a m)) bs) refl (omega (arith, z .slots)) z
-        (record { undos = push-sized (t .undo) a (take (length bs) (drop a m)) (z .each j h .undos); redos = push-sized (t .redo) a bs (z .each j h .redos) }) (λ i l n. l)
+        (record {
+          undos = push-sized (t .undo) a (take (length bs) (drop a m)) (z .each j h .undos);
+          redos = push-sized (t .redo) a bs
+              (z .each j h .redos);
+        }) (λ i l n. l)
 
     pub precommitted-slot : Changed (txAt s) (txAt (precommittedState s j)) j (precommitted (txAt s j) (record { 0 = s .assigned .0 + 1 }))
     unfolding precommittedState
@@ -116,7 +123,8 @@ module _ (ts : List Tx) (j n : ℕ) (h : j < n) (l : n ≤ length ts) where
   pub without-length : length (without ts j n) ≡ length ts
   unfolding without
   without-length =
-      length-append (take j ts) (later ++ (emptyTx ∷ drop n ts)) ∙ (let e = length-append later (emptyTx ∷ drop n ts) in let d = length-drop n ts in omega (arith, front, later-length, e, d))
+      length-append (take j ts) (later ++ (emptyTx ∷ drop n ts))
+      ∙ (let e = length-append later (emptyTx ∷ drop n ts) in let d = length-drop n ts in omega (arith, front, later-length, e, d))
 
 module _ (s : State) (z : SizedState s) (j : ℕ) (h : j < s .count) (few : s .count ≤ 8) where
   pub dropped-slot : Dropped (txAt s) (txAt (droppedState s j)) j (s .count)

@@ -38,7 +38,8 @@ use Rattle.store.specs.State.{txAt, slotOf, imageOf}
 use Rattle.store.specs.Rules.{tailLength, allZero, roomUsed}
 use Rattle.store.specs.Numbers.{check, firstNumber, txOf, beginChecks, writeChecks, precommitChecks, abortChecks, settleChecks, check8, check9, check10}
 use Rattle.store.specs.Steps.{begunState, writtenState, precommittedState, droppedState}
-use Rattle.store.specs.Calls.{Outcome, beginNumber, beginOf, writeNumber, writeOf, refusing, readNumber, readAnswerOf, appended, precommitNumber, precommitOf, abortNumber, abortOf, settleNumber, settleOf}
+use Rattle.store.specs.Calls.{Outcome, beginNumber, beginOf, writeNumber, writeOf, refusing, readNumber, readAnswerOf}
+use Rattle.store.specs.Calls.{appended, precommitNumber, precommitOf, abortNumber, abortOf, settleNumber, settleOf}
 use Rattle.store.specs.View.{viewAt, live}
 use Rattle.store.proofs.Slots.{slot}
 use Rattle.store.proofs.Checks.{passed}
@@ -76,7 +77,8 @@ written-view : (t : Tx) (a : ℕ) (old new : List ℕ) → SizedTx t → records
 unfolding written
 written-view t a old new z u r cu cr lo ln =
     ap₂ (λ (us rs : List Write). record { id = t .id .0; committing = eqb (t .status) 2; csn = t .csn .0; undo = us; redo = rs })
-    (pushed-writes (t .undo) a old (z .undos) cu lo (λ j h. ranged (t .undo) u j h .1)) (pushed-writes (t .redo) a new (z .redos) cr ln (λ j h. ranged (t .redo) r j h .1))
+    (pushed-writes (t .undo) a old (z .undos) cu lo (λ j h. ranged (t .undo) u j h .1))
+    (pushed-writes (t .redo) a new (z .redos) cr ln (λ j h. ranged (t .redo) r j h .1))
 
 view-changed : (s r : State) (j : ℕ) (u : Tx) → Changed (txAt s) (txAt r) j u → Changed (viewAt s) (viewAt r) j (viewOf u)
 view-changed s r j u c = record { here = ap viewOf (c .here); other = λ x n. ap viewOf (c .other x n) }
@@ -120,7 +122,8 @@ abbrev pub commitOf : State → ℕ → Group
 commitOf s id = committed id (s .assigned .0 + 1) (writesOf (txOf s id .redo))
 
 -- the group's size, by the ranges of the redo records
-pub commit-size : (s : State) (t : List ℕ) (id : ℕ) → SizedState s → Fit s t → Running s id → groupSize (commitOf s id) ≡ rangesSize (rangesOf (txOf s id .redo)) + 8
+pub commit-size : (s : State) (t : List ℕ) (id : ℕ) → SizedState s → Fit s t → Running s id
+    → groupSize (commitOf s id) ≡ rangesSize (rangesOf (txOf s id .redo)) + 8
 commit-size s t id z f r =
     let u = usable s t id f r in
     let x = txOf s id .redo in
@@ -133,7 +136,9 @@ commit-appends s t id z l f r =
     let y = z .each (slotOf s id) (r .listed) .redos in
     record {
       room = omega (arith, commit-size s t id z f r, l, u .fits);
-      right = rw (tail-csn s t f, eq-eqb (s .assigned .0 + 1) (s .assigned .0 + 1) refl) (body-right x id (s .assigned .0 + 1) y (u .redo) (id-nonzero s t id f r) (x .count) 0 (omega arith));
+      right =
+          rw (tail-csn s t f, eq-eqb (s .assigned .0 + 1) (s .assigned .0 + 1) refl)
+          (body-right x id (s .assigned .0 + 1) y (u .redo) (id-nonzero s t id f r) (x .count) 0 (omega arith));
     }
 
 pub abort-appends : (s : State) (t : List ℕ) (id : ℕ) → length t ≡ 16384 → Fit s t → Running s id → Appends s t (aborted id)
@@ -146,11 +151,13 @@ abort-appends s t id l f r =
 abbrev with-txs : State → List ℕ → List ℕ → List Transaction → Live
 with-txs s m t ts = record { txs = ts; memory = m; tail = readLog (s .ondisk .0) t; csn = s .ondisk .0; lastId = s .lastid .0 }
 
-written-numbers : (s : State) (m t : List ℕ) (j a : ℕ) (bs : List ℕ) → live (writtenState s j m a bs) (sets m a bs) t ≡ with-txs s (sets m a bs) t (upFrom (viewAt (writtenState s j m a bs)) (s .count) 0)
+written-numbers : (s : State) (m t : List ℕ) (j a : ℕ) (bs : List ℕ)
+    → live (writtenState s j m a bs) (sets m a bs) t ≡ with-txs s (sets m a bs) t (upFrom (viewAt (writtenState s j m a bs)) (s .count) 0)
 unfolding writtenState
 written-numbers s m t j a bs = refl
 
-precommitted-numbers : (s : State) (m t : List ℕ) (j : ℕ) → live (precommittedState s j) m t ≡ with-txs s m t (upFrom (viewAt (precommittedState s j)) (s .count) 0)
+precommitted-numbers : (s : State) (m t : List ℕ) (j : ℕ)
+    → live (precommittedState s j) m t ≡ with-txs s m t (upFrom (viewAt (precommittedState s j)) (s .count) 0)
 unfolding precommittedState
 precommitted-numbers s m t j = refl
 
@@ -163,7 +170,8 @@ dropped-txs : (s : State) (id : ℕ) → SizedState s → s .count ≤ 8 → slo
 dropped-txs s id z few l =
     let j = slotOf s id in
     let n : suc (s .count - 1) ≡ s .count = omega arith in
-    removed (viewAt s) (viewAt (droppedState s j)) id j (s .count) (s .count - 1) 0 (first s id l) (view-dropped s (droppedState s j) j (s .count) (dropped-slot s z j l few)) (omega arith) (omega arith)
+    removed (viewAt s) (viewAt (droppedState s j)) id j (s .count) (s .count - 1) 0 (first s id l)
+    (view-dropped s (droppedState s j) j (s .count) (dropped-slot s z j l few)) (omega arith) (omega arith)
     ∙ ap (λ (k : ℕ). remove id (upFrom (viewAt s) k 0)) n
 
 module _ (s : State) (m t : List ℕ) (z : SizedState s) where
@@ -176,14 +184,16 @@ module _ (s : State) (m t : List ℕ) (z : SizedState s) where
       ap₂ (λ (ts : List Transaction) (i : ℕ). record { txs = ts; memory = m; tail = readLog (s .ondisk .0) t; csn = s .ondisk .0; lastId = i })
       (ap (λ (k : ℕ). upFrom (viewAt (begunState s)) k 0) (add-one (s .count))
       ∙ up-snoc (viewAt (begunState s)) (s .count) 0
-      ∙ ap₂ (λ (ts : List Transaction) (r : Transaction). ts ++ (r ∷ [])) (up-same (viewAt (begunState s)) (viewAt s) (s .count) 0 (λ x p q. c .other x (λ e. omega (arith, q, e)))) n)
+      ∙ ap₂ (λ (ts : List Transaction) (r : Transaction). ts ++ (r ∷ []))
+      (up-same (viewAt (begunState s)) (viewAt s) (s .count) 0 (λ x p q. c .other x (λ e. omega (arith, q, e)))) n)
       (add-one (s .lastid .0))
 
   -- Begin adds a running transaction without records, of the next id.
   pub begin-live : beginNumber s m t ≡ 0 → live (beginOf s m t .state) m t ≡ afterBegin (live s m t)
   begin-live e =
       let a = accepted s (length m) t (beginChecks (s .count) (s .lastid .0) (roomUsed s t)) e in
-      ap (λ (r : State). live r m t) (ap (λ (b : Told). b .state) (begin-done s m t e)) ∙ begun-live (begin-free s (roomUsed s t) (image-count (imageOf s) (a .fits .image)) (a .own) .0)
+      ap (λ (r : State). live r m t) (ap (λ (b : Told). b .state) (begin-done s m t e))
+      ∙ begun-live (begin-free s (roomUsed s t) (image-count (imageOf s) (a .fits .image)) (a .own) .0)
 
   module _ (id : TxId) where
     abbrev j : ℕ
@@ -194,7 +204,8 @@ module _ (s : State) (m t : List ℕ) (z : SizedState s) where
 
     -- Write adds an undo record with the old bytes and a redo record, and lays the new bytes.
     pub write-live : (a : ℕ) (bs : List ℕ) → writeNumber s m t id a (length bs) ≡ 0
-        → live (writeOf s m t id a bs .result .state) (writeOf s m t id a bs .memory) (writeOf s m t id a bs .tail) ≡ afterWrite tx (record { addr = a; bytes = bs }) (live s m t)
+        → live (writeOf s m t id a bs .result .state) (writeOf s m t id a bs .memory) (writeOf s m t id a bs .tail)
+        ≡ afterWrite tx (record { addr = a; bytes = bs }) (live s m t)
     write-live a bs e =
         let x = accepted s (length m) t (writeChecks s (roomUsed s t) (id .0) a (length bs)) e in
         let last = check9 s (id .0) a (length bs) ∷ check10 s (id .0) ∷ check 13 (ltb 16384 (roomUsed s t + (7 + length bs))) ∷ [] in
@@ -230,14 +241,16 @@ module _ (s : State) (m t : List ℕ) (z : SizedState s) where
         let r = running s (id .0) (check 12 (eqb (s .assigned .0) 4294967295) ∷ []) (x .own) .0 in
         let u = usable s t (id .0) (x .fits) r in
         let y = commit-appends s t (id .0) z (x .tail) (x .fits) r in
-        let n : s .assigned .0 + 1 ≡ suc (lastCsn (s .ondisk .0) (readLog (s .ondisk .0) t)) = add-one (s .assigned .0) ∙ ap suc (sym (tail-csn s t (x .fits))) in
+        let n : s .assigned .0 + 1 ≡ suc (lastCsn (s .ondisk .0) (readLog (s .ondisk .0) t)) = add-one (s .assigned .0)
+        ∙ ap suc (sym (tail-csn s t (x .fits))) in
         let c = view-changed s (precommittedState s j) j _ (precommitted-slot s z j (r .listed) (u .few)) in
         let d : Changed (viewAt s) (viewAt (precommittedState s j)) j (inCommit (s .assigned .0 + 1) (viewAt s j)) =
         record { here = c .here ∙ precommitted-view (txAt s j) (s .assigned .0 + 1); other = c .other } in
         ap (λ (o : Outcome). live (o .result .state) (o .memory) (o .tail)) (precommit-done s m t id e)
         ∙ precommitted-numbers s m (appended s t (commitOf s (id .0))) j
         ∙ ap₂ (λ (ts : List Transaction) (gs : List Group). record { txs = ts; memory = m; tail = gs; csn = s .ondisk .0; lastId = s .lastid .0 })
-        (edited (viewAt s) (viewAt (precommittedState s j)) (id .0) j (inCommit (s .assigned .0 + 1)) (s .count) 0 (first s (id .0) (r .listed)) d (omega (arith, r .listed))
+        (edited (viewAt s) (viewAt (precommittedState s j)) (id .0) j (inCommit (s .assigned .0 + 1)) (s .count) 0 (first s (id .0) (r .listed)) d
+        (omega (arith, r .listed))
         ∙ ap₂ (λ (i k : ℕ). edit i (inCommit k) (upFrom (viewAt s) (s .count) 0)) (sym (r .named)) n)
         (appended-log (s .ondisk .0) t (commitOf s (id .0)) (tail-zeros s t (x .fits)) (y .room) (y .right)
         ∙ ap₂ (λ (i k : ℕ). readLog (s .ondisk .0) t ++ (committed i k (writesOf (txOf s (id .0) .redo)) ∷ [])) (sym (r .named)) n)

@@ -2,9 +2,10 @@
 -- numbers.
 use Prim.Native.Nat.{ℕ, _≤_}
 use mathlib.Core.Bool.{Bool, true, false, cond, _&&_}
-use mathlib.Core.List.{List}
+use mathlib.Core.List.{List, [], _∷_}
 use mathlib.Core.Path.{_≡_}
 use lib.Dec.{eqb, leb}
+use Rattle.layout.specs.{logLen, maxTxs}
 use Rattle.transaction.specs.Lists.{every, sumOf}
 use Rattle.transaction.specs.Rules.{redoOk, roomOf}
 use Rattle.store.specs.declared.State.{State}
@@ -14,15 +15,18 @@ use Rattle.store.specs.declared.choose.Choice.{Choice}
 use Rattle.store.specs.State.{txsOf, outlinesOf, slotOf}
 use Rattle.image.specs.Rules.{outlinesOk}
 use Rattle.store.specs.Rules.{keepsImageRules, tailLength, tailOk, roomUsed}
-use Rattle.store.specs.Numbers.{Check, firstNumber, sharedChecks}
+use Rattle.store.specs.Numbers.{Check, firstNumber, sharedChecks, check6}
 
 -- recovered, and the image rules of the counters
 unfoldable pub countersOk : Bool → ℕ → ℕ → ℕ → ℕ → Bool
-countersOk recovered logend ondisk assigned count = recovered && leb logend 16384 && leb ondisk assigned && leb count 8
+countersOk recovered logend ondisk assigned count = recovered && leb logend logLen && leb ondisk assigned && leb count maxTxs
+
+abbrev pub ruleBroken : Measured
+ruleBroken = record { ok = false; room = 0 }
 
 abbrev pub measuredIf : Bool → ℕ → Measured
 measuredIf true n = record { ok = true; room = n }
-measuredIf false n = record { ok = false; room = 0 }
+measuredIf false n = ruleBroken
 
 unfoldable pub measuredTxs : State → Measured
 measuredTxs s = measuredIf (outlinesOk (s .lastid .0) (s .assigned .0) (outlinesOf s) && every redoOk (txsOf s)) (sumOf roomOf (txsOf s))
@@ -30,12 +34,20 @@ measuredTxs s = measuredIf (outlinesOk (s .lastid .0) (s .assigned .0) (outlines
 unfoldable pub measuredTail : ℕ → ℕ → List ℕ → Measured
 measuredTail ondisk assigned tail = measuredIf (tailOk ondisk assigned tail) (tailLength ondisk tail)
 
+abbrev pub notAdmitted : ℕ → Admission
+notAdmitted n = record { number = n; end = 0; room = 0 }
+
+-- lent: the length of the lent memory
 unfoldable pub admission : State → ℕ → List ℕ → Admission
-admission s m tail =
-    let n = firstNumber (sharedChecks s m tail) in
+admission s lent tail =
+    let n = firstNumber (sharedChecks s lent tail) in
     record { number = n; end = cond (eqb n 0) (tailLength (s .ondisk .0) tail) 0; room = cond (eqb n 0) (roomUsed s tail) 0 }
 
 -- ---- what is decided of a call about the transaction of an id
+
+-- the first of its own numbers, before any other is looked at
+abbrev pub listedChecks : State → ℕ → List Check
+listedChecks s id = check6 s id ∷ []
 
 -- numbers 1 and 2 come before the call's own
 abbrev pub numberAfter : Admission → List Check → ℕ
@@ -53,4 +65,4 @@ choice s x id cs = cond (eqb (numberAfter x cs) 0) (chosen s x id) (refusal (num
 
 -- what deciding rests on: an admission that does not refuse has seen the image rules kept, and room used that lies within the log
 abbrev pub Seen : Admission → State → Type 0
-Seen x s = x .number ≡ 0 → (keepsImageRules s ≡ true) × (x .room ≤ 16384)
+Seen x s = x .number ≡ 0 → (keepsImageRules s ≡ true) × (x .room ≤ logLen)

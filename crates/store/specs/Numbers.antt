@@ -4,6 +4,7 @@ use mathlib.Core.Bool.{Bool, not, cond, _&&_, _||_}
 use mathlib.Core.List.{List, [], _∷_, _++_}
 use lib.ListN.{length}
 use lib.Dec.{eqb, ltb}
+use Rattle.layout.specs.{memoryLen, tailLen, logLen, maxTxs, maxRecords, maxWrite, redoLen, commitLen, statusRunning, statusCommitting}
 use Rattle.recovery.specs.Lists.{any}
 use Rattle.transaction.specs.declared.Tx.{Tx}
 use Rattle.transaction.specs.Rules.{heldAgainst}
@@ -24,13 +25,13 @@ firstNumber (check n b ∷ cs) = cond b n (firstNumber cs)
 abbrev pub txOf : State → ℕ → Tx
 txOf s id = txAt s (slotOf s id)
 
--- "1. All calls: a lent buffer hasn't its length." "2. Calls handed a state: .." (m: the length of the lent memory)
+-- "1. All calls: a lent buffer hasn't its length." "2. Calls handed a state: .." (lent: the length of the lent memory)
 abbrev pub sharedChecks : State → ℕ → List ℕ → List Check
-sharedChecks s m tail = check 1 (not (eqb m 4096 && eqb (length tail) 16384)) ∷ check 2 (unfit s tail) ∷ []
+sharedChecks s lent tail = check 1 (not (eqb lent memoryLen && eqb (length tail) tailLen)) ∷ check 2 (unfit s tail) ∷ []
 
 -- the number that refuses a call whose own checks these are
 abbrev pub numberBy : State → ℕ → List ℕ → List Check → ℕ
-numberBy s m tail cs = firstNumber (sharedChecks s m tail ++ cs)
+numberBy s lent tail cs = firstNumber (sharedChecks s lent tail ++ cs)
 
 -- "6. .. the id isn't in the list."
 abbrev pub check6 : State → ℕ → Check
@@ -38,11 +39,11 @@ check6 s id = check 6 (not (any (hasId id) (txsOf s)))
 
 -- "7. .. it is committing."
 abbrev pub check7 : State → ℕ → Check
-check7 s id = check 7 (eqb (txOf s id .status) 2)
+check7 s id = check 7 (eqb (txOf s id .status) statusCommitting)
 
 -- "8. .. length 0 or above 32, or address + length above 4,096."
 abbrev pub check8 : ℕ → ℕ → Check
-check8 a n = check 8 (eqb n 0 || ltb 32 n || ltb 4096 (a + n))
+check8 a n = check 8 (eqb n 0 || ltb maxWrite n || ltb memoryLen (a + n))
 
 -- "9. .. a byte of the range is held by another."
 abbrev pub check9 : State → ℕ → ℕ → ℕ → Check
@@ -50,21 +51,18 @@ check9 s id a n = check 9 (any (heldAgainst id a n) (txsOf s))
 
 -- "10. Write: it has 16 undo records."
 abbrev pub check10 : State → ℕ → Check
-check10 s id = check 10 (eqb (txOf s id .undo .count) 16)
+check10 s id = check 10 (eqb (txOf s id .undo .count) maxRecords)
 
 -- Begin: "11. .. 8 transactions are listed." "12. .. last id 65,535." "13. .. room used + 8 above 16,384."
 abbrev pub beginChecks : ℕ → ℕ → ℕ → List Check
-beginChecks count last room = check 11 (eqb count 8) ∷ check 12 (eqb last 65535) ∷ check 13 (ltb 16384 (room + 8)) ∷ []
-
-abbrev pub listedChecks : State → ℕ → List Check
-listedChecks s id = check6 s id ∷ []
+beginChecks count last room = check 11 (eqb count maxTxs) ∷ check 12 (eqb last 65535) ∷ check 13 (ltb logLen (room + commitLen)) ∷ []
 
 abbrev pub readChecks : State → ℕ → ℕ → ℕ → List Check
 readChecks s id a n = check6 s id ∷ check7 s id ∷ check8 a n ∷ check9 s id a n ∷ []
 
 -- "13. .. Write: room used + 7 + length above it."
 abbrev pub check13 : ℕ → ℕ → Check
-check13 room n = check 13 (ltb 16384 (room + (7 + n)))
+check13 room n = check 13 (ltb logLen (room + (redoLen + n)))
 
 abbrev pub writeChecks : State → ℕ → ℕ → ℕ → ℕ → List Check
 writeChecks s room id a n = check6 s id ∷ check7 s id ∷ check8 a n ∷ check9 s id a n ∷ check10 s id ∷ check13 room n ∷ []
@@ -81,7 +79,7 @@ abortChecks s id = check6 s id ∷ check7 s id ∷ []
 
 -- "14. Settle: running, or its commit number isn't on disk."
 abbrev pub check14 : State → ℕ → Check
-check14 s id = check 14 (eqb (txOf s id .status) 1 || ltb (s .ondisk .0) (txOf s id .csn .0))
+check14 s id = check 14 (eqb (txOf s id .status) statusRunning || ltb (s .ondisk .0) (txOf s id .csn .0))
 
 abbrev pub settleChecks : State → ℕ → List Check
 settleChecks s id = check6 s id ∷ check14 s id ∷ []

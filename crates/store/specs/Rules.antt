@@ -4,6 +4,7 @@ use mathlib.Core.Bool.{Bool, not, _&&_, _||_}
 use mathlib.Core.List.{List}
 use lib.ListN.{drop}
 use lib.Dec.{eqb, ltb}
+use Rattle.layout.specs.{logLen}
 use Rattle.recovery.specs.Group.{groupsSize, lastCsn}
 use Rattle.log.specs.Log.{readLog}
 use Rattle.transaction.specs.Lists.{every, sumOf}
@@ -46,6 +47,6 @@ unfoldable pub unfit : State → List ℕ → Bool
 unfit s tail =
     not (s .recovered)
     || not (keepsImageRules s)
-    || ltb 16384 (roomUsed s tail)
+    || ltb logLen (roomUsed s tail)
     || not (every redoOk (txsOf s))
     || not (tailOk (s .ondisk .0) (s .assigned .0) tail)

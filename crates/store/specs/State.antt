@@ -4,6 +4,7 @@ use mathlib.Core.Bool.{Bool, false, cond}
 use mathlib.Core.List.{List, [], _∷_}
 use lib.ListN.{replicate}
 use lib.Dec.{eqb}
+use Rattle.layout.specs.{maxTxs}
 use Rattle.log.specs.declared.TxId.{TxId}
 use Rattle.log.specs.declared.Csn.{Csn}
 use Rattle.transaction.specs.declared.Tx.{Tx}
@@ -24,7 +25,7 @@ unrecovered =
       assigned = record { 0 = 0 };
       lastid = record { 0 = 0 };
       count = 0;
-      txs = replicate 8 emptyTx;
+      txs = replicate maxTxs emptyTx;
     }
 
 -- what an image has of a state

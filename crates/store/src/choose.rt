@@ -1,20 +1,28 @@
 // The numbers that refuse a call, after those of its admission, and the slot of the transaction that it is about.
+use crate::COUNT_MAX;
+use crate::RECORDS_MAX;
 use crate::State;
 use crate::admit::Admission;
+use layout::COMMIT_LEN;
+use layout::COMMITTING;
+use layout::LOG_LEN;
+use layout::REDO_LEN;
+use layout::RUNNING;
 use log::TxId;
 use log::record::in_range;
 ghost use mathlib.Core.Path.{_≡_};
 ghost use mathlib.Core.Bool.{true};
 ghost use Prim.Native.Nat.{_≤_};
+ghost use Rattle.layout.specs.{memoryLen, logLen, maxTxs, maxWrite};
 ghost use Rattle.recovery.specs.Lists.{any};
 ghost use Rattle.transaction.specs.Rules.{heldAgainst};
 ghost use Rattle.store.specs.State.{txsOf, slotOf};
 ghost use Rattle.store.specs.Rules.{keepsImageRules};
-ghost use Rattle.store.specs.Numbers.{firstNumber, beginChecks, listedChecks, readChecks, writeChecks, precommitChecks, abortChecks, settleChecks};
-ghost use Rattle.store.specs.Admission.{refusal, choice, Seen};
+ghost use Rattle.store.specs.Numbers.{firstNumber, beginChecks, readChecks, writeChecks, precommitChecks, abortChecks, settleChecks};
+ghost use Rattle.store.specs.Admission.{listedChecks, refusal, choice, Seen};
 
 // The number that refuses, 0 for none; if none, the slot, where the tail's groups end and the log room used.
-pub struct Choice {
+pub(crate) struct Choice {
     pub number: u8,
     pub slot: usize,
     pub end: usize,
@@ -34,16 +42,16 @@ fn refuse(number: u8) -> Choice
 
 // Numbers 11, 12 and 13.
 pub(crate) fn begin_number(count: u8, last: TxId, room: usize) -> u8
-    requires { ⌜ room ≤ 16384 ⌝ }
+    requires { ⌜ room ≤ logLen ⌝ }
     ensures { λ r. ⌜ r ≡ firstNumber (beginChecks count (last .0) room) ⌝ }
 {
-    if count == 8 {
+    if count == COUNT_MAX {
         return 11;
     }
     if last.0 == 65535 {
         return 12;
     }
-    if 16384 < room + 8 {
+    if LOG_LEN < room + COMMIT_LEN {
         return 13;
     }
     0
@@ -52,7 +60,7 @@ pub(crate) fn begin_number(count: u8, last: TxId, room: usize) -> u8
 impl State {
     // The slot of the transaction of this id; the count if it isn't listed.
     fn find(self, id: TxId) -> usize
-        requires { ⌜ self .count ≤ 8 ⌝ }
+        requires { ⌜ self .count ≤ maxTxs ⌝ }
         ensures { λ r. ⌜ r ≡ slotOf self (id .0) ⌝ }
     {
         let n = self.count as usize;
@@ -68,7 +76,7 @@ impl State {
 
     // Number 9.
     fn held(self, id: TxId, addr: usize, len: usize) -> bool
-        requires { ⌜ (keepsImageRules self ≡ true) × (addr ≤ 4096) × (len ≤ 32) ⌝ }
+        requires { ⌜ (keepsImageRules self ≡ true) × (addr ≤ memoryLen) × (len ≤ maxWrite) ⌝ }
         ensures { λ r. ⌜ r ≡ any (heldAgainst (id .0) addr len) (txsOf self) ⌝ }
     {
         let n = self.count as usize;
@@ -113,7 +121,7 @@ impl State {
             return listed;
         }
         let slot = listed.slot;
-        if self.txs[slot].status == 2 {
+        if self.txs[slot].status == COMMITTING {
             return refuse(7);
         }
         listed
@@ -159,10 +167,10 @@ impl State {
             return free;
         }
         let slot = free.slot;
-        if self.txs[slot].undo.count == 16 {
+        if self.txs[slot].undo.count == RECORDS_MAX {
             return refuse(10);
         }
-        if 16384 < free.room + (7 + len) {
+        if LOG_LEN < free.room + (REDO_LEN + len) {
             return refuse(13);
         }
         free
@@ -193,7 +201,7 @@ impl State {
             return listed;
         }
         let slot = listed.slot;
-        if self.txs[slot].status == 1 {
+        if self.txs[slot].status == RUNNING {
             return refuse(14);
         }
         if self.ondisk.0 < self.txs[slot].csn.0 {

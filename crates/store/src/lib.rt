@@ -1,18 +1,28 @@
 // The state between calls, and every call but restart: begin, write, read and its sister, precommit, abort and settle in memory alone, flush and
 // checkpoint with counted stores on the disk.
-pub mod admit;
+mod admit;
 pub mod call;
-pub mod checkpoint;
-pub mod choose;
-pub mod flush;
-pub mod step;
+mod checkpoint;
+mod choose;
+mod flush;
+mod step;
 pub mod stored;
 
+use layout::LOG_LEN;
+use layout::MAX_RECORDS;
+use layout::MAX_TXS;
 use log::Csn;
 use log::TxId;
 use transaction::Tx;
 ghost use mathlib.Core.Path.{_≡_};
 ghost use Rattle.store.specs.State.{unrecovered};
+
+// Bounds of the state's fields, at their widths.
+pub(crate) const LOGEND_MAX: u16 = LOG_LEN as u16;
+
+pub(crate) const COUNT_MAX: u8 = MAX_TXS as u8;
+
+pub(crate) const RECORDS_MAX: u8 = MAX_RECORDS as u8;
 
 // Transactions in order of begin, in the first count slots.
 pub struct State {
@@ -22,7 +32,7 @@ pub struct State {
     pub assigned: Csn,
     pub lastid: TxId,
     pub count: u8,
-    pub txs: [Tx; 8],
+    pub txs: [Tx; MAX_TXS],
 }
 
 pub enum Answer {
@@ -44,7 +54,7 @@ impl State {
             assigned: Csn(0),
             lastid: TxId(0),
             count: 0,
-            txs: [t; 8],
+            txs: [t; MAX_TXS],
         }
     }
 }

@@ -10,6 +10,7 @@ ghost use mathlib.Core.Bool.{true};
 ghost use Prim.Native.Nat.{_+_, _≤_, _<_};
 ghost use lib.ListN.{length};
 ghost use lib.Seq.{sets};
+ghost use Rattle.layout.specs.{memoryLen, maxTxs, maxRecords, maxWrite, commitLen, abortLen};
 ghost use Rattle.recovery.specs.Group.{committed, aborted};
 ghost use Rattle.recovery.specs.Replay.{undoAll, layBytes};
 ghost use Rattle.log.specs.Group.{encodeGroup};
@@ -20,7 +21,7 @@ ghost use Rattle.store.specs.Steps.{begunState, writtenState, precommitt
 
 impl State {
     pub(crate) fn begin_step(mut self) -> Self
-        requires { ⌜ (self .count < 8) × (self .lastid .0 < 65535) ⌝ }
+        requires { ⌜ (self .count < maxTxs) × (self .lastid .0 < 65535) ⌝ }
         ensures { λ r. ⌜ r ≡ begunState self ⌝ }
     {
         let id = TxId(self.lastid.0 + 1);
@@ -39,8 +40,8 @@ impl State {
         addr: usize,
         bytes: &[u8],
     ) -> Self
-        requires { ⌜ (slot < 8) × (length (now memory) ≡ 4096) × (length (now bytes) ≤ 32) × (addr + length (now bytes) ≤ 4096) ⌝ }
-        requires { ⌜ (txAt self slot .undo .count < 16) × (txAt self slot .redo .count < 16) ⌝ }
+        requires { ⌜ (slot < maxTxs) × (length (now memory) ≡ memoryLen) × (length (now bytes) ≤ maxWrite) × (addr + length (now bytes) ≤ memoryLen) ⌝ }
+        requires { ⌜ (txAt self slot .undo .count < maxRecords) × (txAt self slot .redo .count < maxRecords) ⌝ }
         ensures { λ r. ⌜ r ≡ writtenState self slot (now (memory .entry)) addr (now (bytes .entry)) ⌝ }
         ensures { λ _. ⌜ now (memory .exit) ≡ sets (now (memory .entry)) addr (now (bytes .entry)) ⌝ }
     {
@@ -53,10 +54,12 @@ impl State {
     }
 
     pub(crate) fn precommit_step(mut self, tail: &mut [u8], end: usize, slot: usize) -> Self
-        requires { ⌜ (slot < 8) × (self .assigned .0 < 4294967295) ⌝ }
-        requires { ⌜ (recordsOk (rangesOf (txAt self slot .redo)) ≡ true) × (end + rangesSize (rangesOf (txAt self slot .redo)) + 8 ≤ length (now tail)) ⌝ }
+        requires { ⌜ (slot < maxTxs) × (self .assigned .0 < 4294967295) ⌝ }
+        requires { ⌜ (recordsOk (rangesOf (txAt self slot .redo)) ≡ true)
+            × (end + rangesSize (rangesOf (txAt self slot .redo)) + commitLen ≤ length (now tail)) ⌝ }
         ensures { λ r. ⌜ r ≡ precommittedState self slot ⌝ }
-        ensures { λ _. ⌜ now (tail .exit) ≡ sets (now (tail .entry)) end (encodeGroup (committed (txAt self slot .id .0) (self .assigned .0 + 1) (writesOf (txAt self slot .redo)))) ⌝ }
+        ensures { λ _. ⌜ now (tail .exit) ≡ sets (now (tail .entry)) end
+            (encodeGroup (committed (txAt self slot .id .0) (self .assigned .0 + 1) (writesOf (txAt self slot .redo)))) ⌝ }
     {
         let csn = Csn(self.assigned.0 + 1);
         let t = self.txs[slot];
@@ -69,7 +72,7 @@ impl State {
 
     // Takes the transaction of a slot out of the list: the later ones move down, and the slot that falls free is all zero.
     pub(crate) fn drop_step(mut self, slot: usize) -> Self
-        requires { ⌜ (slot < self .count) × (self .count ≤ 8) ⌝ }
+        requires { ⌜ (slot < self .count) × (self .count ≤ maxTxs) ⌝ }
         ensures { λ r. ⌜ r ≡ droppedState self slot ⌝ }
     {
         let n = self.count as usize;
@@ -92,8 +95,8 @@ impl State {
         end: usize,
         slot: usize,
     ) -> Self
-        requires { ⌜ (slot < self .count) × (self .count ≤ 8) × (length (now memory) ≡ 4096) ⌝ }
-        requires { ⌜ (recordsOk (rangesOf (txAt self slot .undo)) ≡ true) × (end + 4 ≤ length (now tail)) ⌝ }
+        requires { ⌜ (slot < self .count) × (self .count ≤ maxTxs) × (length (now memory) ≡ memoryLen) ⌝ }
+        requires { ⌜ (recordsOk (rangesOf (txAt self slot .undo)) ≡ true) × (end + abortLen ≤ length (now tail)) ⌝ }
         ensures { λ r. ⌜ r ≡ droppedState self slot ⌝ }
         ensures { λ _. ⌜ now (memory .exit) ≡ undoAll layBytes (writesOf (txAt self slot .undo)) (now (memory .entry)) ⌝ }
         ensures { λ _. ⌜ now (tail .exit) ≡ sets (now (tail .entry)) end (encodeGroup (aborted (txAt self slot .id .0))) ⌝ }

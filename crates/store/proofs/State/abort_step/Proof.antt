@@ -24,7 +24,8 @@ same-length-2 : tie.Need-same-length-2
 same-length-2 c = search needs
 
 returns : tie.Need-returns
-returns c = (c .drop-step .ensures, (c .before .before .before .before .before .before .before .lay-back .ensures, c .before .before .before .put-abort .ensures))
+returns c =
+    (c .drop-step .ensures, (c .before .before .before .before .before .before .before .lay-back .ensures, c .before .before .before .put-abort .ensures))
 
 pub abort-step-spec : {M : Type 1} → statement M
 abort-step-spec =

@@ -13,52 +13,88 @@ use Rattle.store.specs.declared.State.{State}
 use Rattle.store.specs.State.{txsOf, outlinesOf}
 use Rattle.image.specs.Rules.{outlinesOk}
 use Rattle.store.specs.Rules.{tailLength, tailOk, unfit}
-use Rattle.store.specs.Admission.{countersOk, admission}
-use Rattle.store.proofs.Admitting.{refusedBy, head-count, unfit-head, unfit-txs, unfit-tail, unfit-room, unfit-none, txs-measured, txs-room, tail-measured, tail-room, reserved-bound, admit-memory, admit-tail, admit-unfit, admit-fit}
+use Rattle.store.specs.Admission.{notAdmitted, countersOk, admission}
+use Rattle.store.proofs.Admitting.{head-count, unfit-head, unfit-txs, unfit-tail, unfit-room, unfit-none, txs-measured, txs-room}
+use Rattle.store.proofs.Admitting.{tail-measured, tail-room, reserved-bound, admit-memory, admit-tail, admit-unfit, admit-fit}
 use Rattle.store.proofs.State.admit.Statement.{statement}
 use Rattle.store.proofs.State.admit.Tie as tie
 
+-- ---- what was handed in, seen from where both lengths have passed
+
+abbrev whole : tie.Else2 → State
+whole c = c .before .before .before .args .self
+
+abbrev lent : tie.Else2 → ℕ
+lent c = c .before .before .before .args .lent
+
+abbrev groups : tie.Else2 → List ℕ
+groups c = c .before .before .before .args .tail .now
+
+-- what the transactions and the tail keep their rules after
+abbrev lengths : tie.Else5 → tie.Else2
+lengths c = c .before .before .before .before .before .before .before .before
+
+abbrev txs : tie.Else5 → tie.After-measure-txs
+txs c = c .before .before .before .before .before
+
+not-admitted-requires : tie.Need-not-admitted-requires
+not-admitted-requires c κs = search needs
+
 returns : tie.Need-returns
 returns c =
-    let args = c .before .before .args in
-    sym (admit-memory (args .self) (args .memory) (args .tail .now) (c .if1 .taken))
+    let args = c .before .before .before .args in
+    c .not-admitted .ensures ∙ sym (admit-memory (args .self) (args .lent) (args .tail .now) (c .before .if1 .taken))
+
+not-admitted-requires-2 : tie.Need-not-admitted-requires-2
+not-admitted-requires-2 c κs = search needs
 
 returns-2 : tie.Need-returns-2
 returns-2 c =
-    let args = c .before .before .before .args in
-    sym (admit-tail (args .self) (args .memory) (args .tail .now) (c .if2 .taken))
+    let args = c .before .before .before .before .args in
+    c .not-admitted2 .ensures ∙ sym (admit-tail (args .self) (args .lent) (args .tail .now) (c .before .if2 .taken))
 
 counters-ok-requires : tie.Need-counters-ok-requires
 counters-ok-requires c κs = search needs
 
-refused-2 : (c : tie.Else2) → let args = c .before .before .before .args in
-    unfit (args .self) (args .tail .now) ≡ true → admission (args .self) (args .memory) (args .tail .now) ≡ refusedBy 2
-refused-2 c e =
-    let args = c .before .before .before .args in
-    admit-unfit (args .self) (args .memory) (args .tail .now) (c .before .if1 .left) (c .if2 .left) e
+not-admitted-requires-3 : tie.Need-not-admitted-requires-3
+not-admitted-requires-3 c κs = search needs
+
+refused-2 : (c : tie.Else2) → unfit (whole c) (groups c) ≡ true → notAdmitted 2 ≡ admission (whole c) (lent c) (groups c)
+refused-2 c e = sym (admit-unfit (whole c) (lent c) (groups c) (c .before .if1 .left) (c .if2 .left) e)
 
 returns-3 : tie.Need-returns-3
 returns-3 c =
-    let args = c .before .before .before .before .before .args in
-    sym (refused-2 (c .before .before) (unfit-head (args .self) (args .tail .now) (sym (c .before .counters-ok .ensures) ∙ not-true _ (c .if3 .taken))))
+    let l = c .before .before .before in
+    c .not-admitted3 .ensures
+    ∙ refused-2 l (unfit-head (whole l) (groups l) (sym (c .before .before .counters-ok .ensures) ∙ not-true _ (c .before .if3 .taken)))
 
 measure-txs-requires : tie.Need-measure-txs-requires
 measure-txs-requires c κs =
-    let args = c .before .before .before .before .before .args in
-    head-count (args .self) (args .tail .now) (sym (c .before .counters-ok .ensures) ∙ not-false _ (c .if3 .left))
+    let l = c .before .before in
+    head-count (whole l) (groups l) (sym (c .before .counters-ok .ensures) ∙ not-false _ (c .if3 .left))
+
+not-admitted-requires-4 : tie.Need-not-admitted-requires-4
+not-admitted-requires-4 c κs = search needs
 
 returns-4 : tie.Need-returns-4
 returns-4 c =
-    let args = c .before .before .before .before .before .before .before .before .args in
-    sym (refused-2 (c .before .before .before .before .before) (unfit-txs (args .self) (args .tail .now) (sym (txs-measured (args .self) _ (c .before .before .measure-txs .ensures)) ∙ not-true _ (c .if4 .taken))))
+    let x = c .before .before .before in
+    let l = x .before .before .before in
+    let e = sym (txs-measured (whole l) _ (x .measure-txs .ensures)) ∙ not-true _ (c .before .if4 .taken) in
+    c .not-admitted4 .ensures ∙ refused-2 l (unfit-txs (whole l) (groups l) e)
 
 measure-tail-requires : tie.Need-measure-tail-requires
 measure-tail-requires c κs = search needs
 
+not-admitted-requires-5 : tie.Need-not-admitted-requires-5
+not-admitted-requires-5 c κs = search needs
+
 returns-5 : tie.Need-returns-5
 returns-5 c =
-    let args = c .before .before .before .before .before .before .before .before .before .before .before .args in
-    sym (refused-2 (c .before .before .before .before .before .before .before .before) (unfit-tail (args .self) (args .tail .now) (sym (tail-measured _ _ _ _ (c .before .before .measure-tail .ensures)) ∙ not-true _ (c .if5 .taken))))
+    let x = c .before .before .before in
+    let l = x .before .before .before .before .before .before in
+    let e = sym (tail-measured _ _ _ _ (x .measure-tail .ensures)) ∙ not-true _ (c .before .if5 .taken) in
+    c .not-admitted5 .ensures ∙ refused-2 l (unfit-tail (whole l) (groups l) e)
 
 cast-room : tie.Need-cast-room
 cast-room c = search needs
@@ -73,22 +109,23 @@ pub record Measures (s : State) (t : List ℕ) (a b : ℕ) : Type 0 where
   pub short : tailLength (s .ondisk .0) t ≤ length t
   pub few : sumOf roomOf (txsOf s) ≤ 5056
 
-measured : (c : tie.Else5) → let args = c .before .before .before .before .before .before .before .before .before .before .before .args in
-    Measures (args .self) (args .tail .now) (c .before .before .measure-tail .result .room) (c .before .before .before .before .before .measure-txs .result .room)
+measured : (c : tie.Else5)
+    → let l = lengths c in Measures (whole l) (groups l) (c .before .before .measure-tail .result .room) (txs c .measure-txs .result .room)
 measured c =
-    let args = c .before .before .before .before .before .before .before .before .before .before .before .args in
-    let s = args .self in
-    let t = args .tail .now in
-    let h = sym (c .before .before .before .before .before .before .before .counters-ok .ensures) ∙ not-false _ (c .before .before .before .before .before .before .if3 .left) in
+    let s = whole (lengths c) in
+    let t = groups (lengths c) in
+    let log = c .before .before .measure-tail in
+    let counted = txs c .before in
+    let h = sym (counted .before .counters-ok .ensures) ∙ not-false _ (counted .if3 .left) in
     let x = not-false _ (c .before .before .before .if4 .left) in
     let y = not-false _ (c .if5 .left) in
-    let m = sym (txs-measured s _ (c .before .before .before .before .before .measure-txs .ensures)) ∙ x in
+    let m = sym (txs-measured s _ (txs c .measure-txs .ensures)) ∙ x in
     record {
       heads = h;
       txs = m;
-      log = sym (tail-measured _ _ _ _ (c .before .before .measure-tail .ensures)) ∙ y;
-      end = tail-room _ _ _ _ (c .before .before .measure-tail .ensures) y;
-      rooms = txs-room s _ (c .before .before .before .before .before .measure-txs .ensures) x;
+      log = sym (tail-measured _ _ _ _ (log .ensures)) ∙ y;
+      end = tail-room _ _ _ _ (log .ensures) y;
+      rooms = txs-room s _ (txs c .measure-txs .ensures) x;
       short = log-within (s .ondisk .0) _ t refl;
       few = reserved-bound s (head-count s t h) m;
     }
@@ -99,34 +136,47 @@ add-room c = let m = measured (c .before .before) in omega (arith, m)
 add-room-2 : tie.Need-add-room-2
 add-room-2 c = let m = measured (c .before .before .before) in omega (arith, m)
 
+not-admitted-requires-6 : tie.Need-not-admitted-requires-6
+not-admitted-requires-6 c κs = search needs
+
 returns-6 : tie.Need-returns-6
 returns-6 c =
-    let args = c .before .before .before .before .before .before .before .before .before .before .before .before .before .before .before .args in
-    let m = measured (c .before .before .before .before) in sym (refused-2 (c .before .before .before .before .before .before .before .before .before .before .before .before) (unfit-room (args .self) (args .tail .now) (omega (arith, m, c .if6 .taken))))
+    let ok = c .before .before .before .before .before in
+    let l = lengths ok in
+    let m = measured ok in
+    c .not-admitted6 .ensures ∙ refused-2 l (unfit-room (whole l) (groups l) (omega (arith, m, c .before .if6 .taken)))
 
 returns-7 : tie.Need-returns-7
 returns-7 c =
-    let args = c .before .before .before .before .before .before .before .before .before .before .before .before .before .before .before .args in
-    let s = args .self in
-    let t = args .tail .now in
-    let m = measured (c .before .before .before .before) in
+    let ok = c .before .before .before .before in
+    let l = lengths ok in
+    let s = whole l in
+    let t = groups l in
+    let m = measured ok in
     let u = unfit-none s t (m .heads) (m .txs) (m .log) (omega (arith, m .end, m .rooms, c .if6 .left)) in
-    ap₂ (λ (x y : ℕ). record { number = 0; end = x; room = y }) (m .end) (omega (arith, m .end, m .rooms)) ∙ sym (admit-fit s (args .memory) t (c .before .before .before .before .before .before .before .before .before .before .before .before .before .if1 .left) (c .before .before .before .before .before .before .before .before .before .before .before .before .if2 .left) u)
+    ap₂ (λ (x y : ℕ). record { number = 0; end = x; room = y }) (m .end) (omega (arith, m .end, m .rooms))
+    ∙ sym (admit-fit s (lent l) t (l .before .if1 .left) (l .if2 .left) u)
 
 pub admit-spec : {M : Type 1} → statement M
 admit-spec =
     tie.close
     (tie.spec
+    not-admitted-requires
     returns
+    not-admitted-requires-2
     returns-2
     counters-ok-requires
+    not-admitted-requires-3
     returns-3
     measure-txs-requires
+    not-admitted-requires-4
     returns-4
     measure-tail-requires
+    not-admitted-requires-5
     returns-5
     cast-room
     add-room
     add-room-2
+    not-admitted-requires-6
     returns-6
     returns-7)

@@ -6,7 +6,7 @@ use mathlib.Core.Path.{sym, ap, _∙_}
 use borrow.Author.Tests.{eq-eqb, ne-eqb}
 use Rattle.image.proofs.Rules.{image-count}
 use Rattle.store.specs.State.{imageOf}
-use Rattle.store.specs.Numbers.{listedChecks}
+use Rattle.store.specs.Admission.{listedChecks}
 use Rattle.store.proofs.Choosing.{choice-none, choice-some, refused-6, passes-6}
 use Rattle.store.proofs.State.choose_listed.Statement.{statement}
 use Rattle.store.proofs.State.choose_listed.Tie as tie
@@ -18,7 +18,8 @@ returns : tie.Need-returns
 returns c =
     let a = c .before .before .before .args in
     let n = c .before .if1 .taken in
-    c .refuse .ensures ∙ sym (choice-some (a .self) (a .admitted) (a .id .0) (listedChecks (a .self) (a .id .0)) (a .admitted .number) (rw (ne-eqb (a .admitted .number) 0 n)) n)
+    c .refuse .ensures ∙ sym (choice-some (a .self) (a .admitted) (a .id .0) (listedChecks (a .self) (a .id .0)) (a .admitted .number)
+    (rw (ne-eqb (a .admitted .number) 0 n)) n)
 
 find-requires : tie.Need-find-requires
 find-requires c κs = image-count (imageOf (c .before .before .args .self)) (c .before .before .pre (c .if1 .left) .0)
@@ -36,7 +37,8 @@ returns-2 c =
     c .refuse2 .ensures
     ∙ sym
     (choice-some (a .self) (a .admitted) (a .id .0) (listedChecks (a .self) (a .id .0)) 6
-    (rw (eq-eqb (a .admitted .number) 0 (c .before .before .before .before .if1 .left)) (refused-6 (a .self) (a .id .0) (find .result) (find .ensures) [] (c .before .if2 .taken))) (λ e. omega (arith, e)))
+    (rw (eq-eqb (a .admitted .number) 0 (c .before .before .before .before .if1 .left))
+    (refused-6 (a .self) (a .id .0) (find .result) (find .ensures) [] (c .before .if2 .taken))) (λ e. omega (arith, e)))
 
 returns-3 : tie.Need-returns-3
 returns-3 c =
@@ -45,7 +47,8 @@ returns-3 c =
     ap (λ (k : ℕ). record { number = 0; slot = k; end = a .admitted .end; room = a .admitted .room }) (find .ensures)
     ∙ sym
     (choice-none (a .self) (a .admitted) (a .id .0) (listedChecks (a .self) (a .id .0))
-    (rw (eq-eqb (a .admitted .number) 0 (c .before .before .before .if1 .left)) (passes-6 (a .self) (a .id .0) (find .result) (find .ensures) [] (c .if2 .left))))
+    (rw (eq-eqb (a .admitted .number) 0 (c .before .before .before .if1 .left))
+    (passes-6 (a .self) (a .id .0) (find .result) (find .ensures) [] (c .if2 .left))))
 
 pub choose-listed-spec : {M : Type 1} → statement M
 choose-listed-spec =

@@ -22,13 +22,15 @@ refuse-requires c κs = search needs
 returns-2 : tie.Need-returns-2
 returns-2 c =
     let a = c .before .before .before .before .before .before .args in
-    choice-refuses _ _ _ _ (abortChecks (a .self) (a .id .0)) (c .before .before .before .before .before .choose-running .ensures) refl (check12 (a .self) ∷ []) (c .before .before .before .if1 .left) 12
+    choice-refuses _ _ _ _ (abortChecks (a .self) (a .id .0)) (c .before .before .before .before .before .choose-running .ensures) refl
+    (check12 (a .self) ∷ []) (c .before .before .before .if1 .left) 12
     (rw (eq-eqb (a .self .assigned .0) 4294967295 (c .before .if2 .taken))) (λ e. omega (arith, e)) (c .refuse .ensures)
 
 returns-3 : tie.Need-returns-3
 returns-3 c =
     let a = c .before .before .before .before .before .args in
-    choice-goes _ _ _ _ (abortChecks (a .self) (a .id .0)) (c .before .before .before .before .choose-running .ensures) refl (check12 (a .self) ∷ []) (c .before .before .if1 .left)
+    choice-goes _ _ _ _ (abortChecks (a .self) (a .id .0)) (c .before .before .before .before .choose-running .ensures) refl (check12 (a .self) ∷ [])
+    (c .before .before .if1 .left)
     (rw (ne-eqb (a .self .assigned .0) 4294967295 (c .if2 .left)))
 
 pub choose-precommit-spec : {M : Type 1} → statement M

@@ -2,7 +2,8 @@ use borrow.Author.Needs.{needs}
 use native.Mathlib.Omega.{arith}
 use mathlib.Core.List.{[], _∷_}
 use mathlib.Core.Path.{refl}
-use Rattle.store.specs.Numbers.{check7, listedChecks}
+use Rattle.store.specs.Numbers.{check7}
+use Rattle.store.specs.Admission.{listedChecks}
 use Rattle.store.proofs.Choosing.{choice-stops, choice-refuses, choice-goes, Slotted, slotted, refused-7, passes-7}
 use Rattle.store.proofs.State.choose_running.Statement.{statement}
 use Rattle.store.proofs.State.choose_running.Tie as tie
@@ -34,7 +35,8 @@ returns-2 c =
     let a = c .before .before .before .before .before .args in
     let s = a .t1 in
     let id = a .id .0 in
-    choice-refuses _ _ _ _ (listedChecks s id) (c .before .before .before .before .choose-listed .ensures) refl (check7 s id ∷ []) (c .before .before .if1 .left) 7
+    choice-refuses _ _ _ _ (listedChecks s id) (c .before .before .before .before .choose-listed .ensures) refl (check7 s id ∷ [])
+    (c .before .before .if1 .left) 7
     (refused-7 s id _ (found (c .before .before) .slot) [] (c .before .if2 .taken)) (λ e. omega (arith, e)) (c .refuse .ensures)
 
 returns-3 : tie.Need-returns-3

@@ -4,7 +4,8 @@ use native.Mathlib.Omega.{arith}
 use mathlib.Core.List.{[], _∷_}
 use mathlib.Core.Path.{_≡_, refl, sym, _∙_}
 use borrow.Author.Tests.{eq-eqb, ne-eqb, lt-ltb, le-ltb}
-use Rattle.store.specs.Numbers.{txOf, listedChecks, check14}
+use Rattle.store.specs.Numbers.{txOf, check14}
+use Rattle.store.specs.Admission.{listedChecks}
 use Rattle.store.proofs.Choosing.{choice-stops, choice-refuses, choice-goes, Slotted, slotted, status-of}
 use Rattle.store.proofs.State.choose_settle.Statement.{statement}
 use Rattle.store.proofs.State.choose_settle.Tie as tie
@@ -37,7 +38,8 @@ returns-2 c =
     let s = a .t1 in
     let id = a .id .0 in
     let e : txOf s id .status ≡ 1 = status-of s id _ (found (c .before .before) .slot) ∙ c .before .if2 .taken in
-    choice-refuses _ _ _ _ (listedChecks s id) (c .before .before .before .before .choose-listed .ensures) refl (check14 s id ∷ []) (c .before .before .if1 .left) 14
+    choice-refuses _ _ _ _ (listedChecks s id) (c .before .before .before .before .choose-listed .ensures) refl (check14 s id ∷ [])
+    (c .before .before .if1 .left) 14
     (rw (eq-eqb (txOf s id .status) 1 e)) (λ z. omega (arith, z)) (c .refuse .ensures)
 
 mul-if3 : tie.Need-mul-if3
@@ -61,7 +63,8 @@ returns-3 c =
     let s = a .t1 in
     let id = a .id .0 in
     let f : s .ondisk .0 < txOf s id .csn .0 = rw (found (c .before .before .before) .slot) at (c .before .if3 .taken) in
-    choice-refuses _ _ _ _ (listedChecks s id) (c .before .before .before .before .before .choose-listed .ensures) refl (check14 s id ∷ []) (c .before .before .before .if1 .left) 14
+    choice-refuses _ _ _ _ (listedChecks s id) (c .before .before .before .before .before .choose-listed .ensures) refl (check14 s id ∷ [])
+    (c .before .before .before .if1 .left) 14
     (rw (ne-eqb (txOf s id .status) 1 (settling (c .before .before)), lt-ltb _ _ f)) (λ z. omega (arith, z)) (c .refuse2 .ensures)
 
 returns-4 : tie.Need-returns-4

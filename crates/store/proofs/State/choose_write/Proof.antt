@@ -25,7 +25,8 @@ returns c =
 
 -- numbers 1, 2 and 6 to 9 do not refuse
 found : (c : tie.Else1) → let a = c .before .before .before .args in
-    Slotted (a .t1) (a .admitted) (a .id .0) (c .before .before .choose-read .result) (check7 (a .t1) (a .id .0) ∷ check8 (a .addr) (a .len) ∷ check9 (a .t1) (a .id .0) (a .addr) (a .len) ∷ [])
+    Slotted (a .t1) (a .admitted) (a .id .0) (c .before .before .choose-read .result)
+    (check7 (a .t1) (a .id .0) ∷ check8 (a .addr) (a .len) ∷ check9 (a .t1) (a .id .0) (a .addr) (a .len) ∷ [])
 found c = slotted _ _ _ _ _ (c .before .before .before .pre) (c .before .before .choose-read .ensures) (c .if1 .left)
 
 short : (c : tie.Else1) → c .before .before .before .args .len ≤ 32
@@ -52,8 +53,10 @@ returns-2 : tie.Need-returns-2
 returns-2 c =
     let start = c .before .before .before .before .before in
     let a = start .args in
-    choice-refuses _ _ _ _ (readChecks (a .t1) (a .id .0) (a .addr) (a .len)) (c .before .before .before .before .choose-read .ensures) refl (last start) (c .before .before .if1 .left) 10
-    (rw (eq-eqb (txOf (a .t1) (a .id .0) .undo .count) 16 (sym (records (c .before .before)) ∙ c .before .if2 .taken))) (λ e. omega (arith, e)) (c .refuse .ensures)
+    choice-refuses _ _ _ _ (readChecks (a .t1) (a .id .0) (a .addr) (a .len)) (c .before .before .before .before .choose-read .ensures) refl (last start)
+    (c .before .before .if1 .left) 10
+    (rw (eq-eqb (txOf (a .t1) (a .id .0) .undo .count) 16 (sym (records (c .before .before)) ∙ c .before .if2 .taken))) (λ e. omega (arith, e))
+    (c .refuse .ensures)
 
 add-if3 : tie.Need-add-if3
 add-if3 c = omega (arith, short (c .before))
@@ -73,7 +76,8 @@ returns-3 c =
     let start = c .before .before .before .before .before .before .before in
     let a = start .args in
     let full : 16384 < a .admitted .room + (7 + a .len) = omega (arith, found (c .before .before .before .before) .room, c .before .if3 .taken) in
-    choice-refuses _ _ _ _ (readChecks (a .t1) (a .id .0) (a .addr) (a .len)) (c .before .before .before .before .before .before .choose-read .ensures) refl (last start) (c .before .before .before .before .if1 .left) 13
+    choice-refuses _ _ _ _ (readChecks (a .t1) (a .id .0) (a .addr) (a .len)) (c .before .before .before .before .before .before .choose-read .ensures) refl
+    (last start) (c .before .before .before .before .if1 .left) 13
     (rw (ne-eqb (txOf (a .t1) (a .id .0) .undo .count) 16 (few (c .before .before .before)), lt-ltb _ _ full)) (λ e. omega (arith, e)) (c .refuse2 .ensures)
 
 returns-4 : tie.Need-returns-4
@@ -81,7 +85,8 @@ returns-4 c =
     let start = c .before .before .before .before .before .before in
     let a = start .args in
     let free : a .admitted .room + (7 + a .len) ≤ 16384 = omega (arith, found (c .before .before .before) .room, c .if3 .left) in
-    choice-goes _ _ _ _ (readChecks (a .t1) (a .id .0) (a .addr) (a .len)) (c .before .before .before .before .before .choose-read .ensures) refl (last start) (c .before .before .before .if1 .left)
+    choice-goes _ _ _ _ (readChecks (a .t1) (a .id .0) (a .addr) (a .len)) (c .before .before .before .before .before .choose-read .ensures) refl
+    (last start) (c .before .before .before .if1 .left)
     (rw (ne-eqb (txOf (a .t1) (a .id .0) .undo .count) 16 (few (c .before .before)), le-ltb _ _ free))
 
 pub choose-write-spec : {M : Type 1} → statement M

@@ -58,7 +58,8 @@ loop-again c =
       omega arith,
       omega arith,
       ap (λ (u : State). withSlots u (set (u .txs) i (getD (u .txs) (i + 1) noTx))) (c .before .before .loop .inv .2)
-          ∙ ap (λ (ts : List Tx). withSlots s ts) (shift-step (s .txs) (c .before .before .before .args .slot) i (omega arith) (omega arith) noTx (omega arith)),
+          ∙ ap (λ (ts : List Tx). withSlots s ts)
+          (shift-step (s .txs) (c .before .before .before .args .slot) i (omega arith) (omega arith) noTx (omega arith)),
     )
 
 empty-requires : tie.Need-empty-requires Inv-loop μ-loop
@@ -72,7 +73,8 @@ element-set-from-none c = search needs
 
 sub-self : tie.Need-sub-self Inv-loop μ-loop
 sub-self c =
-    let e : c .before .before .loop .self .count ≡ c .before .before .before .args .t1 .count = ap (λ (u : State). u .count) (c .before .before .loop .inv .2) in
+    let e : c .before .before .loop .self .count ≡ c .before .before .before .args .t1 .count =
+    ap (λ (u : State). u .count) (c .before .before .loop .inv .2) in
     omega arith
 
 returns : tie.Need-returns Inv-loop μ-loop
@@ -87,7 +89,8 @@ returns c =
     ∙ ap (λ (ts : List Tx). withTxs s (s .assigned) (s .lastid) (s .count - 1) ts)
     (ap (λ (u : Tx). set (shift (s .txs) (c .before .before .before .args .slot) i) i u) (c .empty .ensures)
     ∙ shift-last (s .txs) (c .before .before .before .args .slot) i (omega arith) (omega arith) noTx emptyTx
-    ∙ ap₂ (λ (k m : ℕ). take (c .before .before .before .args .slot) (s .txs) ++ (take (k - c .before .before .before .args .slot) (drop (c .before .before .before .args .slot + 1) (s .txs)) ++ (emptyTx ∷ drop m (s .txs)))) e f)
+    ∙ ap₂ (λ (k m : ℕ). take (c .before .before .before .args .slot) (s .txs)
+    ++ (take (k - c .before .before .before .args .slot) (drop (c .before .before .before .args .slot + 1) (s .txs)) ++ (emptyTx ∷ drop m (s .txs)))) e f)
 
 pub drop-step-spec : {M : Type 1} → statement M
 drop-step-spec =

@@ -30,7 +30,9 @@ element-copy-out-if1 : tie.Need-element-copy-out-if1 Inv-loop μ-loop
 element-copy-out-if1 c = search needs
 
 returns : tie.Need-returns Inv-loop μ-loop
-returns c = sym (c .before .before .before .loop .inv .1 ∙ slot-hit (c .before .before .before .before .args .t1) _ _ _ (c .before .before .loop-test .taken) (eq-eqb _ _ (c .if1 .taken)))
+returns c =
+    sym (c .before .before .before .loop .inv .1
+    ∙ slot-hit (c .before .before .before .before .args .t1) _ _ _ (c .before .before .loop-test .taken) (eq-eqb _ _ (c .if1 .taken)))
 
 add-i : tie.Need-add-i Inv-loop μ-loop
 add-i c = search needs
@@ -39,7 +41,11 @@ loop-less : tie.Need-loop-less Inv-loop μ-loop
 loop-less c = search needs
 
 loop-again : tie.Need-loop-again Inv-loop μ-loop
-loop-again c = (omega arith, c .before .before .before .loop .inv .1 ∙ slot-miss (c .before .before .before .before .args .t1) _ _ _ (c .before .before .loop-test .taken) (ne-eqb _ _ (c .if1 .left)))
+loop-again c = (
+  omega arith,
+  c .before .before .before .loop .inv .1
+      ∙ slot-miss (c .before .before .before .before .args .t1) _ _ _ (c .before .before .loop-test .taken) (ne-eqb _ _ (c .if1 .left)),
+)
 
 returns-2 : tie.Need-returns-2 Inv-loop μ-loop
 returns-2 c =

@@ -34,11 +34,19 @@ element-copy-out-t c = let h = image-count (imageOf (c .before .before .args .t1
 
 holds-against-requires : tie.Need-holds-against-requires Inv-loop μ-loop
 holds-against-requires c κs =
-    let args = c .before .before .before .args in
-    (counted (txAt (args .t1) (c .before .before .loop .i) .undo) (undo-at (imageOf (args .t1)) (c .before .before .before .pre .0) (c .before .before .loop .i) (c .before .loop-test .taken)), c .before .before .before .pre .1, c .before .before .before .pre .2)
+    let args = c .before .before .before .args in (
+      counted (txAt (args .t1) (c .before .before .loop .i) .undo)
+          (undo-at (imageOf (args .t1)) (c .before .before .before .pre .0) (c .before .before .loop .i)
+          (c .before .loop-test .taken)),
+      c .before .before .before .pre .1,
+      c .before .before .before .pre .2,
+    )
 
 returns : tie.Need-returns Inv-loop μ-loop
-returns c = sym (c .before .before .before .before .loop .inv .1 ∙ any-hit (txAt (c .before .before .before .before .before .args .t1)) _ _ (c .before .before .before .loop-test .taken) (heldAgainst _ _ _) (sym (c .before .holds-against .ensures) ∙ c .if1 .taken))
+returns c =
+    sym (c .before .before .before .before .loop .inv .1
+    ∙ any-hit (txAt (c .before .before .before .before .before .args .t1)) _ _ (c .before .before .before .loop-test .taken) (heldAgainst _ _ _)
+    (sym (c .before .holds-against .ensures) ∙ c .if1 .taken))
 
 add-i : tie.Need-add-i Inv-loop μ-loop
 add-i c = search needs
@@ -47,13 +55,19 @@ loop-less : tie.Need-loop-less Inv-loop μ-loop
 loop-less c = search needs
 
 loop-again : tie.Need-loop-again Inv-loop μ-loop
-loop-again c = (omega arith, c .before .before .before .before .loop .inv .1 ∙ any-miss (txAt (c .before .before .before .before .before .args .t1)) _ _ (c .before .before .before .loop-test .taken) (heldAgainst _ _ _) (sym (c .before .holds-against .ensures) ∙ c .if1 .left))
+loop-again c = (
+  omega arith,
+  c .before .before .before .before .loop .inv .1
+      ∙ any-miss (txAt (c .before .before .before .before .before .args .t1)) _ _ (c .before .before .before .loop-test .taken) (heldAgainst _ _ _)
+      (sym (c .before .holds-against .ensures) ∙ c .if1 .left),
+)
 
 returns-2 : tie.Need-returns-2 Inv-loop μ-loop
 returns-2 c =
     let args = c .before .before .args in
     let s = args .t1 in
-    sym (c .before .loop .inv .1 ∙ ap (any (heldAgainst (args .id .0) (args .addr) (args .len))) (up-done (txAt s) (s .count) (c .before .loop .i) (c .loop-test .left)))
+    sym (c .before .loop .inv .1 ∙ ap (any (heldAgainst (args .id .0) (args .addr) (args .len)))
+    (up-done (txAt s) (s .count) (c .before .loop .i) (c .loop-test .left)))
 
 pub held-spec : {M : Type 1} → statement M
 held-spec =

@@ -25,7 +25,8 @@ abbrev Inv-loop : tie.InvT-loop
 Inv-loop self n last assigned keys room₀ i₀ room i =
     (i ≤ n)
     × (room ≤ 632 * i)
-    × (every (outlineOk (self .lastid .0) (self .assigned .0)) (outlinesOf self) ≡ every (outlineOk (self .lastid .0) (self .assigned .0)) (upFrom (outlineAt self) (n - i) i))
+    × (every (outlineOk (self .lastid .0) (self .assigned .0)) (outlinesOf self)
+    ≡ every (outlineOk (self .lastid .0) (self .assigned .0)) (upFrom (outlineAt self) (n - i) i))
     × (distinct (outlinesOf self) ≡ distinct (upFrom (outlineAt self) (n - i) i))
     × (every redoOk (txsOf self) ≡ every redoOk (upFrom (txAt self) (n - i) i))
     × (sumOf roomOf (txsOf self) ≡ room + sumOf roomOf (upFrom (txAt self) (n - i) i))
@@ -62,15 +63,22 @@ whole t = t .before .before .before .before .before .before .before .args .t1
 abbrev at : tie.After-t Inv-loop μ-loop → ℕ
 at t = t .before .before .loop .i
 
+rule-broken-requires : tie.Need-rule-broken-requires Inv-loop μ-loop
+rule-broken-requires c κs = search needs
+
 returns : tie.Need-returns Inv-loop μ-loop
 returns c =
-    let t = c .before .before in
+    let t = c .before .before .before in
     let s = whole t in
-    sym
+    let bad = sym (c .before .before .image-ok .ensures) ∙ not-true _ (c .before .if1 .taken) in
+    c .rule-broken .ensures
+    ∙ sym
     (bad-outline s
-    (t .before .before .loop .inv .2 ∙ every-bad (outlineAt s) _ _ (t .before .loop-test .taken) (outlineOk (s .lastid .0) (s .assigned .0)) (sym (c .before .image-ok .ensures) ∙ not-true _ (c .if1 .taken))))
+    (t .before .before .loop .inv .2
+    ∙ every-bad (outlineAt s) _ _ (t .before .loop-test .taken) (outlineOk (s .lastid .0) (s .assigned .0)) bad))
 
-good-outline : (c : tie.Else1 Inv-loop μ-loop) → let s = whole (c .before .before) in outlineOk (s .lastid .0) (s .assigned .0) (outlineAt s (at (c .before .before))) ≡ true
+good-outline : (c : tie.Else1 Inv-loop μ-loop)
+    → let s = whole (c .before .before) in outlineOk (s .lastid .0) (s .assigned .0) (outlineAt s (at (c .before .before))) ≡ true
 good-outline c = sym (c .before .image-ok .ensures) ∙ not-false _ (c .if1 .left)
 
 good-undo : (c : tie.Else1 Inv-loop μ-loop) → recordsOk (rangesOf (txAt (whole (c .before .before)) (at (c .before .before)) .undo)) ≡ true
@@ -82,10 +90,15 @@ good-undo c =
 redo-ok-requires : tie.Need-redo-ok-requires Inv-loop μ-loop
 redo-ok-requires c κs = counted (txAt (whole (c .before .before)) (at (c .before .before)) .undo) (good-undo c)
 
+rule-broken-requires-2 : tie.Need-rule-broken-requires-2 Inv-loop μ-loop
+rule-broken-requires-2 c κs = search needs
+
 returns-2 : tie.Need-returns-2 Inv-loop μ-loop
 returns-2 c =
-    let t = c .before .before .before .before in
-    sym (bad-redo (whole t) (t .before .before .loop .inv .4 ∙ every-bad (txAt (whole t)) _ _ (t .before .loop-test .taken) redoOk (sym (c .before .redo-ok .ensures) ∙ not-true _ (c .if2 .taken))))
+    let t = c .before .before .before .before .before in
+    let bad = sym (c .before .before .redo-ok .ensures) ∙ not-true _ (c .before .if2 .taken) in
+    c .rule-broken2 .ensures
+    ∙ sym (bad-redo (whole t) (t .before .before .loop .inv .4 ∙ every-bad (txAt (whole t)) _ _ (t .before .loop-test .taken) redoOk bad))
 
 add-alike-from : tie.Need-add-alike-from Inv-loop μ-loop
 add-alike-from c = search needs
@@ -106,21 +119,36 @@ compared c =
     let s = whole t in
     let keys = t .before .before .before .keys-of in
     c .alike-from .ensures
-    ∙ by-keys (s .txs) (keys .result) (keys .ensures) (txAt s (at t) .id .0) (txAt s (at t) .csn .0) (s .count - (at t + 1)) (at t + 1) (omega (arith, t .before .before .before .before .before .before .before .pre, t .before .loop-test .taken))
+    ∙ by-keys (s .txs) (keys .result) (keys .ensures) (txAt s (at t) .id .0) (txAt s (at t) .csn .0) (s .count - (at t + 1)) (at t + 1)
+    (omega (arith, t .before .before .before .before .before .before .before .pre, t .before .loop-test .taken))
+
+rule-broken-requires-3 : tie.Need-rule-broken-requires-3 Inv-loop μ-loop
+rule-broken-requires-3 c κs = search needs
 
 returns-3 : tie.Need-returns-3 Inv-loop μ-loop
 returns-3 c =
-    let t = c .before .before .before .before .before .before in
-    sym (bad-alike (whole t) (t .before .before .loop .inv .3 ∙ distinct-hit (whole t .txs) _ _ (t .before .loop-test .taken) (sym (compared (c .before)) ∙ c .if3 .taken)))
+    let t = c .before .before .before .before .before .before .before in
+    let hit = sym (compared (c .before .before)) ∙ c .before .if3 .taken in
+    c .rule-broken3 .ensures
+    ∙ sym (bad-alike (whole t) (t .before .before .loop .inv .3 ∙ distinct-hit (whole t .txs) _ _ (t .before .loop-test .taken) hit))
 
 room-requires : tie.Need-room-requires Inv-loop μ-loop
-room-requires c κs = let t = c .before .before .before .before .before .before in redo-records (txAt (whole t) (at t)) (good-undo (c .before .before .before .before)) (good-redo (c .before .before))
+room-requires c κs =
+    let t = c .before .before .before .before .before .before in redo-records (txAt (whole t) (at t)) (good-undo (c .before .before .before .before))
+    (good-redo (c .before .before))
 
 small : (c : tie.After-room Inv-loop μ-loop) → c .room .result ≤ 632
-small c = let t = c .before .before .before .before .before .before .before in omega (arith, c .room .ensures, room-bound (txAt (whole t) (at t)) (good-undo (c .before .before .before .before .before)) (good-redo (c .before .before .before)))
+small c =
+    let t = c .before .before .before .before .before .before .before in omega (
+      arith,
+      c .room .ensures,
+      room-bound (txAt (whole t) (at t))
+          (good-undo (c .before .before .before .before .before)) (good-redo (c .before .before .before)),
+    )
 
 add-room : tie.Need-add-room Inv-loop μ-loop
-add-room c = let g = c .before .before .before .before .before .before .before .before .before .before .before .before .before .before .pre in omega (arith, small c)
+add-room c =
+    let g = c .before .before .before .before .before .before .before .before .before .before .before .before .before .before .pre in omega (arith, small c)
 
 add-i : tie.Need-add-i Inv-loop μ-loop
 add-i c = search needs
@@ -152,7 +180,8 @@ returns-4 c =
     let z : sumOf roomOf (upFrom (txAt s) (s .count - i) i) ≡ 0 = ap (sumOf roomOf) t in
     ap (λ (n : ℕ). record { ok = true; room = n }) (omega (arith, z, c .before .loop .inv .5))
     ∙ sym
-    (good-txs s (c .before .loop .inv .2 ∙ ap (every (outlineOk (s .lastid .0) (s .assigned .0))) o) (c .before .loop .inv .3 ∙ ap distinct o) (c .before .loop .inv .4 ∙ ap (every redoOk) t))
+    (good-txs s (c .before .loop .inv .2 ∙ ap (every (outlineOk (s .lastid .0) (s .assigned .0))) o) (c .before .loop .inv .3 ∙ ap distinct o)
+    (c .before .loop .inv .4 ∙ ap (every redoOk) t))
 
 pub measure-txs-spec : {M : Type 1} → statement M
 measure-txs-spec =
@@ -166,11 +195,14 @@ measure-txs-spec =
     mul-t
     element-copy-out-t
     image-ok-requires
+    rule-broken-requires
     returns
     redo-ok-requires
+    rule-broken-requires-2
     returns-2
     add-alike-from
     alike-from-requires
+    rule-broken-requires-3
     returns-3
     room-requires
     add-room

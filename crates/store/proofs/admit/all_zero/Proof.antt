@@ -30,7 +30,11 @@ loop-less : tie.Need-loop-less Inv-loop μ-loop
 loop-less c = search needs
 
 loop-again : tie.Need-loop-again Inv-loop μ-loop
-loop-again c = (omega arith, c .before .before .loop .inv .1 ∙ zeros-turn (c .before .before .before .args .s .now) (c .before .before .loop .seen) (c .before .before .loop .i) (c .before .loop-test .taken))
+loop-again c = (
+  omega arith,
+  c .before .before .loop .inv .1
+      ∙ zeros-turn (c .before .before .before .args .s .now) (c .before .before .loop .seen) (c .before .before .loop .i) (c .before .loop-test .taken),
+)
 
 returns : tie.Need-returns Inv-loop μ-loop
 returns c =

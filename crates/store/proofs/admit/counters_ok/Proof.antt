@@ -13,11 +13,23 @@ returns-2 c = rw (not-false (c .before .before .args .recovered) (c .before .if1
 
 returns-3 : tie.Need-returns-3
 unfolding countersOk
-returns-3 c = rw (not-false (c .before .before .before .before .before .args .recovered) (c .before .before .before .before .if1 .left), le-leb _ _ (c .before .before .before .if2 .left), lt-leb _ _ (c .if3 .taken))
+returns-3 c =
+    rw (
+      not-false (c .before .before .before .before .before .args .recovered) (c .before .before .before .before .if1 .left),
+      le-leb _ _
+          (c .before .before .before .if2 .left),
+      lt-leb _ _ (c .if3 .taken),
+    )
 
 returns-4 : tie.Need-returns-4
 unfolding countersOk
-returns-4 c = rw (not-false (c .before .before .before .before .before .args .recovered) (c .before .before .before .before .if1 .left), le-leb _ _ (c .before .before .before .if2 .left), le-leb _ _ (c .if3 .left))
+returns-4 c =
+    rw (
+      not-false (c .before .before .before .before .before .args .recovered) (c .before .before .before .before .if1 .left),
+      le-leb _ _
+          (c .before .before .before .if2 .left),
+      le-leb _ _ (c .if3 .left),
+    )
 
 pub counters-ok-spec : {M : Type 1} → statement M
 counters-ok-spec = tie.close (tie.spec returns returns-2 returns-3 returns-4)

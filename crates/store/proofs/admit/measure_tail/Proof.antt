@@ -16,8 +16,17 @@ use Rattle.store.proofs.admit.measure_tail.Tie as tie
 read-log-requires : tie.Need-read-log-requires
 read-log-requires c κs = search needs
 
+rule-broken-requires : tie.Need-rule-broken-requires
+rule-broken-requires c κs = search needs
+
 returns : tie.Need-returns
-returns c = sym (other-csn _ _ _ (λ e. c .if1 .taken (ap (λ (l : LogEnd). l .csn .0) (c .before .before .before .read-log .ensures) ∙ e)))
+returns c =
+    let x = c .before .before .before .before in
+    let args = x .before .before .args in
+    c .rule-broken .ensures
+    ∙ sym
+    (other-csn (args .ondisk .0) (args .assigned .0) (args .tail .now)
+    (λ e. c .before .if1 .taken (ap (λ (l : LogEnd). l .csn .0) (x .read-log .ensures) ∙ e)))
 
 -- where the groups end
 ended : (c : tie.After-read-log) → let args = c .before .before .args in
@@ -49,26 +58,37 @@ rest c =
     ∙ ap allZero (from (args .tail .now) (c .before .before .before .before .before .read-log .result .end))
     ∙ ap (λ (k : ℕ). allZero (drop k (args .tail .now))) (ended (c .before .before .before .before .before))
 
+rule-broken-requires-2 : tie.Need-rule-broken-requires-2
+rule-broken-requires-2 c κs = search needs
+
 returns-2 : tie.Need-returns-2
 returns-2 c =
-    let args = c .before .before .before .before .before .before .before .before .args in
-    sym (other-rest (args .ondisk .0) (args .assigned .0) (args .tail .now) (sym (rest (c .before)) ∙ not-true _ (c .if2 .taken)))
+    let x = c .before .before in
+    let args = x .before .before .before .before .before .before .before .args in
+    c .rule-broken2 .ensures
+    ∙ sym (other-rest (args .ondisk .0) (args .assigned .0) (args .tail .now) (sym (rest x) ∙ not-true _ (c .before .if2 .taken)))
 
 returns-3 : tie.Need-returns-3
 returns-3 c =
-    let args = c .before .before .before .before .before .before .before .before .args in
-    ap (λ (n : ℕ). record { ok = true; room = n }) (ended (c .before .before .before .before .before .before))
-    ∙ sym (tail-right (args .ondisk .0) (args .assigned .0) (args .tail .now) (sym (ap (λ (l : LogEnd). l .csn .0) (c .before .before .before .before .before .before .read-log .ensures)) ∙ c .before .before .before .if1 .left) (sym (rest (c .before)) ∙ not-false _ (c .if2 .left)))
+    let x = c .before .before .before .before .before .before in
+    let args = x .before .before .args in
+    let csn = ap (λ (l : LogEnd). l .csn .0) (x .read-log .ensures) in
+    ap (λ (n : ℕ). record { ok = true; room = n }) (ended x)
+    ∙ sym
+    (tail-right (args .ondisk .0) (args .assigned .0) (args .tail .now) (sym csn ∙ c .before .before .before .if1 .left)
+    (sym (rest (c .before)) ∙ not-false _ (c .if2 .left)))
 
 pub measure-tail-spec : {M : Type 1} → statement M
 measure-tail-spec =
     tie.close
     (tie.spec
     read-log-requires
+    rule-broken-requires
     returns
     sub-all-zero
     part-all-zero-start
     part-all-zero-end
     all-zero-requires
+    rule-broken-requires-2
     returns-2
     returns-3)

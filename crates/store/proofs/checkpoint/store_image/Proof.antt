@@ -20,8 +20,11 @@ same-length c = search needs
 returns : tie.Need-returns
 returns c =
     let a = c .before .before .before .before .before .before .before .before .args in
-    let e = into-a-fresh (getD (a .disk .now) 0 0) (a .image .now) (c .before .before .before .before .if1 .taken) in
-    (c .before .before .store-at .ensures .0 ∙ ap (λ (ss : List Store). min (a .allowed) (length ss)) e, c .before .before .store-at .ensures .1 ∙ ap (λ (ss : List Store). apply (take (a .allowed) ss) (a .disk .now)) e)
+    let e = into-a-fresh (getD (a .disk .now) 0 0) (a .image .now) (c .before .before .before .before .if1 .taken) in (
+      c .before .before .store-at .ensures .0 ∙ ap (λ (ss : List Store). min (a .allowed) (length ss)) e,
+      c .before .before .store-at .ensures .1
+          ∙ ap (λ (ss : List Store). apply (take (a .allowed) ss) (a .disk .now)) e,
+    )
 
 store-at-requires-2 : tie.Need-store-at-requires-2
 store-at-requires-2 c κs = search needs
@@ -32,8 +35,12 @@ same-length-2 c = search needs
 returns-2 : tie.Need-returns-2
 returns-2 c =
     let a = c .before .before .before .before .before .before .before .before .before .args in
-    let e = into-a (getD (a .disk .now) 0 0) (a .image .now) (c .before .before .before .before .before .if1 .left) (c .before .before .before .before .if2 .taken) in
-    (c .before .before .store-at2 .ensures .0 ∙ ap (λ (ss : List Store). min (a .allowed) (length ss)) e, c .before .before .store-at2 .ensures .1 ∙ ap (λ (ss : List Store). apply (take (a .allowed) ss) (a .disk .now)) e)
+    let e = into-a (getD (a .disk .now) 0 0) (a .image .now) (c .before .before .before .before .before .if1 .left)
+    (c .before .before .before .before .if2 .taken) in (
+      c .before .before .store-at2 .ensures .0 ∙ ap (λ (ss : List Store). min (a .allowed) (length ss)) e,
+      c .before .before .store-at2 .ensures .1
+          ∙ ap (λ (ss : List Store). apply (take (a .allowed) ss) (a .disk .now)) e,
+    )
 
 store-at-requires-3 : tie.Need-store-at-requires-3
 store-at-requires-3 c κs = search needs
@@ -44,8 +51,12 @@ same-length-3 c = search needs
 returns-3 : tie.Need-returns-3
 returns-3 c =
     let a = c .before .before .before .before .before .before .before .before .before .args in
-    let e = into-b (getD (a .disk .now) 0 0) (a .image .now) (c .before .before .before .before .before .if1 .left) (c .before .before .before .before .if2 .left) in
-    (c .before .before .store-at3 .ensures .0 ∙ ap (λ (ss : List Store). min (a .allowed) (length ss)) e, c .before .before .store-at3 .ensures .1 ∙ ap (λ (ss : List Store). apply (take (a .allowed) ss) (a .disk .now)) e)
+    let e = into-b (getD (a .disk .now) 0 0) (a .image .now) (c .before .before .before .before .before .if1 .left)
+    (c .before .before .before .before .if2 .left) in (
+      c .before .before .store-at3 .ensures .0 ∙ ap (λ (ss : List Store). min (a .allowed) (length ss)) e,
+      c .before .before .store-at3 .ensures .1
+          ∙ ap (λ (ss : List Store). apply (take (a .allowed) ss) (a .disk .now)) e,
+    )
 
 pub store-image-spec : {M : Type 1} → statement M
 store-image-spec =

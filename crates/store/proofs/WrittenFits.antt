@@ -1,0 +1,101 @@
+-- Write keeps number 2: one more undo record and one more redo record, of the same range.
+use Prim.Native.Nat.{ℕ, _+_, _≤_, _<_}
+use native.Mathlib.Omega.{arith}
+use mathlib.Core.Bool.{Bool, true, false, not, _||_}
+use mathlib.Core.List.{List, [], _∷_, _++_}
+use mathlib.Core.Path.{_≡_, refl, sym, ap, _∙_, subst}
+use lib.ListN.{length, take, drop, length-drop}
+use lib.Seq.{length-take-le}
+use lib.Dec.{eqb, leb}
+use borrow.Author.Tests.{eq-eqb}
+use Rattle.log.specs.Record.{inRange}
+use Rattle.log.proofs.Basics.{and-right}
+use Rattle.transaction.specs.declared.Tx.{Tx}
+use Rattle.transaction.specs.Lists.{every}
+use Rattle.transaction.specs.View.{Range, range, rangeAt, rangesOf, Outline, outline, outlineOf}
+use Rattle.transaction.specs.Rules.{rangeOk, recordsOk, headOk, outlineOk, sameRanges, redoOk, rangesSize, roomOf}
+use Rattle.transaction.specs.Steps.{written}
+use Rattle.transaction.proofs.Lists.{length-up}
+use Rattle.transaction.proofs.Pushed.{pushed-ranges, one-more, ranges-self, size-snoc}
+use Rattle.store.specs.declared.State.{State}
+use Rattle.store.specs.State.{txAt, outlineAt, imageOf}
+use Rattle.image.specs.Rules.{alikeTo}
+use Rattle.image.proofs.Rules.{image-logend, image-ordered, image-count, head-at, undo-at}
+use Rattle.store.specs.Rules.{roomUsed}
+use Rattle.store.proofs.Fits.{Fit, redo-at}
+use Rattle.store.proofs.Calling.{Writable}
+use Rattle.store.proofs.Positions.{sum-changed}
+use Rattle.store.proofs.Stepping.{SizedTx, SizedState, written-slot}
+use Rattle.store.specs.Steps.{writtenState}
+use Rattle.store.proofs.Changing.{image-kept, apart, changed-outlines, changed-redo, changed-distinct}
+
+module _ (t : Tx) (a : ℕ) (old new : List ℕ) (z : SizedTx t) (cu : t .undo .count < 16) (cr : t .redo .count < 16) (l : length old ≡ length new) where
+  written-undo : rangesOf (written t a old new .undo) ≡ rangesOf (t .undo) ++ (range a (length new) ∷ [])
+  unfolding written
+  written-undo = pushed-ranges (t .undo) a old (z .undos) cu ∙ ap (λ (n : ℕ). rangesOf (t .undo) ++ (range a n ∷ [])) l
+
+  written-redo : rangesOf (written t a old new .redo) ≡ rangesOf (t .redo) ++ (range a (length new) ∷ [])
+  unfolding written
+  written-redo = pushed-ranges (t .redo) a new (z .redos) cr
+
+  written-outline : (last assigned : ℕ) → headOk last assigned (t .id .0) (t .status) (t .csn .0) ≡ true → recordsOk (rangesOf (t .undo)) ≡ true
+      → inRange a (length new) ≡ true
+      → outlineOk last assigned (outlineOf (written t a old new)) ≡ true
+  unfolding written
+  written-outline last assigned h e g =
+      let c : length (rangesOf (t .undo)) < 16 = omega (arith, length-up (rangeAt (t .undo)) (t .undo .count) 0, cu) in
+      let m = one-more (rangesOf (t .undo)) a (length new) c (and-right (leb (length (rangesOf (t .undo))) 16) (every rangeOk (rangesOf (t .undo))) e) g in
+      rw h (subst (λ (rs : List Range). recordsOk rs ≡ true) (sym written-undo) m)
+
+  written-redo-ok : rangesOf (t .undo) ≡ rangesOf (t .redo) → redoOk (written t a old new) ≡ true
+  written-redo-ok e =
+      let q : rangesOf (written t a old new .undo) ≡ rangesOf (written t a old new .redo) = written-undo
+      ∙ ap (λ (rs : List Range). rs ++ (range a (length new) ∷ [])) e ∙ sym written-redo in
+      go (not (eqb (written t a old new .status) 1))
+      (subst (λ (rs : List Range). sameRanges (rangesOf (written t a old new .undo)) rs ≡ true) q (ranges-self (rangesOf (written t a old new .undo))))
+    where
+      go : (b : Bool) {c : Bool} → c ≡ true → b || c ≡ true
+      go true e = refl
+      go false e = e
+
+  written-room : t .status ≡ 1 → roomOf (written t a old new) ≡ roomOf t + (7 + length new)
+  unfolding written
+  written-room e =
+      let w : rangesSize (rangesOf (written t a old new .redo)) ≡ rangesSize (rangesOf (t .redo)) + (7 + length new) = ap rangesSize written-redo
+      ∙ size-snoc (rangesOf (t .redo)) a (length new) in
+      rw (eq-eqb (t .status) 1 e) (omega (arith, w))
+
+  written-apart : (o : Outline) → (alikeTo o (outlineOf (written t a old new)) ≡ alikeTo o (outlineOf t))
+      × (alikeTo (outlineOf (written t a old new)) o ≡ alikeTo (outlineOf t) o)
+  unfolding written
+  written-apart (outline id status csn undo) = (refl, refl)
+
+pub written-fits : (s : State) (t : List ℕ) (j : ℕ) (m : List ℕ) (a : ℕ) (bs : List ℕ) → SizedState s → Fit s t → j < s .count → txAt s j .status ≡ 1
+    → length m ≡ 4096 → Writable s j a (length bs) → inRange a (length bs) ≡ true → roomUsed s t + (7 + length bs) ≤ 16384 → Fit (writtenState s j m a bs) t
+unfolding writtenState
+written-fits s t j m a bs z f h e lm w g room =
+    let r = writtenState s j m a bs in
+    let x = txAt s j in
+    let old = take (length bs) (drop a m) in
+    let u = written x a old bs in
+    let l : length old ≡ length bs = length-take-le (length bs) (drop a m) (rw length-drop (omega (arith, lm, w .within))) in
+    let y = z .each j h in
+    let few = image-count (imageOf s) (f .image) in
+    let c = written-slot s z j h few m a bs in
+    let same : (i : ℕ) → i < r .count → (i ≡ j → ⊥) → i < s .count = λ i p n. p in
+    let good = written-outline x a old bs y (w .undo) (w .redo) l (s .lastid .0) (s .assigned .0) (head-at (imageOf s) (f .image) j h)
+    (undo-at (imageOf s) (f .image) j h) g in
+    let d = changed-distinct s t f r u j c (omega arith) (omega arith) same good
+    (λ i p q. written-apart x a old bs y (w .undo) (w .redo) l (outlineAt s i) .0 ∙ apart s t f i j p h)
+    (λ i p q. written-apart x a old bs y (w .undo) (w .redo) l (outlineAt s i) .1 ∙ apart s t f j i p q) in
+    let sum = sum-changed roomOf (txAt s) (txAt r) j u c (s .count) 0 (omega arith) (omega (arith, h)) in
+    let more = written-room x a old bs y (w .undo) (w .redo) l e in
+    record {
+      recovered = f .recovered;
+      image =
+          image-kept r (image-logend (imageOf s) (f .image)) (image-ordered (imageOf s) (f .image)) few
+          (changed-outlines s t f r u j c (omega arith) (omega arith) same good) d;
+      room = omega (arith, sum, more, room);
+      redo = changed-redo s t f r u j c (omega arith) (omega arith) same good (written-redo-ok x a old bs y (w .undo) (w .redo) l (redo-at s t f j h e));
+      tail = f .tail;
+    }
