@@ -17,7 +17,7 @@ use Rattle.store.specs.Stored.{DiskOutcome}
 use Rattle.disk.specs.declared.call.Restarted.{Restarted}
 use Rattle.disk.specs.Layout.{logFrom}
 use Rattle.history.specs.Calls.{Call, begin, write, read, readAnswer, precommit, abort, flush, settle, checkpoint, restart, World, stepOf}
-use Rattle.history.specs.Demand.{Happening, called, powerFails, Watched, happen, happenAll, opening, Demand3}
+use Rattle.history.specs.Demand.{Happening, called, powerFails, Watched, happen, happenAll, opening, Survives, Demand3}
 use Rattle.history.proofs.OnDisk.{OnDisk, opens, fresh-shows, end-shown, memory-shown}
 use Rattle.history.proofs.Shows.{LiveOn, Beside, awake, rests, Shows, FollowsBy, refused-follows, read-refuses, answer-refuses, begin-idle, write-idle, precommit-idle, abort-idle, settle-idle, flush-idle, checkpoint-idle}
 use Rattle.history.proofs.MemorySteps.{begin-follows, write-follows, precommit-follows, abort-follows, settle-follows}
@@ -94,7 +94,7 @@ all-happen (h ∷ hs) k r = all-happen hs (happen h k) (happens h k r)
 
 -- ---- the claim
 
-claimed : (k : Watched) → Reached k → Demand3 (k .world .disk) (k .ledger)
+claimed : (k : Watched) → Reached k → Survives k
 claimed k r =
     let s = r .system in
     let disk = k .world .disk in
@@ -116,10 +116,9 @@ claimed k r =
       settled = c .settled;
     }
 
--- Demand 3: whatever happens to a store that opens with an all-zero disk, its disk and its ledger keep the claim.
-pub demand-3 : (hs : List Happening) (memory tail : List ℕ) → length memory ≡ 4096 → length tail ≡ 16384
-    → Demand3 (happenAll hs (opening memory tail) .world .disk) (happenAll hs (opening memory tail) .ledger)
-demand-3 hs memory tail lm lt =
-    claimed (happenAll hs (opening memory tail))
-    (all-happen hs (opening memory tail)
-    (record { system = down (openingDisk opens); run = opened; shows = (fresh-shows, rests (record { memory = lm; tail = lt; state = refl })) }))
+opening-reached : (memory tail : List ℕ) → length memory ≡ 4096 → length tail ≡ 16384 → Reached (opening memory tail)
+opening-reached memory tail lm lt =
+    record { system = down (openingDisk opens); run = opened; shows = (fresh-shows, rests (record { memory = lm; tail = lt; state = refl })) }
+
+pub demand-3 : Demand3
+demand-3 memory tail lm lt hs = claimed (happenAll hs (opening memory tail)) (all-happen hs (opening memory tail) (opening-reached memory tail lm lt))

@@ -1,4 +1,5 @@
--- Demand 3, "a single claim about the whole list": what may happen to a store, the ledger that is fed the calls, and what is then claimed.
+-- Demand 3, "a single claim about the whole list": what may happen to a store, the ledger that is fed the calls, and what is then claimed. The
+-- whole statement is `Demand3`, at the end.
 use Prim.Native.Nat.{ℕ, _-_, _≤_}
 use mathlib.Core.List.{List, [], _∷_, _++_, List·Memᴰ}
 use mathlib.Core.Path.{_≡_}
@@ -89,15 +90,20 @@ pub record Restarts (disk : List ℕ) (durable : List Commit) (memory tail : Lis
   -- after it the log, read from its first byte, has as its commits exactly the durable ones
   pub logged : commits (readLog 0 (logFrom 0 (restartOf disk memory tail allowed .disk))) ≡ durable
 
-pub record Demand3 (disk : List ℕ) (k : Ledger) : Type 0 where
+-- of a store and its ledger
+pub record Survives (k : Watched) : Type 0 where
   -- whatever memory and tail hold
-  pub restarts : (memory tail : List ℕ) (allowed : ℕ) → length memory ≡ 4096 → length tail ≡ 16384 → Enough allowed disk
-      → Restarts disk (k .durable) memory tail allowed
+  pub restarts : (memory tail : List ℕ) (allowed : ℕ) → length memory ≡ 4096 → length tail ≡ 16384 → Enough allowed (k .world .disk)
+      → Restarts (k .world .disk) (k .ledger .durable) memory tail allowed
   -- before it, too, the log's commits are exactly the durable ones (the kept), in order, with their ids, writes and numbers
-  pub logged : commits (readLog 0 (logFrom 0 disk)) ≡ k .durable
+  pub logged : commits (readLog 0 (logFrom 0 (k .world .disk))) ≡ k .ledger .durable
   -- "these being 1, 2, 3 and on"
-  pub numbered : Numbered 0 (k .durable)
+  pub numbered : Numbered 0 (k .ledger .durable)
   -- "The kept are the first so many in force"
-  pub first : (rest : List Commit) × (k .assigned ≡ k .durable ++ rest)
+  pub first : (rest : List Commit) × (k .ledger .assigned ≡ k .ledger .durable ++ rest)
   -- "each settled one is among them"
-  pub settled : All (λ c. List·Memᴰ c (k .durable)) (k .settled)
+  pub settled : All (λ c. List·Memᴰ c (k .ledger .durable)) (k .ledger .settled)
+
+-- Demand 3: whatever happens to a store that opens with an all-zero disk, and whatever memory and tail hold at first
+abbrev pub Demand3 : Type 0
+Demand3 = (memory tail : List ℕ) → length memory ≡ 4096 → length tail ≡ 16384 → (hs : List Happening) → Survives (happenAll hs (opening memory tail))
