@@ -2,11 +2,12 @@
 -- whole statement is `Demand3`, at the end.
 use Prim.Native.Nat.{ℕ, _-_, _≤_}
 use mathlib.Core.List.{List, [], _∷_, _++_, List·Memᴰ}
+use mathlib.Core.Option.{some}
 use mathlib.Core.Path.{_≡_}
 use lib.ListN.{length, replicate}
 use Rattle.recovery.specs.Group.{groupsSize}
 use Rattle.recovery.specs.Lists.{All}
-use Rattle.recovery.specs.Ledger.{Event, unchanged, begun, wrote, precommitted, rolledBack, flushed, settled, restarted, cut, Commit, Ledger, noLedger, enter}
+use Rattle.recovery.specs.Ledger.{Event, unchanged, begun, wrote, precommitted, rolledBack, flushed, settled, restarted, cut, Commit, Ledger, noLedger, committedIn, latest, enter}
 use Rattle.recovery.specs.Claim.{commits, layCommits, Numbered}
 use Rattle.log.specs.Log.{readLog}
 use Rattle.store.specs.declared.Answer.the-variants.{Done, Cut, Refused}
@@ -90,6 +91,12 @@ pub record Restarts (disk : List ℕ) (durable : List Commit) (memory tail : Lis
   -- after it the log, read from its first byte, has as its commits exactly the durable ones
   pub logged : commits (readLog 0 (logFrom 0 (restartOf disk memory tail allowed .disk))) ≡ durable
 
+-- "the latest booking of that id, kept or queued": there is one, and it is durable
+pub record LatestDurable (id : ℕ) (k : Ledger) : Type 0 where
+  pub commit : Commit
+  pub found : latest id (k .durable ++ committedIn (k .queue)) ≡ some commit
+  pub durable : List·Memᴰ commit (k .durable)
+
 -- of a store and its ledger
 pub record Survives (k : Watched) : Type 0 where
   -- whatever memory and tail hold
@@ -103,6 +110,8 @@ pub record Survives (k : Watched) : Type 0 where
   pub first : (rest : List Commit) × (k .ledger .assigned ≡ k .ledger .durable ++ rest)
   -- "each settled one is among them"
   pub settled : All (λ c. List·Memᴰ c (k .ledger .durable)) (k .ledger .settled)
+  -- A settle that is done finds its booking: of one made next, and so of every one in a list, which comes next after those before it
+  pub settles : (id : ℕ) → stepOf (settle id) (k .world) .reply ≡ told Done 0 0 → LatestDurable id (k .ledger)
 
 -- Demand 3: whatever happens to a store that opens with an all-zero disk, and whatever memory and tail hold at first
 abbrev pub Demand3 : Type 0
