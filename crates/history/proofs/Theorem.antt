@@ -131,13 +131,14 @@ claimed k r =
     let fits = room s (k .ledger) (r .run) in
     record {
       restarts = λ m t a lm lt h.
-          let e = restart-made disk (diskOf s) o n fits m t lm lt a (omega (arith, h, end-shown disk (diskOf s) o n fits, ap groupsSize (o .log))) in
+          let e = restart-made disk (diskOf s) o n fits m t lm lt a h in
           record {
             done = ap (λ (x : DiskOutcome Restarted). x .result .answer) e;
             restores = ap (λ (x : DiskOutcome Restarted). x .memory) e ∙ memory-shown disk (diskOf s) o n fits ∙ c .restores;
             logged = ap (λ (x : DiskOutcome Restarted). commits (readLog 0 (logFrom 0 (x .disk)))) e ∙ ap commits (log-left disk (diskOf s) o n fits a) ∙ c .logged;
           };
       logged = ap commits (o .log) ∙ c .logged;
+      ends = end-shown disk (diskOf s) o n fits ∙ ap groupsSize (sym (o .log));
       numbered = c .numbered;
       first = c .first;
       settled = c .settled;

@@ -1,6 +1,6 @@
 -- Demand 3, "a single claim about the whole list": what may happen to a store, the ledger that is fed the calls, and what is then claimed. The
 -- whole statement is `Demand3`, at the end.
-use Prim.Native.Nat.{ℕ, _-_, _≤_}
+use Prim.Native.Nat.{ℕ}
 use mathlib.Core.List.{List, [], _∷_, _++_, List·Memᴰ}
 use mathlib.Core.Option.{some}
 use mathlib.Core.Path.{_≡_}
@@ -13,7 +13,9 @@ use Rattle.log.specs.Log.{readLog}
 use Rattle.store.specs.declared.Answer.the-variants.{Done, Cut, Refused}
 use Rattle.store.specs.State.{unrecovered}
 use Rattle.disk.specs.Layout.{logFrom}
+use Rattle.disk.specs.Examine.{examineOf}
 use Rattle.disk.specs.Restart.{restartOf}
+use Rattle.disk.specs.Enough.{Enough}
 use Rattle.history.specs.Calls.{Call, begin, write, read, readAnswer, precommit, abort, flush, settle, checkpoint, restart, Reply, told, part, World, stepOf}
 
 -- ---- what the ledger is fed of a call
@@ -78,10 +80,6 @@ opening memory tail = record { world = record { disk = replicate 33691 0; memory
 
 -- ---- what is claimed
 
--- "stores enough": restart clears the log from its end on, byte by byte
-abbrev pub Enough : ℕ → List ℕ → Type 0
-Enough allowed disk = 16384 - groupsSize (readLog 0 (logFrom 0 disk)) ≤ allowed
-
 -- of one more restart
 pub record Restarts (disk : List ℕ) (durable : List Commit) (memory tail : List ℕ) (allowed : ℕ) : Type 0 where
   -- it isn't refused
@@ -104,6 +102,8 @@ pub record Survives (k : Watched) : Type 0 where
       → Restarts (k .world .disk) (k .ledger .durable) memory tail allowed
   -- before it, too, the log's commits are exactly the durable ones (the kept), in order, with their ids, writes and numbers
   pub logged : commits (readLog 0 (logFrom 0 (k .world .disk))) ≡ k .ledger .durable
+  -- the end that restart finds, from the image's place on, is that of the log read from its first byte
+  pub ends : examineOf (k .world .disk) .result .end ≡ groupsSize (readLog 0 (logFrom 0 (k .world .disk)))
   -- "these being 1, 2, 3 and on"
   pub numbered : Numbered 0 (k .ledger .durable)
   -- "The kept are the first so many in force"
