@@ -1,6 +1,5 @@
 -- Equal in meaning by cases, and that it is what document 01 says: restart, given stores enough, is done with both and leaves the same memory.
-use Prim.Native.Nat.{ℕ, _-_, _≤_}
-use native.Mathlib.Omega.{arith}
+use Prim.Native.Nat.{ℕ}
 use mathlib.Core.Bool.{Bool, true, false, _&&_}
 use mathlib.Core.List.{List}
 use mathlib.Core.Path.{_≡_, refl, sym, ap, _∙_}
@@ -11,6 +10,7 @@ use Rattle.log.proofs.Basics.{and-left, and-right}
 use Rattle.store.specs.Stored.{DiskOutcome}
 use Rattle.disk.specs.Examine.{examineOf}
 use Rattle.disk.specs.Restart.{restartOf}
+use Rattle.disk.specs.Enough.{Enough}
 use Rattle.disk.specs.Equal.{sameBytes, accepted, equalOf}
 use Rattle.disk.proofs.Bytes.{same-equal, same-self}
 use Rattle.disk.proofs.Restarting.{Done?, DoneWith, done-inv, done-with}
@@ -42,17 +42,17 @@ both a b p q = rw (p, q)
 
 -- ---- restart is done with the disks that are accepted, and with no other
 
-enough-for : (a memory tail : List ℕ) (allowed : ℕ) → accepted a ≡ true → length memory ≡ 4096 → length tail ≡ 16384 → 16384 ≤ allowed
+enough-for : (a memory tail : List ℕ) (allowed : ℕ) → accepted a ≡ true → length memory ≡ 4096 → length tail ≡ 16384 → Enough allowed a
     → DoneWith a memory tail allowed
 enough-for a memory tail allowed e m t h = record {
   disk-length = eqb-true (length a) 33691 (and-left (eqb (length a) 33691) (eqb (examineOf a .result .number) 0) e);
   memory-length = m;
   tail-length = t;
   number = eqb-true (examineOf a .result .number) 0 (and-right (eqb (length a) 33691) (eqb (examineOf a .result .number) 0) e);
-  enough = omega arith;
+  enough = h;
 }
 
--- "exactly if", with any memory and tail of the right lengths and any number of stores that is enough
+-- "exactly if", with any memory and tail of the right lengths and any number of stores that is enough; a restart that is done had enough
 module _ (a b m m' t t' : List ℕ) (n n' : ℕ) where
   pub equal-if : Done? (restartOf a m t n) → Done? (restartOf b m' t' n') → restartOf a m t n .memory ≡ restartOf b m' t' n' .memory
       → equalOf a b ≡ true
@@ -63,7 +63,7 @@ module _ (a b m m' t t' : List ℕ) (n n' : ℕ) where
       let g = ap (λ (o : DiskOutcome). o .memory) (done-with b m' t' n' y) in
       both a b (taken a (x .disk-length) (x .number)) (taken b (y .disk-length) (y .number)) ∙ ap (sameBytes (examineOf a .memory)) (sym g ∙ sym e ∙ f) ∙ same-self (examineOf a .memory)
 
-  pub equal-only : equalOf a b ≡ true → length m ≡ 4096 → length m' ≡ 4096 → length t ≡ 16384 → length t' ≡ 16384 → 16384 ≤ n → 16384 ≤ n'
+  pub equal-only : equalOf a b ≡ true → length m ≡ 4096 → length m' ≡ 4096 → length t ≡ 16384 → length t' ≡ 16384 → Enough n a → Enough n' b
       → Done? (restartOf a m t n) × Done? (restartOf b m' t' n') × (restartOf a m t n .memory ≡ restartOf b m' t' n' .memory)
   unfolding equalOf
   equal-only e lm lm' lt lt' h h' =

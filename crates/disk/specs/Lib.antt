@@ -1,5 +1,6 @@
--- The disk's layout, what a disk means, restart and equal in meaning.
+-- The disk's layout, what a disk means, restart, the stores it needs, and equal in meaning.
 pub mod Layout
 pub mod Examine
 pub mod Restart
+pub mod Enough
 pub mod Equal

@@ -6,18 +6,20 @@ use mathlib.Core.List.{List, [], _∷_, _++_}
 use mathlib.Core.Path.{_≡_, refl, sym, ap, _∙_}
 use lib.ListN.{length}
 use Rattle.recovery.specs.Group.{groupsSize, lastCsn}
-use Rattle.recovery.specs.Ledger.{Ledger}
-use Rattle.recovery.specs.Machine.{Disk, Live, System, down, up, diskOf, openingDisk, undoneBy, Run, opened, next}
+use Rattle.recovery.specs.Ledger.{Event, settled, Ledger, committedIn, latest}
+use Rattle.recovery.specs.Machine.{Disk, Live, System, down, up, diskOf, openingDisk, undoneBy, Step, stays, begins, writes, precommits, rollsBack, flushes, flushIsCut, settles, checkpoints, checkpointIsCut, restarts, restartIsCut, Run, opened, next}
 use Rattle.recovery.specs.Claim.{commits}
 use Rattle.recovery.proofs.Numbers.{Numbers, last-on-disk}
 use Rattle.recovery.proofs.Invariant.{Inv}
-use Rattle.recovery.proofs.Theorem.{holds, theorem}
+use Rattle.recovery.proofs.Theorem.{holds, theorem, settled-found}
 use Rattle.log.specs.Log.{readLog}
+use Rattle.log.proofs.Basics.{clash}
+use Rattle.store.specs.declared.Answer.the-variants.{Done}
 use Rattle.store.specs.Stored.{DiskOutcome}
 use Rattle.disk.specs.declared.call.Restarted.{Restarted}
 use Rattle.disk.specs.Layout.{logFrom}
-use Rattle.history.specs.Calls.{Call, begin, write, read, readAnswer, precommit, abort, flush, settle, checkpoint, restart, World, stepOf}
-use Rattle.history.specs.Demand.{Happening, called, powerFails, Watched, happen, happenAll, opening, Demand3}
+use Rattle.history.specs.Calls.{Call, begin, write, read, readAnswer, precommit, abort, flush, settle, checkpoint, restart, told, World, stepOf}
+use Rattle.history.specs.Demand.{eventOf, Happening, called, powerFails, Watched, happen, happenAll, opening, LatestDurable, Survives, Demand3}
 use Rattle.history.proofs.OnDisk.{OnDisk, opens, fresh-shows, end-shown, memory-shown}
 use Rattle.history.proofs.Shows.{LiveOn, Beside, awake, rests, Shows, FollowsBy, refused-follows, read-refuses, answer-refuses, begin-idle, write-idle, precommit-idle, abort-idle, settle-idle, flush-idle, checkpoint-idle}
 use Rattle.history.proofs.MemorySteps.{begin-follows, write-follows, precommit-follows, abort-follows, settle-follows}
@@ -92,9 +94,34 @@ all-happen : (hs : List Happening) (k : Watched) → Reached k → Reached (happ
 all-happen [] k r = r
 all-happen (h ∷ hs) k r = all-happen hs (happen h k) (happens h k r)
 
+-- ---- a settle that is done
+
+-- of the machine's steps settle's alone is told to the ledger as one, and it finds its booking there
+step-settles : (s t : System) (e : Event) (k : Ledger) (id : ℕ) → Run opens s k → Step opens s e t → e ≡ settled id → LatestDurable id k
+step-settles s t e k id r (settles d l x listed committing on-disk) q =
+    let f = settled-found opens d l k x r listed committing on-disk in
+    let i : x .id ≡ id = cc in
+    record { commit = f .0; found = ap (λ (j : ℕ). latest j (k .durable ++ committedIn (k .queue))) (sym i) ∙ f .1; durable = f .4 }
+step-settles s t e k id r (stays s′) q = clash (cc)
+step-settles s t e k id r (begins d l room) q = clash (cc)
+step-settles s t e k id r (writes d l x w listed run within free room) q = clash (cc)
+step-settles s t e k id r (precommits d l x listed run) q = clash (cc)
+step-settles s t e k id r (rollsBack d l x listed run) q = clash (cc)
+step-settles s t e k id r (flushes d l n allowed enough) q = clash (cc)
+step-settles s t e k id r (flushIsCut d l n allowed few) q = clash (cc)
+step-settles s t e k id r (checkpoints d l) q = clash (cc)
+step-settles s t e k id r (checkpointIsCut d l) q = clash (cc)
+step-settles s t e k id r (restarts s′ lastId image-ids group-ids) q = clash (cc)
+step-settles s t e k id r (restartIsCut s′) q = clash (cc)
+
+settle-found : (k : Watched) → Reached k → (id : ℕ) → stepOf (settle id) (k .world) .reply ≡ told Done 0 0 → LatestDurable id (k .ledger)
+settle-found k r id e =
+    let f = follows (settle id) (k .world) (r .system) (k .ledger) (r .run) (r .shows .0) (r .shows .1) in
+    step-settles (r .system) (f .next) _ (k .ledger) id (r .run) (f .step) (ap (eventOf (settle id)) e)
+
 -- ---- the claim
 
-claimed : (k : Watched) → Reached k → Demand3 (k .world .disk) (k .ledger)
+claimed : (k : Watched) → Reached k → Survives k
 claimed k r =
     let s = r .system in
     let disk = k .world .disk in
@@ -104,22 +131,23 @@ claimed k r =
     let fits = room s (k .ledger) (r .run) in
     record {
       restarts = λ m t a lm lt h.
-          let e = restart-made disk (diskOf s) o n fits m t lm lt a (omega (arith, h, end-shown disk (diskOf s) o n fits, ap groupsSize (o .log))) in
+          let e = restart-made disk (diskOf s) o n fits m t lm lt a h in
           record {
             done = ap (λ (x : DiskOutcome Restarted). x .result .answer) e;
             restores = ap (λ (x : DiskOutcome Restarted). x .memory) e ∙ memory-shown disk (diskOf s) o n fits ∙ c .restores;
             logged = ap (λ (x : DiskOutcome Restarted). commits (readLog 0 (logFrom 0 (x .disk)))) e ∙ ap commits (log-left disk (diskOf s) o n fits a) ∙ c .logged;
           };
       logged = ap commits (o .log) ∙ c .logged;
+      ends = end-shown disk (diskOf s) o n fits ∙ ap groupsSize (sym (o .log));
       numbered = c .numbered;
       first = c .first;
       settled = c .settled;
+      settles = settle-found k r;
     }
 
--- Demand 3: whatever happens to a store that opens with an all-zero disk, its disk and its ledger keep the claim.
-pub demand-3 : (hs : List Happening) (memory tail : List ℕ) → length memory ≡ 4096 → length tail ≡ 16384
-    → Demand3 (happenAll hs (opening memory tail) .world .disk) (happenAll hs (opening memory tail) .ledger)
-demand-3 hs memory tail lm lt =
-    claimed (happenAll hs (opening memory tail))
-    (all-happen hs (opening memory tail)
-    (record { system = down (openingDisk opens); run = opened; shows = (fresh-shows, rests (record { memory = lm; tail = lt; state = refl })) }))
+opening-reached : (memory tail : List ℕ) → length memory ≡ 4096 → length tail ≡ 16384 → Reached (opening memory tail)
+opening-reached memory tail lm lt =
+    record { system = down (openingDisk opens); run = opened; shows = (fresh-shows, rests (record { memory = lm; tail = lt; state = refl })) }
+
+pub demand-3 : Demand3
+demand-3 memory tail lm lt hs = claimed (happenAll hs (opening memory tail)) (all-happen hs (opening memory tail) (opening-reached memory tail lm lt))

@@ -1,17 +1,21 @@
--- Demand 3, "a single claim about the whole list": what may happen to a store, the ledger that is fed the calls, and what is then claimed.
-use Prim.Native.Nat.{ℕ, _-_, _≤_}
+-- Demand 3, "a single claim about the whole list": what may happen to a store, the ledger that is fed the calls, and what is then claimed. The
+-- whole statement is `Demand3`, at the end.
+use Prim.Native.Nat.{ℕ}
 use mathlib.Core.List.{List, [], _∷_, _++_, List·Memᴰ}
+use mathlib.Core.Option.{some}
 use mathlib.Core.Path.{_≡_}
 use lib.ListN.{length, replicate}
 use Rattle.recovery.specs.Group.{groupsSize}
 use Rattle.recovery.specs.Lists.{All}
-use Rattle.recovery.specs.Ledger.{Event, unchanged, begun, wrote, precommitted, rolledBack, flushed, settled, restarted, cut, Commit, Ledger, noLedger, enter}
+use Rattle.recovery.specs.Ledger.{Event, unchanged, begun, wrote, precommitted, rolledBack, flushed, settled, restarted, cut, Commit, Ledger, noLedger, committedIn, latest, enter}
 use Rattle.recovery.specs.Claim.{commits, layCommits, Numbered}
 use Rattle.log.specs.Log.{readLog}
 use Rattle.store.specs.Answer as words
 use Rattle.store.specs.State.{unrecovered}
 use Rattle.disk.specs.Layout.{logFrom}
+use Rattle.disk.specs.Examine.{examineOf}
 use Rattle.disk.specs.Restart.{restartOf}
+use Rattle.disk.specs.Enough.{Enough}
 use Rattle.history.specs.Calls.{Call, begin, write, read, readAnswer, precommit, abort, flush, settle, checkpoint, restart, Reply, told, part, World, stepOf}
 
 -- ---- what the ledger is fed of a call
@@ -76,10 +80,6 @@ opening memory tail = record { world = record { disk = replicate 33691 0; memory
 
 -- ---- what is claimed
 
--- "stores enough": restart clears the log from its end on, byte by byte
-abbrev pub Enough : ℕ → List ℕ → Type 0
-Enough allowed disk = 16384 - groupsSize (readLog 0 (logFrom 0 disk)) ≤ allowed
-
 -- of one more restart
 pub record Restarts (disk : List ℕ) (durable : List Commit) (memory tail : List ℕ) (allowed : ℕ) : Type 0 where
   -- it isn't refused
@@ -89,15 +89,30 @@ pub record Restarts (disk : List ℕ) (durable : List Commit) (memory tail : Lis
   -- after it the log, read from its first byte, has as its commits exactly the durable ones
   pub logged : commits (readLog 0 (logFrom 0 (restartOf disk memory tail allowed .disk))) ≡ durable
 
-pub record Demand3 (disk : List ℕ) (k : Ledger) : Type 0 where
+-- "the latest booking of that id, kept or queued": there is one, and it is durable
+pub record LatestDurable (id : ℕ) (k : Ledger) : Type 0 where
+  pub commit : Commit
+  pub found : latest id (k .durable ++ committedIn (k .queue)) ≡ some commit
+  pub durable : List·Memᴰ commit (k .durable)
+
+-- of a store and its ledger
+pub record Survives (k : Watched) : Type 0 where
   -- whatever memory and tail hold
-  pub restarts : (memory tail : List ℕ) (allowed : ℕ) → length memory ≡ 4096 → length tail ≡ 16384 → Enough allowed disk
-      → Restarts disk (k .durable) memory tail allowed
+  pub restarts : (memory tail : List ℕ) (allowed : ℕ) → length memory ≡ 4096 → length tail ≡ 16384 → Enough allowed (k .world .disk)
+      → Restarts (k .world .disk) (k .ledger .durable) memory tail allowed
   -- before it, too, the log's commits are exactly the durable ones (the kept), in order, with their ids, writes and numbers
-  pub logged : commits (readLog 0 (logFrom 0 disk)) ≡ k .durable
+  pub logged : commits (readLog 0 (logFrom 0 (k .world .disk))) ≡ k .ledger .durable
+  -- the end that restart finds, from the image's place on, is that of the log read from its first byte
+  pub ends : examineOf (k .world .disk) .result .end ≡ groupsSize (readLog 0 (logFrom 0 (k .world .disk)))
   -- "these being 1, 2, 3 and on"
-  pub numbered : Numbered 0 (k .durable)
+  pub numbered : Numbered 0 (k .ledger .durable)
   -- "The kept are the first so many in force"
-  pub first : (rest : List Commit) × (k .assigned ≡ k .durable ++ rest)
+  pub first : (rest : List Commit) × (k .ledger .assigned ≡ k .ledger .durable ++ rest)
   -- "each settled one is among them"
-  pub settled : All (λ c. List·Memᴰ c (k .durable)) (k .settled)
+  pub settled : All (λ c. List·Memᴰ c (k .ledger .durable)) (k .ledger .settled)
+  -- A settle that is done finds its booking: of one made next, and so of every one in a list, which comes next after those before it
+  pub settles : (id : ℕ) → stepOf (settle id) (k .world) .reply ≡ told Done 0 0 → LatestDurable id (k .ledger)
+
+-- Demand 3: whatever happens to a store that opens with an all-zero disk, and whatever memory and tail hold at first
+abbrev pub Demand3 : Type 0
+Demand3 = (memory tail : List ℕ) → length memory ≡ 4096 → length tail ≡ 16384 → (hs : List Happening) → Survives (happenAll hs (opening memory tail))

@@ -1,9 +1,11 @@
--- Worked images: M10's, one of a committing and a running transaction, and refusals.
-use mathlib.Core.Bool.{true, false}
-use mathlib.Core.List.{List, [], _∷_, _++_}
-use mathlib.Core.Option.{none, some}
+-- Worked images: M10's, one of a committing and a running transaction, refusals, and images at the limits of the rules.
+use Prim.Native.Nat.{ℕ, zero, suc, _-_}
+use mathlib.Core.Bool.{Bool, true, false, cond}
+use mathlib.Core.List.{List, [], _∷_, _++_, map}
+use mathlib.Core.Option.{Option, none, some}
 use mathlib.Core.Path.{_≡_, refl}
 use lib.ListN.{length, take, replicate}
+use Rattle.recovery.specs.Group.{Write}
 use Rattle.transaction.specs.Rules.{headOk}
 use Rattle.image.specs.Content.{Saved, saved, Content, contentOk}
 use Rattle.image.specs.Format.{encodeHead, encodeTxs, encodeContent, contentSize}
@@ -61,3 +63,57 @@ running-csn = refl
 past-memory : contentOk (with (saved 3 1 0 (record { addr = 4065; bytes = replicate 32 0 } ∷ []) ∷ [])) ≡ false
 unfolding headOk
 past-memory = refl
+
+-- ---- the limits: whether an image that is written so is read back, or refused
+
+pub record Limit : Type 0 where
+  pub content : Content
+  pub kept : Bool
+
+-- n transactions with the same undo records, ids from i on
+abbrev alike : ℕ → ℕ → List Write → List Saved
+alike zero i us = []
+alike (suc n) i us = saved i 1 0 us ∷ alike n (suc i) us
+
+abbrev crowded : ℕ → ℕ → List Write → Content
+crowded logend n us = record { logend = logend; ondisk = 1; assigned = 2; lastid = 9; txs = alike n 1 us }
+
+-- n undo records of so many bytes each
+abbrev undos : ℕ → ℕ → List Write
+undos n size = replicate n (record { addr = 4096 - size; bytes = replicate size 5 })
+
+-- 8 transactions of 16 undo records of 32 bytes each
+abbrev largest : Content
+largest = crowded 17 8 (undos 16 32)
+
+largest-size : contentSize largest ≡ 8653
+largest-size = refl
+
+abbrev limits : List Limit
+limits =
+    -- "at most 8 transactions"
+    record { content = crowded 17 8 []; kept = true }
+    ∷ record { content = crowded 17 9 []; kept = false }
+    -- "at most 16 undo records each"
+    ∷ record { content = crowded 17 1 (undos 16 1); kept = true }
+    ∷ record { content = crowded 17 1 (undos 17 1); kept = false }
+    -- "their ranges as for redo": "the length is 1 to 32"
+    ∷ record { content = crowded 17 1 (undos 1 32); kept = true }
+    ∷ record { content = crowded 17 1 (undos 1 33); kept = false }
+    ∷ record { content = crowded 17 1 (undos 1 0); kept = false }
+    -- "log end ≤ 16,384"
+    ∷ record { content = crowded 16384 0 []; kept = true }
+    ∷ record { content = crowded 16385 0 []; kept = false }
+    -- the largest image, of all the bytes that A or B has
+    ∷ record { content = largest; kept = true }
+    ∷ []
+
+abbrev readWritten : Limit → Option Content
+readWritten r = readImage (encodeContent (r .content) (replicate 4096 7))
+
+abbrev wanted : Limit → Option Content
+wanted r = cond (r .kept) (some (r .content)) none
+
+at-the-limits : map readWritten limits ≡ map wanted limits
+unfolding headOk undoHere readTx readContent
+at-the-limits = refl
