@@ -29,7 +29,7 @@ use Rattle.image.proofs.Sizes.{length-content}
 use Rattle.restart.proofs.Undos.{aborts-length}
 use Rattle.restart.proofs.Recovery.{undoneBy, undone-few, tail-is}
 use Rattle.store.specs.declared.State.{State}
-use Rattle.store.specs.declared.Answer.the-variants.{Done, Cut, Refused}
+use Rattle.store.specs.Answer.{done as Done, cut as Cut, refused as Refused}
 use Rattle.store.specs.State.{imageOf, txsOf, slotOf, unrecovered}
 use Rattle.store.specs.Rules.{tailLength, roomUsed}
 use Rattle.store.specs.Numbers.{txOf, beginChecks, writeChecks, readChecks, precommitChecks, abortChecks, settleChecks}
@@ -48,7 +48,7 @@ use Rattle.disk.proofs.Examining.{roomy}
 use Rattle.disk.proofs.Accepted.{imageIn, memoryIn, logIn, Accepted, accepted-is, memory-length}
 use Rattle.disk.proofs.Restarting.{restart-cut, restart-done}
 use Rattle.disk.proofs.Again.{cleared}
-use Rattle.history.specs.Calls.{Call, begin, write, read, readAnswer, precommit, abort, flush, settle, checkpoint, restart, Reply, told, part, World, Stepped, begun, returned, changed, precommitted, stored, restarted, stepOf, Ran, andRan, runOf}
+use Rattle.history.specs.Calls.{Call, begin, write, read, readAnswer, precommit, abort, flush, settle, checkpoint, restart, Reply, told, part, World, Stepped, returned, changed, stored, stepOf, Ran, andRan, runOf}
 use Rattle.history.proofs.Padded.{padded, padded-length, padded-log, numberOf, shared-number, disk-number, padded-append, padded-shifted, padded-front}
 
 -- a world whose tail's zeros are left out
@@ -234,7 +234,7 @@ module _ (d m bs : List ℕ) (s : State) (l : Lengths d m bs) where
   begin-right =
       let n = numberOf s bs (beginChecks (s .count) (s .lastid .0) (roomUsed s bs)) in
       let e : beginNumber s m t ≡ n = rw room (shared-number s m bs (beginChecks (s .count) (s .lastid .0) (roomUsed s bs)) (l .memory) (l .tail)) in
-      decide (begun w _) n _ _ (λ z. (ap (begun w) (begin-done s m t (e ∙ z)), l)) (λ h. (ap (begun w) (begin-refused s m t n e h), l))
+      decide (returned w _) n _ _ (λ z. (ap (returned w) (begin-done s m t (e ∙ z)), l)) (λ h. (ap (returned w) (begin-refused s m t n e h), l))
 
   write-right : (id a : ℕ) (new : List ℕ) → Right (stepOf (write id a new) w) (writeQuick d m bs s id a new)
   unfolding stepOf
@@ -291,13 +291,13 @@ module _ (d m bs : List ℕ) (s : State) (l : Lengths d m bs) where
       let n = numberOf s bs (precommitChecks s id) in
       let e = shared-number s m bs (precommitChecks s id) (l .memory) (l .tail) in
       let g = committed id (s .assigned .0 + 1) (writesOf (txOf s id .redo)) in
-      decide (precommitted w _) n _ _
-      (λ z. tested (precommitted w _) (follows s bs (encodeGroup g)) _ (λ f. (
-        ap (precommitted w) (precommit-done s m t (record { 0 = id }) (e ∙ z))
+      decide (changed w _) n _ _
+      (λ z. tested (changed w _) (follows s bs (encodeGroup g)) _ (λ f. (
+        ap (changed w) (precommit-done s m t (record { 0 = id }) (e ∙ z))
             ∙ ap (λ (x : List ℕ). record { reply = told Done (s .assigned .0 + 1) 0; world = record { disk = d; memory = m; tail = x; state = precommittedState s (slotOf s id) } }) (tail-appended g f),
         grown g f m (l .memory),
       )))
-      (λ h. (ap (precommitted w) (precommit-refused s m t (record { 0 = id }) n e h), l))
+      (λ h. (ap (changed w) (precommit-refused s m t (record { 0 = id }) n e h), l))
 
   abort-right : (id : ℕ) → Right (stepOf (abort id) w) (abortQuick d m bs s id)
   unfolding stepOf
@@ -437,18 +437,18 @@ module _ (d m bs : List ℕ) (s : State) (l : Lengths d m bs) where
       let i : apply (take a (clearing (r .end))) d ≡ left = cleared a (r .end) d (l .disk) (omega arith) in
       let ll : length left ≡ 33691 = ap length (sym i) ∙ length-apply (take a (clearing (r .end))) d ∙ l .disk in
       let c = length-clears (17307 + r .end) need in
-      tested (restarted x) (eqb (r .number) 0) _ (λ f.
+      tested (stored x) (eqb (r .number) 0) _ (λ f.
       let number = eqb-true (r .number) 0 f in
-      enough (restarted x) a need _ _
+      enough (stored x) a need _ _
       (λ h.
       let j : min a (length (clearing (r .end))) ≡ a = omega (arith, c, h) in (
-        ap restarted (restart-cut d m t a (l .disk) (l .memory) (padded-length bs (l .tail)) number h)
+        ap stored (restart-cut d m t a (l .disk) (l .memory) (padded-length bs (l .tail)) number h)
             ∙ ap₂ (λ (k : ℕ) (y : List ℕ). record { reply = told Cut 0 k; world = record { disk = y; memory = replicate 4096 0; tail = replicate 16384 0; state = unrecovered } }) j i,
         zero-lengths left ll,
       ))
       (λ h.
       let j : min a (length (clearing (r .end))) ≡ need = omega (arith, c, h) in (
-        ap restarted (restart-done d m t a (l .disk) (l .memory) (padded-length bs (l .tail)) number h)
+        ap stored (restart-done d m t a (l .disk) (l .memory) (padded-length bs (l .tail)) number h)
             ∙ ap₂ (λ (k : ℕ) (y : List ℕ). record { reply = told Done (r .undone) k; world = record { disk = y; memory = examineOf d .memory; tail = examineOf d .tail; state = recoveredState (r .end) (r .csn) (r .last) } }) j i
             ∙ ap (λ (y : List ℕ). record { reply = told Done (r .undone) need; world = record { disk = left; memory = examineOf d .memory; tail = y; state = recoveredState (r .end) (r .csn) (r .last) } }) (restart-tail number),
         record { disk = ll; memory = memory-length d (l .disk) (accepted number); tail = undone-short number },

@@ -14,9 +14,8 @@ use Rattle.recovery.proofs.Invariant.{Inv}
 use Rattle.recovery.proofs.Theorem.{holds, theorem, settled-found}
 use Rattle.log.specs.Log.{readLog}
 use Rattle.log.proofs.Basics.{clash}
-use Rattle.store.specs.declared.Answer.the-variants.{Done}
+use Rattle.store.specs.Answer.{done as Done}
 use Rattle.store.specs.Stored.{DiskOutcome}
-use Rattle.disk.specs.declared.call.Restarted.{Restarted}
 use Rattle.disk.specs.Layout.{logFrom}
 use Rattle.history.specs.Calls.{Call, begin, write, read, readAnswer, precommit, abort, flush, settle, checkpoint, restart, told, World, stepOf}
 use Rattle.history.specs.Demand.{eventOf, Happening, called, powerFails, Watched, happen, happenAll, opening, LatestDurable, Survives, Demand3}
@@ -133,9 +132,9 @@ claimed k r =
       restarts = λ m t a lm lt h.
           let e = restart-made disk (diskOf s) o n fits m t lm lt a h in
           record {
-            done = ap (λ (x : DiskOutcome Restarted). x .result .answer) e;
-            restores = ap (λ (x : DiskOutcome Restarted). x .memory) e ∙ memory-shown disk (diskOf s) o n fits ∙ c .restores;
-            logged = ap (λ (x : DiskOutcome Restarted). commits (readLog 0 (logFrom 0 (x .disk)))) e ∙ ap commits (log-left disk (diskOf s) o n fits a) ∙ c .logged;
+            done = ap (λ (x : DiskOutcome). x .result .says) e;
+            restores = ap (λ (x : DiskOutcome). x .memory) e ∙ memory-shown disk (diskOf s) o n fits ∙ c .restores;
+            logged = ap (λ (x : DiskOutcome). commits (readLog 0 (logFrom 0 (x .disk)))) e ∙ ap commits (log-left disk (diskOf s) o n fits a) ∙ c .logged;
           };
       logged = ap commits (o .log) ∙ c .logged;
       ends = end-shown disk (diskOf s) o n fits ∙ ap groupsSize (sym (o .log));

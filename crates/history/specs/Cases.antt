@@ -4,7 +4,7 @@ use Prim.Native.Nat.{ℕ, zero, suc}
 use mathlib.Core.List.{List, [], _∷_, _++_, map}
 use mathlib.Core.Path.{_≡_}
 use lib.ListN.{getD, take, drop, replicate}
-use Rattle.store.specs.declared.Answer.the-variants.{Done, Cut, Refused}
+use Rattle.store.specs.Answer.{done as Done, cut as Cut, refused as Refused}
 use Rattle.history.specs.Calls.{Call, begin, write, precommit, abort, flush, settle, checkpoint, restart, Reply, told, World, fresh, Ran, runOf}
 
 -- what is told, call by call, and what is looked at in the end

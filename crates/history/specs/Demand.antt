@@ -111,7 +111,7 @@ pub record Survives (k : Watched) : Type 0 where
   -- "each settled one is among them"
   pub settled : All (λ c. List·Memᴰ c (k .ledger .durable)) (k .ledger .settled)
   -- A settle that is done finds its booking: of one made next, and so of every one in a list, which comes next after those before it
-  pub settles : (id : ℕ) → stepOf (settle id) (k .world) .reply ≡ told Done 0 0 → LatestDurable id (k .ledger)
+  pub settles : (id : ℕ) → stepOf (settle id) (k .world) .reply ≡ told words.done 0 0 → LatestDurable id (k .ledger)
 
 -- Demand 3: whatever happens to a store that opens with an all-zero disk, and whatever memory and tail hold at first
 abbrev pub Demand3 : Type 0

@@ -4,7 +4,7 @@ use native.Mathlib.Omega.{arith}
 use mathlib.Core.Bool.{Bool, true, false}
 use mathlib.Core.List.{List, [], _∷_}
 use mathlib.Core.Logic.{⊎-elim}
-use mathlib.Core.Path.{_≡_, refl, sym, ap, _∙_, subst}
+use mathlib.Core.Path.{_≡_, refl, ap, _∙_}
 use lib.ListN.{length, replicate, length-replicate}
 use lib.Dec.{eqb}
 use borrow.Author.Tests.{eqb-true, eqb-false}
@@ -13,13 +13,14 @@ use denote.Enum.Declared.{tagOf}
 use Rattle.log.proofs.Basics.{clash}
 use Rattle.store.proofs.Answer.{the-type}
 use Rattle.store.specs.declared.Answer.{Answer}
-use Rattle.store.specs.declared.Answer.the-variants.{Done, Refused}
-use Rattle.store.specs.Answer.{cut, answer}
+use Rattle.store.specs.declared.Answer.the-variants.{Done, Cut, Refused}
+use Rattle.store.specs.Answer.{cut, word, Told}
+use Rattle.store.specs.Answer as words
 use Rattle.store.specs.Stored.{DiskOutcome}
 use Rattle.disk.specs.declared.call.Restarted.{Restarted}
 use Rattle.disk.specs.Layout.{pointerOf}
 use Rattle.disk.specs.Examine.{examineOf}
-use Rattle.disk.specs.Restart.{refusedRestart}
+use Rattle.disk.specs.Restart.{ofRestarted, refusedRestart}
 use Rattle.disk.proofs.Examining.{roomy}
 use Rattle.disk.proofs.Restarting.{doneFrom, restart-1, restart-refused, restart-done}
 use Rattle.listing.specs.Text.{foundText, refusedText}
@@ -35,8 +36,8 @@ memory = replicate 4096 0
 abbrev tail : List ℕ
 tail = replicate 16384 0
 
-result : {x y : DiskOutcome Restarted} → x ≡ y → x .result ≡ y .result
-result e = ap (λ (o : DiskOutcome Restarted). o .result) e
+result : {x y : DiskOutcome} → x ≡ y → x .result ≡ y .result
+result e = ap (λ (o : DiskOutcome). o .result) e
 
 pub ending : (disk : List ℕ) → Ending disk
 ending disk = go (eqb (length disk) 33691) (eqb (examineOf disk .result .number) 0) refl refl
@@ -52,40 +53,34 @@ ending disk = go (eqb (length disk) 33691) (eqb (examineOf disk .result .number)
     go true false p q = refused _ (result (restart-refused disk memory tail 16384 (eqb-true (length disk) 33691 p) m t (eqb-false (examineOf disk .result .number) 0 q)))
     go true true p q = done (restart-done disk memory tail 16384 (eqb-true (length disk) 33691 p) m t (eqb-true (examineOf disk .result .number) 0 q) (omega arith))
 
-refused-answer : (n : ℕ) → refusedRestart n .answer ≡ Refused n
-unfolding refusedRestart
-refused-answer n = refl
-
 -- 16,384 stores are enough for any disk
-pub uncut : (disk : List ℕ) → restartWhole disk .result .answer ≡ answer cut → ⊥
+pub uncut : (disk : List ℕ) → restartWhole disk .result .says ≡ cut → ⊥
 uncut disk c = go (ending disk)
   where
     go : Ending disk → ⊥
-    go (refused n e) = clash (cc (refused-answer n, ap (λ (r : Restarted). r .answer) e))
-    go (done e) = clash (cc (ap (λ (o : DiskOutcome Restarted). o .result .answer) e))
-
-refused-none : (n : ℕ) → refusedRestart n .undone ≡ 0
-unfolding refusedRestart
-refused-none n = refl
+    go (refused n e) = clash (cc (ap (λ (r : Told). r .says) e))
+    go (done e) = clash (cc (ap (λ (o : DiskOutcome). o .result .says) e))
 
 -- by log room, since each takes 4 bytes
-pub few-undone : (disk : List ℕ) → restartWhole disk .result .undone ≤ 4096
+pub few-undone : (disk : List ℕ) → restartWhole disk .result .value ≤ 4096
 few-undone disk = go (ending disk)
   where
-    go : Ending disk → restartWhole disk .result .undone ≤ 4096
-    go (refused n e) = omega (arith, ap (λ (r : Restarted). r .undone) e, refused-none n)
-    go (done e) = omega (arith, ap (λ (o : DiskOutcome Restarted). o .result .undone) e, roomy disk)
+    go : Ending disk → restartWhole disk .result .value ≤ 4096
+    go (refused n e) = omega (arith, ap (λ (r : Told). r .value) e)
+    go (done e) = omega (arith, ap (λ (o : DiskOutcome). o .result .value) e, roomy disk)
 
 -- ---- the text by cases
 
 -- an answer whose tag the code found to be that of another case
-refused-tag : (n : ℕ) (a : Answer) → a ≡ Refused n → OneOf (0 ∷ 1 ∷ []) (tagOf the-type a) → ⊥
-refused-tag n a e k = other (subst (λ (x : Answer). OneOf (0 ∷ 1 ∷ []) (tagOf the-type x)) e k)
+refused-tag : (n : ℕ) (a : Answer) → word a ≡ words.refused n → OneOf (0 ∷ 1 ∷ []) (tagOf the-type a) → ⊥
+refused-tag n Done e k = clash (cc)
+refused-tag n Cut e k = clash (cc)
+refused-tag n (Refused m) e k = other k
   where
     other : OneOf (0 ∷ 1 ∷ []) 2 → ⊥
     other = ⊎-elim (λ z. omega arith) (λ z. omega arith)
 
-module _ (disk : List ℕ) (r : Restarted) (e : r ≡ restartWhole disk .result) where
+module _ (disk : List ℕ) (r : Restarted) (e : ofRestarted r ≡ restartWhole disk .result) where
   pub listing-refused : (n : ℕ) → r .answer ≡ Refused n → listingOf disk ≡ refusedText n
   unfolding listingOf
   listing-refused n a = rw (← e, a)
@@ -93,7 +88,7 @@ module _ (disk : List ℕ) (r : Restarted) (e : r ≡ restartWhole disk .result)
   abbrev Found : ℕ → Type 0
   Found pointer = listingOf disk ≡ foundText pointer (r .state .logend) (r .state .ondisk .0) (r .state .lastid .0) (r .undone)
 
-  listing-done : (pointer : ℕ) → pointer ≡ pointerOf disk → r .answer ≡ Done → Found pointer
+  listing-done : (pointer : ℕ) → pointer ≡ pointerOf disk → word (r .answer) ≡ words.done → Found pointer
   unfolding listingOf
   listing-done pointer p a = rw (← e, a, p)
 
@@ -101,5 +96,5 @@ module _ (disk : List ℕ) (r : Restarted) (e : r ≡ restartWhole disk .result)
   listing-found pointer p k = go (ending disk)
     where
       go : Ending disk → Found pointer
-      go (refused n x) = absurd (refused-tag n (r .answer) (ap (λ (y : Restarted). y .answer) (e ∙ x) ∙ refused-answer n) k)
-      go (done x) = listing-done pointer p (ap (λ (y : Restarted). y .answer) e ∙ ap (λ (o : DiskOutcome Restarted). o .result .answer) x)
+      go (refused n x) = absurd (refused-tag n (r .answer) (ap (λ (y : Told). y .says) (e ∙ x)) k)
+      go (done x) = listing-done pointer p (ap (λ (y : Told). y .says) e ∙ ap (λ (o : DiskOutcome). o .result .says) x)

@@ -3,27 +3,25 @@ use Prim.Native.Nat.{ℕ, _-_, _≤_}
 use mathlib.Core.List.{List, [], _++_}
 use mathlib.Core.Path.{_≡_}
 use lib.ListN.{length, take, replicate}
-use Rattle.store.specs.declared.Answer.{Answer}
-use Rattle.store.specs.declared.Answer.the-variants.{Done, Cut, Refused}
+use Rattle.store.specs.Answer.{Word, done, cut, refused, Told}
 use Rattle.store.specs.Stored.{DiskOutcome}
-use Rattle.disk.specs.declared.call.Restarted.{Restarted}
 use Rattle.disk.specs.Layout.{pointerOf}
 use Rattle.disk.specs.Restart.{restartOf}
 use Rattle.listing.specs.Text.{foundText, refusedText}
 
 -- the log has 16,384 bytes, so no restart needs more stores
-abbrev pub restartWhole : List ℕ → DiskOutcome Restarted
+abbrev pub restartWhole : List ℕ → DiskOutcome
 restartWhole disk = restartOf disk (replicate 4096 0) (replicate 16384 0) 16384
 
 -- it is never cut: `uncut` (proofs/Endings.antt)
-abbrev pub textOf : ℕ → Restarted → Answer → List ℕ
-textOf pointer r Done = foundText pointer (r .state .logend) (r .state .ondisk .0) (r .state .lastid .0) (r .undone)
-textOf pointer r Cut = []
-textOf pointer r (Refused n) = refusedText n
+abbrev pub textOf : ℕ → Told → Word → List ℕ
+textOf pointer r done = foundText pointer (r .state .logend) (r .state .ondisk .0) (r .state .lastid .0) (r .value)
+textOf pointer r cut = []
+textOf pointer r (refused n) = refusedText n
 
 -- a wrong length is restart's number 1
 unfoldable pub listingOf : List ℕ → List ℕ
-listingOf disk = textOf (pointerOf disk) (restartWhole disk .result) (restartWhole disk .result .answer)
+listingOf disk = textOf (pointerOf disk) (restartWhole disk .result) (restartWhole disk .result .says)
 
 -- a text at the front of 64 bytes, zeros after it
 abbrev pub padded : List ℕ → List ℕ

@@ -4,7 +4,7 @@ use mathlib.Core.List.{List}
 use mathlib.Core.Path.{_≡_, sym, ap, _∙_, subst}
 use lib.ListN.{length, replicate, length-replicate}
 use borrow.Author.Needs.{needs}
-use Rattle.disk.specs.declared.call.Restarted.{Restarted}
+use Rattle.store.specs.Answer.{Told}
 use Rattle.listing.specs.Text.{refusedText}
 use Rattle.listing.specs.Listing.{Listed}
 use Rattle.listing.proofs.Putting.{Short, lines-short, found-short, refused-short, put-front}
@@ -67,7 +67,7 @@ returns c =
     (listed (sym e) (put-front (zeros (c .before .before .before .before .before .before)) (refused-short n (byte (c .before .before .before))) (c .put-line .ensures)), x .ensures .1 .0)
 
 few : (c : tie.After-restart) → c .restart .result .undone ≤ 4096
-few c = omega (arith, few-undone (c .before .before .before .before .before .before .before .args .disk .now), ap (λ (r : Restarted). r .undone) (c .restart .ensures .0))
+few c = omega (arith, few-undone (c .before .before .before .before .before .before .before .args .disk .now), ap (λ (r : Told). r .value) (c .restart .ensures .0))
 
 short : (c : tie.After-restart)
     → let r = c .restart .result in Short (c .before .before .before .before .pointer-of .result) (r .state .logend) (r .state .ondisk .0) (r .state .lastid .0) (r .undone)
