@@ -7,7 +7,8 @@ use mathlib.Core.Path.{_≡_, refl, sym, ap, _∙_}
 use lib.ListN.{length}
 use Rattle.recovery.specs.Group.{groupsSize, lastCsn}
 use Rattle.recovery.specs.Ledger.{Event, settled, Ledger, committedIn, latest}
-use Rattle.recovery.specs.Machine.{Disk, Live, System, down, up, diskOf, openingDisk, undoneBy, Step, stays, begins, writes, precommits, rollsBack, flushes, flushIsCut, settles, checkpoints, checkpointIsCut, restarts, restartIsCut, Run, opened, next}
+use Rattle.recovery.specs.Machine.{Disk, Live, System, down, up, diskOf, openingDisk, undoneBy, Step, stays, begins, writes, precommits, rollsBack}
+use Rattle.recovery.specs.Machine.{flushes, flushIsCut, settles, checkpoints, checkpointIsCut, restarts, restartIsCut, Run, opened, next}
 use Rattle.recovery.specs.Claim.{commits}
 use Rattle.recovery.proofs.Numbers.{Numbers, last-on-disk}
 use Rattle.recovery.proofs.Invariant.{Inv}
@@ -21,7 +22,8 @@ use Rattle.disk.specs.Layout.{logFrom}
 use Rattle.history.specs.Calls.{Call, begin, write, read, readAnswer, precommit, abort, flush, settle, checkpoint, restart, told, World, stepOf}
 use Rattle.history.specs.Demand.{eventOf, Happening, called, powerFails, Watched, happen, happenAll, opening, LatestDurable, Survives, Demand3}
 use Rattle.history.proofs.OnDisk.{OnDisk, opens, fresh-shows, end-shown, memory-shown}
-use Rattle.history.proofs.Shows.{LiveOn, Beside, awake, rests, Shows, FollowsBy, refused-follows, read-refuses, answer-refuses, begin-idle, write-idle, precommit-idle, abort-idle, settle-idle, flush-idle, checkpoint-idle}
+use Rattle.history.proofs.Shows.{LiveOn, Beside, awake, rests, Shows, FollowsBy, refused-follows, read-refuses, answer-refuses}
+use Rattle.history.proofs.Shows.{begin-idle, write-idle, precommit-idle, abort-idle, settle-idle, flush-idle, checkpoint-idle}
 use Rattle.history.proofs.MemorySteps.{begin-follows, write-follows, precommit-follows, abort-follows, settle-follows}
 use Rattle.history.proofs.FlushSteps.{flush-follows}
 use Rattle.history.proofs.CheckpointSteps.{checkpoint-follows}
@@ -135,7 +137,10 @@ claimed k r =
           record {
             done = ap (λ (x : DiskOutcome Restarted). x .result .answer) e;
             restores = ap (λ (x : DiskOutcome Restarted). x .memory) e ∙ memory-shown disk (diskOf s) o n fits ∙ c .restores;
-            logged = ap (λ (x : DiskOutcome Restarted). commits (readLog 0 (logFrom 0 (x .disk)))) e ∙ ap commits (log-left disk (diskOf s) o n fits a) ∙ c .logged;
+            logged =
+                ap (λ (x : DiskOutcome Restarted). commits (readLog 0 (logFrom 0 (x .disk)))) e
+                ∙ ap commits (log-left disk (diskOf s) o n fits a)
+                ∙ c .logged;
           };
       logged = ap commits (o .log) ∙ c .logged;
       ends = end-shown disk (diskOf s) o n fits ∙ ap groupsSize (sym (o .log));

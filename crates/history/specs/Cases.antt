@@ -1,11 +1,20 @@
--- Document 01, "Worked at the bench": M1 to M10 as one table over the definitions that the contracts cite. That each row holds is `worked`
--- (proofs/Cases.antt), one proof over the table, by computation.
+-- Document 01, "Worked at the bench": M1 to M10 and disklist's text as one table over the definitions that the contracts cite. That each row
+-- holds is `worked` (proofs/Cases.antt), one proof over the table, by computation.
 use Prim.Native.Nat.{ℕ, zero, suc}
-use mathlib.Core.List.{List, [], _∷_, _++_, map}
+use mathlib.Core.List.{List, [], _∷_, _++_, map, reverse}
 use mathlib.Core.Path.{_≡_}
 use lib.ListN.{getD, take, drop, replicate}
+use Rattle.recovery.specs.Transaction.{Tx}
+use Rattle.recovery.specs.Replay.{undoAll, undoEach, layBytes}
+use Rattle.recovery.specs.Restart.{undoOf, undoOrder}
+use Rattle.restart.specs.Slots.{txsOf}
 use Rattle.store.specs.declared.Answer.the-variants.{Done, Cut, Refused}
-use Rattle.history.specs.Calls.{Call, begin, write, precommit, abort, flush, settle, checkpoint, restart, Reply, told, World, fresh, Ran, runOf}
+use Rattle.disk.specs.Layout.{pointerOf}
+use Rattle.disk.specs.Examine.{Loaded, loadOf}
+use Rattle.listing.specs.Text.{ascii}
+use Rattle.listing.specs.Listing.{listingOf}
+use Rattle.history.specs.Calls.{Call, begin, write, read, readAnswer, precommit, abort, flush, settle, checkpoint, restart}
+use Rattle.history.specs.Calls.{Reply, told, part, World, fresh, Ran, runOf}
 
 -- what is told, call by call, and what is looked at in the end
 pub record Shown : Type 0 where
@@ -29,12 +38,39 @@ logFront n w = take n (drop 17307 (w .disk))
 abbrev pub endOfLog : World → List ℕ
 endOfLog w = w .state .logend ∷ []
 
-abbrev pub byteAt : ℕ → World → List ℕ
-byteAt a w = getD (w .memory) a 0 ∷ []
+abbrev pub byteIn : (World → List ℕ) → ℕ → World → List ℕ
+byteIn memory a w = getD (memory w) a 0 ∷ []
 
--- the byte, and the abort records of those undone
-abbrev pub byteAndTail : ℕ → World → List ℕ
-byteAndTail a w = getD (w .memory) a 0 ∷ take 12 (w .tail)
+abbrev pub byteAt : ℕ → World → List ℕ
+byteAt a = byteIn (λ w. w .memory) a
+
+-- the abort records of those undone
+abbrev pub tailFront : ℕ → World → List ℕ
+tailFront n w = take n (w .tail)
+
+-- disklist's text of the disk
+abbrev pub listing : World → List ℕ
+listing w = listingOf (w .disk)
+
+-- one place to look and then another
+abbrev pub both : (World → List ℕ) → (World → List ℕ) → World → List ℕ
+both f g w = f w ++ g w
+
+-- ---- what a wrong restart would leave of the image on the disk
+
+abbrev pub imageInUse : World → Loaded
+imageInUse w = loadOf (pointerOf (w .disk)) (w .disk)
+
+abbrev pub imageTxs : World → List Tx
+imageTxs w = txsOf (imageInUse w .decoded .image)
+
+-- memory as restart left it, and the transaction undone once more
+abbrev pub undoneAgain : ℕ → World → List ℕ
+undoneAgain id w = undoAll layBytes (undoOf id (imageTxs w)) (w .memory)
+
+-- the image's memory, and what step 4 undoes where no commit was found, in the reverse of its order
+abbrev pub undoneOtherWay : World → List ℕ
+undoneOtherWay w = undoEach layBytes (reverse (undoOrder (imageTxs w) 0)) (imageInUse w .memory)
 
 -- ---- calls and replies that recur
 
@@ -79,6 +115,12 @@ rows =
             0x01 ∷ 0x00 ∷ 0x01 ∷ 0x00 ∷ 0x0A ∷ 0x02 ∷ 0x41 ∷ 0x42 ∷ 0x01 ∷ 0x02 ∷ 0x00 ∷ 0x01 ∷ 0x00 ∷ 0x00 ∷ 0x00 ∷ 0x01 ∷ 0x02 ∷ 0 ∷ [];
       };
     }
+    -- M1: disklist's whole text
+    ∷ record {
+      calls = m1 17;
+      look = listing;
+      expected = record { replies = m1Replies ++ (told Done 0 17 ∷ []); seen = ascii "pointer=0\nend=17\ncsn=1\nid=1\nundone=0\n" };
+    }
     -- M1: "With 16, restart finds end 0"
     ∷ record {
       calls = m1 16 ++ (restart 16384 ∷ []);
@@ -88,43 +130,50 @@ rows =
     -- M2: 16,384 stores are enough, 16,383 are not
     ∷ record { calls = restart 16384 ∷ []; look = nowhere; expected = record { replies = opened ∷ []; seen = [] } }
     ∷ record { calls = restart 16383 ∷ []; look = nowhere; expected = record { replies = told Cut 0 16383 ∷ []; seen = [] } }
-    -- M3: 7
+    -- M3: 7; "Undoing id 1 again would give 0"
     ∷ record {
       calls =
           restart 16384 ∷ begin ∷ write 1 10 (5 ∷ []) ∷ checkpoint 4122 ∷ abort 1 ∷ begin ∷ write 2 10 (7 ∷ []) ∷ precommit 2 ∷ flush 2 20
           ∷ restart 16364
           ∷ [];
-      look = byteAt 10;
+      look = both (byteAt 10) (byteIn (undoneAgain 1) 10);
       expected = record {
         replies =
             opened ∷ told Done 1 0 ∷ done ∷ told Done 0 4122 ∷ done ∷ told Done 2 0 ∷ done ∷ told Done 1 0 ∷ told Done 0 20 ∷ told Done 0 16364 ∷ [];
-        seen = 7 ∷ [];
+        seen = 7 ∷ 0 ∷ [];
       };
     }
     -- M4: 0
     ∷ record {
       calls = restart 16384 ∷ begin ∷ write 1 10 (5 ∷ []) ∷ precommit 1 ∷ checkpoint 4122 ∷ restart 16384 ∷ [];
-      look = byteAndTail 10;
+      look = both (byteAt 10) (tailFront 12);
       expected = record {
         replies = opened ∷ told Done 1 0 ∷ done ∷ told Done 1 0 ∷ told Done 0 4122 ∷ told Done 1 16384 ∷ [];
         seen = 0 ∷ 3 ∷ 0 ∷ 1 ∷ 3 ∷ replicate 8 0;
       };
     }
-    -- M5: 0, and not 5
+    -- M5: 0; "Undone the other way round it is 5"
     ∷ record {
       calls =
           restart 16384 ∷ begin ∷ write 1 10 (5 ∷ []) ∷ precommit 1 ∷ begin ∷ write 2 10 (6 ∷ []) ∷ precommit 2 ∷ checkpoint 4134 ∷ restart 16384 ∷ [];
-      look = byteAndTail 10;
+      look = both (both (byteAt 10) (byteIn undoneOtherWay 10)) (tailFront 12);
       expected = record {
         replies = opened ∷ told Done 1 0 ∷ done ∷ told Done 1 0 ∷ told Done 2 0 ∷ done ∷ told Done 2 0 ∷ told Done 0 4134 ∷ told Done 2 16384 ∷ [];
-        seen = 0 ∷ 3 ∷ 0 ∷ 2 ∷ 3 ∷ 3 ∷ 0 ∷ 1 ∷ 3 ∷ replicate 4 0;
+        seen = 0 ∷ 5 ∷ 3 ∷ 0 ∷ 2 ∷ 3 ∷ 3 ∷ 0 ∷ 1 ∷ 3 ∷ replicate 4 0;
       };
     }
-    -- M6: length 32 at 4,064 passes; at 4,065, number 8
+    -- M6: length 32 at 4,064 passes; at 4,065, number 8: write, read and its sister
     ∷ record {
-      calls = restart 16384 ∷ begin ∷ write 1 4064 (replicate 32 9) ∷ write 1 4065 (replicate 32 9) ∷ [];
+      calls =
+          restart 16384 ∷ begin ∷ write 1 4064 (replicate 32 9) ∷ write 1 4065 (replicate 32 9) ∷ read 1 4064 32 ∷ read 1 4065 32
+          ∷ readAnswer 1 4064 32
+          ∷ readAnswer 1 4065 32
+          ∷ [];
       look = nowhere;
-      expected = record { replies = opened ∷ told Done 1 0 ∷ done ∷ refused 8 ∷ []; seen = [] };
+      expected = record {
+        replies = opened ∷ told Done 1 0 ∷ done ∷ refused 8 ∷ part (replicate 32 9) ∷ part [] ∷ done ∷ refused 8 ∷ [];
+        seen = [];
+      };
     }
     -- M7: the eighth begin passes, the ninth is 11
     ∷ record {
