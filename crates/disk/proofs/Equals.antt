@@ -61,7 +61,9 @@ module _ (a b m m' t t' : List ℕ) (n n' : ℕ) where
       let y = done-inv b m' t' n' q in
       let f = ap (λ (o : DiskOutcome). o .memory) (done-with a m t n x) in
       let g = ap (λ (o : DiskOutcome). o .memory) (done-with b m' t' n' y) in
-      both a b (taken a (x .disk-length) (x .number)) (taken b (y .disk-length) (y .number)) ∙ ap (sameBytes (examineOf a .memory)) (sym g ∙ sym e ∙ f) ∙ same-self (examineOf a .memory)
+      both a b (taken a (x .disk-length) (x .number)) (taken b (y .disk-length) (y .number))
+      ∙ ap (sameBytes (examineOf a .memory)) (sym g ∙ sym e ∙ f)
+      ∙ same-self (examineOf a .memory)
 
   pub equal-only : equalOf a b ≡ true → length m ≡ 4096 → length m' ≡ 4096 → length t ≡ 16384 → length t' ≡ 16384 → Enough n a → Enough n' b
       → Done? (restartOf a m t n) × Done? (restartOf b m' t' n') × (restartOf a m t n .memory ≡ restartOf b m' t' n' .memory)
@@ -73,5 +75,7 @@ module _ (a b m m' t t' : List ℕ) (n n' : ℕ) where
       let g = done-with b m' t' n' (enough-for b m' t' n' (and-right (accepted a) (accepted b) xy) lm' lt' h') in (
         ap (λ (o : DiskOutcome). o .result .says) f,
         ap (λ (o : DiskOutcome). o .result .says) g,
-        ap (λ (o : DiskOutcome). o .memory) f ∙ same-equal (examineOf a .memory) (examineOf b .memory) s ∙ sym (ap (λ (o : DiskOutcome). o .memory) g),
+        ap (λ (o : DiskOutcome). o .memory) f
+            ∙ same-equal (examineOf a .memory) (examineOf b .memory) s
+            ∙ sym (ap (λ (o : DiskOutcome). o .memory) g),
       )

@@ -21,12 +21,16 @@ use Rattle.restart.specs.Restart.{recoverOf}
 use Rattle.log.proofs.Basics.{clash}
 use Rattle.store.specs.State.{unrecovered}
 use Rattle.store.specs.Rules.{unfit}
+use Rattle.store.specs.Stored.{carriedOut}
 use Rattle.store.specs.Steps.{begunState, writtenState, precommittedState, without, droppedState}
 use Rattle.disk.specs.Examine.{loadOf, refusedBy, stepsOf, examineOf}
-use Rattle.disk.specs.Restart.{recoveredState}
+use Rattle.disk.specs.Restart.{recoveredState, restartOf}
+use Rattle.listing.specs.Text.{decimal, line, foundText}
+use Rattle.listing.specs.Listing.{listingOf}
 use Rattle.history.specs.Calls.{World, fresh, runOf}
 use Rattle.history.specs.Cases.{Shown, Row, rows, showing, shown, Worked}
-use Rattle.history.proofs.Quick.{Short, widened, Lengths, QuickRan, quickRun, RightRun, right-run}
+use Rattle.history.proofs.Quick.{Short, widened, Lengths}
+use Rattle.history.proofs.QuickRun.{QuickRan, quickRun, RightRun, right-run}
 
 abbrev start : Short
 start = record { disk = replicate 33691 0; memory = replicate 4096 0; tail = []; state = unrecovered }
@@ -39,7 +43,10 @@ abbrev quickShown : Row → Option Shown
 quickShown r = quickShowing (r .look) (quickRun (r .calls) start)
 
 computed : map quickShown rows ≡ map (λ r. some (r .expected)) rows
-unfolding undoOrder readRecord readRedo readCommit readAbort run all readBody readGroup readLog emptyRecords emptyTx headOk heldAgainst pushed freshTx written precommitted loaded packedTxs packed emptyImage undoHere readTx readContent memoryOf past forwardOf isRunning isLost runningOf lostOf recoverOf unrecovered unfit begunState writtenState precommittedState without droppedState loadOf refusedBy stepsOf examineOf recoveredState
+unfolding undoOrder readRecord readRedo readCommit readAbort run all readBody readGroup readLog emptyRecords emptyTx headOk heldAgainst pushed freshTx
+    written precommitted loaded packedTxs packed emptyImage undoHere readTx readContent memoryOf past forwardOf isRunning isLost runningOf lostOf
+    recoverOf unrecovered unfit begunState writtenState precommittedState without droppedState loadOf refusedBy stepsOf examineOf recoveredState
+    restartOf carriedOut decimal line foundText listingOf
 computed = refl
 
 -- what is computed is what the definitions show

@@ -1,7 +1,13 @@
--- Padded: tails whose zeros are left out. The table M1 to M10: lists of calls fast enough to be computed (Quick), and the one proof (Cases).
--- Demand 3: what a disk and a world show of `recovery`'s machine (OnDisk, Shows), and each call as a step of it (MemorySteps).
+-- Tails whose zeros are left out (Padded). The table M1 to M10: calls fast enough to be computed (Quick), that they are right (QuickRight,
+-- QuickMemory, QuickStores, QuickRestart), and lists of them (QuickRun); the one proof (Cases). Demand 3: what a disk and a world show of
+-- `recovery`'s machine (OnDisk, Shows), each call as a step of it (MemorySteps, FlushSteps, CheckpointSteps, RestartSteps), the claim (Theorem).
 pub mod Padded
 pub mod Quick
+pub mod QuickRight
+pub mod QuickMemory
+pub mod QuickStores
+pub mod QuickRestart
+pub mod QuickRun
 pub mod Cases
 pub mod OnDisk
 pub mod Shows

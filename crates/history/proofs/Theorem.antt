@@ -7,20 +7,22 @@ use mathlib.Core.Path.{_≡_, refl, sym, ap, _∙_}
 use lib.ListN.{length}
 use Rattle.recovery.specs.Group.{groupsSize, lastCsn}
 use Rattle.recovery.specs.Ledger.{Event, settled, Ledger, committedIn, latest}
-use Rattle.recovery.specs.Machine.{Disk, Live, System, down, up, diskOf, openingDisk, undoneBy, Step, stays, begins, writes, precommits, rollsBack, flushes, flushIsCut, settles, checkpoints, checkpointIsCut, restarts, restartIsCut, Run, opened, next}
+use Rattle.recovery.specs.Machine.{Disk, Live, System, down, up, diskOf, openingDisk, undoneBy, Step, stays, begins, writes, precommits, rollsBack}
+use Rattle.recovery.specs.Machine.{flushes, flushIsCut, settles, checkpoints, checkpointIsCut, restarts, restartIsCut, Run, opened, next}
 use Rattle.recovery.specs.Claim.{commits}
 use Rattle.recovery.proofs.Numbers.{Numbers, last-on-disk}
 use Rattle.recovery.proofs.Invariant.{Inv}
 use Rattle.recovery.proofs.Theorem.{holds, theorem, settled-found}
 use Rattle.log.specs.Log.{readLog}
 use Rattle.log.proofs.Basics.{clash}
-use Rattle.store.specs.Answer.{done as Done}
+use Rattle.store.specs.Answer.{done}
 use Rattle.store.specs.Stored.{DiskOutcome}
 use Rattle.disk.specs.Layout.{logFrom}
 use Rattle.history.specs.Calls.{Call, begin, write, read, readAnswer, precommit, abort, flush, settle, checkpoint, restart, told, World, stepOf}
 use Rattle.history.specs.Demand.{eventOf, Happening, called, powerFails, Watched, happen, happenAll, opening, LatestDurable, Survives, Demand3}
 use Rattle.history.proofs.OnDisk.{OnDisk, opens, fresh-shows, end-shown, memory-shown}
-use Rattle.history.proofs.Shows.{LiveOn, Beside, awake, rests, Shows, FollowsBy, refused-follows, read-refuses, answer-refuses, begin-idle, write-idle, precommit-idle, abort-idle, settle-idle, flush-idle, checkpoint-idle}
+use Rattle.history.proofs.Shows.{LiveOn, Beside, awake, rests, Shows, FollowsBy, refused-follows, read-refuses, answer-refuses}
+use Rattle.history.proofs.Shows.{begin-idle, write-idle, precommit-idle, abort-idle, settle-idle, flush-idle, checkpoint-idle}
 use Rattle.history.proofs.MemorySteps.{begin-follows, write-follows, precommit-follows, abort-follows, settle-follows}
 use Rattle.history.proofs.FlushSteps.{flush-follows}
 use Rattle.history.proofs.CheckpointSteps.{checkpoint-follows}
@@ -113,7 +115,7 @@ step-settles s t e k id r (checkpointIsCut d l) q = clash (cc)
 step-settles s t e k id r (restarts s′ lastId image-ids group-ids) q = clash (cc)
 step-settles s t e k id r (restartIsCut s′) q = clash (cc)
 
-settle-found : (k : Watched) → Reached k → (id : ℕ) → stepOf (settle id) (k .world) .reply ≡ told Done 0 0 → LatestDurable id (k .ledger)
+settle-found : (k : Watched) → Reached k → (id : ℕ) → stepOf (settle id) (k .world) .reply ≡ told done 0 0 → LatestDurable id (k .ledger)
 settle-found k r id e =
     let f = follows (settle id) (k .world) (r .system) (k .ledger) (r .run) (r .shows .0) (r .shows .1) in
     step-settles (r .system) (f .next) _ (k .ledger) id (r .run) (f .step) (ap (eventOf (settle id)) e)
@@ -134,7 +136,10 @@ claimed k r =
           record {
             done = ap (λ (x : DiskOutcome). x .result .says) e;
             restores = ap (λ (x : DiskOutcome). x .memory) e ∙ memory-shown disk (diskOf s) o n fits ∙ c .restores;
-            logged = ap (λ (x : DiskOutcome). commits (readLog 0 (logFrom 0 (x .disk)))) e ∙ ap commits (log-left disk (diskOf s) o n fits a) ∙ c .logged;
+            logged =
+                ap (λ (x : DiskOutcome). commits (readLog 0 (logFrom 0 (x .disk)))) e
+                ∙ ap commits (log-left disk (diskOf s) o n fits a)
+                ∙ c .logged;
           };
       logged = ap commits (o .log) ∙ c .logged;
       ends = end-shown disk (diskOf s) o n fits ∙ ap groupsSize (sym (o .log));

@@ -1,11 +1,20 @@
--- Document 01, "Worked at the bench": M1 to M10 as one table over the definitions that the contracts cite. That each row holds is `worked`
--- (proofs/Cases.antt), one proof over the table, by computation.
+-- Document 01, "Worked at the bench": M1 to M10 and disklist's text as one table over the definitions that the contracts cite. That each row
+-- holds is `worked` (proofs/Cases.antt), one proof over the table, by computation.
 use Prim.Native.Nat.{ℕ, zero, suc}
-use mathlib.Core.List.{List, [], _∷_, _++_, map}
+use mathlib.Core.List.{List, [], _∷_, _++_, map, reverse}
 use mathlib.Core.Path.{_≡_}
 use lib.ListN.{getD, take, drop, replicate}
-use Rattle.store.specs.Answer.{done as Done, cut as Cut, refused as Refused}
-use Rattle.history.specs.Calls.{Call, begin, write, precommit, abort, flush, settle, checkpoint, restart, Reply, told, World, fresh, Ran, runOf}
+use Rattle.recovery.specs.Transaction.{Tx}
+use Rattle.recovery.specs.Replay.{undoAll, undoEach, layBytes}
+use Rattle.recovery.specs.Restart.{undoOf, undoOrder}
+use Rattle.restart.specs.Slots.{txsOf}
+use Rattle.store.specs.Answer.{done, cut, refused}
+use Rattle.disk.specs.Layout.{pointerOf}
+use Rattle.disk.specs.Examine.{Loaded, loadOf}
+use Rattle.listing.specs.Text.{ascii}
+use Rattle.listing.specs.Listing.{listingOf}
+use Rattle.history.specs.Calls.{Call, begin, write, read, readAnswer, precommit, abort, flush, settle, checkpoint, restart}
+use Rattle.history.specs.Calls.{Reply, told, part, World, fresh, Ran, runOf}
 
 -- what is told, call by call, and what is looked at in the end
 pub record Shown : Type 0 where
@@ -29,24 +38,51 @@ logFront n w = take n (drop 17307 (w .disk))
 abbrev pub endOfLog : World → List ℕ
 endOfLog w = w .state .logend ∷ []
 
-abbrev pub byteAt : ℕ → World → List ℕ
-byteAt a w = getD (w .memory) a 0 ∷ []
+abbrev pub byteIn : (World → List ℕ) → ℕ → World → List ℕ
+byteIn memory a w = getD (memory w) a 0 ∷ []
 
--- the byte, and the abort records of those undone
-abbrev pub byteAndTail : ℕ → World → List ℕ
-byteAndTail a w = getD (w .memory) a 0 ∷ take 12 (w .tail)
+abbrev pub byteAt : ℕ → World → List ℕ
+byteAt a = byteIn (λ w. w .memory) a
+
+-- the abort records of those undone
+abbrev pub tailFront : ℕ → World → List ℕ
+tailFront n w = take n (w .tail)
+
+-- disklist's text of the disk
+abbrev pub listing : World → List ℕ
+listing w = listingOf (w .disk)
+
+-- one place to look and then another
+abbrev pub both : (World → List ℕ) → (World → List ℕ) → World → List ℕ
+both f g w = f w ++ g w
+
+-- ---- what a wrong restart would leave of the image on the disk
+
+abbrev pub imageInUse : World → Loaded
+imageInUse w = loadOf (pointerOf (w .disk)) (w .disk)
+
+abbrev pub imageTxs : World → List Tx
+imageTxs w = txsOf (imageInUse w .decoded .image)
+
+-- memory as restart left it, and the transaction undone once more
+abbrev pub undoneAgain : ℕ → World → List ℕ
+undoneAgain id w = undoAll layBytes (undoOf id (imageTxs w)) (w .memory)
+
+-- the image's memory, and what step 4 undoes where no commit was found, in the reverse of its order
+abbrev pub undoneOtherWay : World → List ℕ
+undoneOtherWay w = undoEach layBytes (reverse (undoOrder (imageTxs w) 0)) (imageInUse w .memory)
 
 -- ---- calls and replies that recur
 
 -- what the uncut restart of a fresh disk tells, with which each case but M2 opens
 abbrev pub opened : Reply
-opened = told Done 0 16384
+opened = told done 0 16384
 
-abbrev pub done : Reply
-done = told Done 0 0
+abbrev pub justDone : Reply
+justDone = told done 0 0
 
-abbrev pub refused : ℕ → Reply
-refused n = told (Refused n) 0 0
+abbrev pub refusedBy : ℕ → Reply
+refusedBy n = told (refused n) 0 0
 
 -- n times: a transaction without writes, flushed and settled, the first with id and commit number i; then one more begin
 abbrev pub rounds : ℕ → ℕ → List Call
@@ -54,8 +90,8 @@ rounds zero i = begin ∷ []
 rounds (suc n) i = begin ∷ precommit i ∷ flush 1 8 ∷ settle i ∷ rounds n (suc i)
 
 abbrev pub roundReplies : ℕ → ℕ → List Reply
-roundReplies zero i = refused 13 ∷ []
-roundReplies (suc n) i = told Done i 0 ∷ told Done i 0 ∷ told Done 0 8 ∷ done ∷ roundReplies n (suc i)
+roundReplies zero i = refusedBy 13 ∷ []
+roundReplies (suc n) i = told done i 0 ∷ told done i 0 ∷ told done 0 8 ∷ justDone ∷ roundReplies n (suc i)
 
 -- so many fill the log: 8 bytes each
 abbrev pub filling : ℕ
@@ -65,7 +101,7 @@ abbrev pub m1 : ℕ → List Call
 m1 allowed = restart 16384 ∷ begin ∷ write 1 10 (0x41 ∷ 0x42 ∷ []) ∷ precommit 1 ∷ flush 1 allowed ∷ []
 
 abbrev pub m1Replies : List Reply
-m1Replies = opened ∷ told Done 1 0 ∷ done ∷ told Done 1 0 ∷ []
+m1Replies = opened ∷ told done 1 0 ∷ justDone ∷ told done 1 0 ∷ []
 
 abbrev pub rows : List Row
 rows =
@@ -74,69 +110,82 @@ rows =
       calls = m1 17;
       look = logFront 18;
       expected = record {
-        replies = m1Replies ++ (told Done 0 17 ∷ []);
+        replies = m1Replies ++ (told done 0 17 ∷ []);
         seen =
             0x01 ∷ 0x00 ∷ 0x01 ∷ 0x00 ∷ 0x0A ∷ 0x02 ∷ 0x41 ∷ 0x42 ∷ 0x01 ∷ 0x02 ∷ 0x00 ∷ 0x01 ∷ 0x00 ∷ 0x00 ∷ 0x00 ∷ 0x01 ∷ 0x02 ∷ 0 ∷ [];
       };
+    }
+    -- M1: disklist's whole text
+    ∷ record {
+      calls = m1 17;
+      look = listing;
+      expected = record { replies = m1Replies ++ (told done 0 17 ∷ []); seen = ascii "pointer=0\nend=17\ncsn=1\nid=1\nundone=0\n" };
     }
     -- M1: "With 16, restart finds end 0"
     ∷ record {
       calls = m1 16 ++ (restart 16384 ∷ []);
       look = endOfLog;
-      expected = record { replies = m1Replies ++ (told Cut 0 16 ∷ told Done 0 16384 ∷ []); seen = 0 ∷ [] };
+      expected = record { replies = m1Replies ++ (told cut 0 16 ∷ told done 0 16384 ∷ []); seen = 0 ∷ [] };
     }
     -- M2: 16,384 stores are enough, 16,383 are not
     ∷ record { calls = restart 16384 ∷ []; look = nowhere; expected = record { replies = opened ∷ []; seen = [] } }
-    ∷ record { calls = restart 16383 ∷ []; look = nowhere; expected = record { replies = told Cut 0 16383 ∷ []; seen = [] } }
-    -- M3: 7
+    ∷ record { calls = restart 16383 ∷ []; look = nowhere; expected = record { replies = told cut 0 16383 ∷ []; seen = [] } }
+    -- M3: 7; "Undoing id 1 again would give 0"
     ∷ record {
       calls =
           restart 16384 ∷ begin ∷ write 1 10 (5 ∷ []) ∷ checkpoint 4122 ∷ abort 1 ∷ begin ∷ write 2 10 (7 ∷ []) ∷ precommit 2 ∷ flush 2 20
           ∷ restart 16364
           ∷ [];
-      look = byteAt 10;
+      look = both (byteAt 10) (byteIn (undoneAgain 1) 10);
       expected = record {
         replies =
-            opened ∷ told Done 1 0 ∷ done ∷ told Done 0 4122 ∷ done ∷ told Done 2 0 ∷ done ∷ told Done 1 0 ∷ told Done 0 20 ∷ told Done 0 16364 ∷ [];
-        seen = 7 ∷ [];
+            opened ∷ told done 1 0 ∷ justDone ∷ told done 0 4122 ∷ justDone ∷ told done 2 0 ∷ justDone ∷ told done 1 0 ∷ told done 0 20 ∷ told done 0 16364 ∷ [];
+        seen = 7 ∷ 0 ∷ [];
       };
     }
     -- M4: 0
     ∷ record {
       calls = restart 16384 ∷ begin ∷ write 1 10 (5 ∷ []) ∷ precommit 1 ∷ checkpoint 4122 ∷ restart 16384 ∷ [];
-      look = byteAndTail 10;
+      look = both (byteAt 10) (tailFront 12);
       expected = record {
-        replies = opened ∷ told Done 1 0 ∷ done ∷ told Done 1 0 ∷ told Done 0 4122 ∷ told Done 1 16384 ∷ [];
+        replies = opened ∷ told done 1 0 ∷ justDone ∷ told done 1 0 ∷ told done 0 4122 ∷ told done 1 16384 ∷ [];
         seen = 0 ∷ 3 ∷ 0 ∷ 1 ∷ 3 ∷ replicate 8 0;
       };
     }
-    -- M5: 0, and not 5
+    -- M5: 0; "Undone the other way round it is 5"
     ∷ record {
       calls =
           restart 16384 ∷ begin ∷ write 1 10 (5 ∷ []) ∷ precommit 1 ∷ begin ∷ write 2 10 (6 ∷ []) ∷ precommit 2 ∷ checkpoint 4134 ∷ restart 16384 ∷ [];
-      look = byteAndTail 10;
+      look = both (both (byteAt 10) (byteIn undoneOtherWay 10)) (tailFront 12);
       expected = record {
-        replies = opened ∷ told Done 1 0 ∷ done ∷ told Done 1 0 ∷ told Done 2 0 ∷ done ∷ told Done 2 0 ∷ told Done 0 4134 ∷ told Done 2 16384 ∷ [];
-        seen = 0 ∷ 3 ∷ 0 ∷ 2 ∷ 3 ∷ 3 ∷ 0 ∷ 1 ∷ 3 ∷ replicate 4 0;
+        replies = opened ∷ told done 1 0 ∷ justDone ∷ told done 1 0 ∷ told done 2 0 ∷ justDone ∷ told done 2 0 ∷ told done 0 4134 ∷ told done 2 16384 ∷ [];
+        seen = 0 ∷ 5 ∷ 3 ∷ 0 ∷ 2 ∷ 3 ∷ 3 ∷ 0 ∷ 1 ∷ 3 ∷ replicate 4 0;
       };
     }
-    -- M6: length 32 at 4,064 passes; at 4,065, number 8
+    -- M6: length 32 at 4,064 passes; at 4,065, number 8: write, read and its sister
     ∷ record {
-      calls = restart 16384 ∷ begin ∷ write 1 4064 (replicate 32 9) ∷ write 1 4065 (replicate 32 9) ∷ [];
+      calls =
+          restart 16384 ∷ begin ∷ write 1 4064 (replicate 32 9) ∷ write 1 4065 (replicate 32 9) ∷ read 1 4064 32 ∷ read 1 4065 32
+          ∷ readAnswer 1 4064 32
+          ∷ readAnswer 1 4065 32
+          ∷ [];
       look = nowhere;
-      expected = record { replies = opened ∷ told Done 1 0 ∷ done ∷ refused 8 ∷ []; seen = [] };
+      expected = record {
+        replies = opened ∷ told done 1 0 ∷ justDone ∷ refusedBy 8 ∷ part (replicate 32 9) ∷ part [] ∷ justDone ∷ refusedBy 8 ∷ [];
+        seen = [];
+      };
     }
     -- M7: the eighth begin passes, the ninth is 11
     ∷ record {
       calls = restart 16384 ∷ replicate 9 begin;
       look = nowhere;
-      expected = record { replies = opened ∷ map (λ i. told Done i 0) (1 ∷ 2 ∷ 3 ∷ 4 ∷ 5 ∷ 6 ∷ 7 ∷ 8 ∷ []) ++ (refused 11 ∷ []); seen = [] };
+      expected = record { replies = opened ∷ map (λ i. told done i 0) (1 ∷ 2 ∷ 3 ∷ 4 ∷ 5 ∷ 6 ∷ 7 ∷ 8 ∷ []) ++ (refusedBy 11 ∷ []); seen = [] };
     }
     -- M7: the sixteenth write passes, the seventeenth is 10
     ∷ record {
       calls = restart 16384 ∷ begin ∷ replicate 17 (write 1 10 (5 ∷ []));
       look = nowhere;
-      expected = record { replies = opened ∷ told Done 1 0 ∷ replicate 16 done ++ (refused 10 ∷ []); seen = [] };
+      expected = record { replies = opened ∷ told done 1 0 ∷ replicate 16 justDone ++ (refusedBy 10 ∷ []); seen = [] };
     }
     -- M8: 2,048 transactions without writes fill the log; the next begin is 13
     ∷ record {
@@ -149,12 +198,12 @@ rows =
       calls = restart 16384 ∷ begin ∷ precommit 1 ∷ begin ∷ precommit 2 ∷ flush 1 8 ∷ settle 2 ∷ settle 1 ∷ [];
       look = nowhere;
       expected = record {
-        replies = opened ∷ told Done 1 0 ∷ told Done 1 0 ∷ told Done 2 0 ∷ told Done 2 0 ∷ told Done 0 8 ∷ refused 14 ∷ done ∷ [];
+        replies = opened ∷ told done 1 0 ∷ told done 1 0 ∷ told done 2 0 ∷ told done 2 0 ∷ told done 0 8 ∷ refusedBy 14 ∷ justDone ∷ [];
         seen = [];
       };
     }
     -- M10: 4,110 stores
-    ∷ record { calls = restart 16384 ∷ checkpoint 5000 ∷ []; look = nowhere; expected = record { replies = opened ∷ told Done 0 4110 ∷ []; seen = [] } }
+    ∷ record { calls = restart 16384 ∷ checkpoint 5000 ∷ []; look = nowhere; expected = record { replies = opened ∷ told done 0 4110 ∷ []; seen = [] } }
     ∷ []
 
 -- ---- what the definitions show

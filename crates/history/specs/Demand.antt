@@ -7,7 +7,8 @@ use mathlib.Core.Path.{_≡_}
 use lib.ListN.{length, replicate}
 use Rattle.recovery.specs.Group.{groupsSize}
 use Rattle.recovery.specs.Lists.{All}
-use Rattle.recovery.specs.Ledger.{Event, unchanged, begun, wrote, precommitted, rolledBack, flushed, settled, restarted, cut, Commit, Ledger, noLedger, committedIn, latest, enter}
+use Rattle.recovery.specs.Ledger.{Event, unchanged, begun, wrote, precommitted, rolledBack, flushed, settled, restarted, cut}
+use Rattle.recovery.specs.Ledger.{Commit, Ledger, noLedger, committedIn, latest, enter}
 use Rattle.recovery.specs.Claim.{commits, layCommits, Numbered}
 use Rattle.log.specs.Log.{readLog}
 use Rattle.store.specs.Answer as words
@@ -16,7 +17,8 @@ use Rattle.disk.specs.Layout.{logFrom}
 use Rattle.disk.specs.Examine.{examineOf}
 use Rattle.disk.specs.Restart.{restartOf}
 use Rattle.disk.specs.Enough.{Enough}
-use Rattle.history.specs.Calls.{Call, begin, write, read, readAnswer, precommit, abort, flush, settle, checkpoint, restart, Reply, told, part, World, stepOf}
+use Rattle.history.specs.Calls.{Call, begin, write, read, readAnswer, precommit, abort, flush, settle, checkpoint, restart}
+use Rattle.history.specs.Calls.{Reply, told, part, World, stepOf}
 
 -- ---- what the ledger is fed of a call
 

@@ -1,0 +1,99 @@
+-- Restart, the quick way, is right.
+use Prim.Native.Nat.{ℕ, _+_, _-_, _*_, _≤_, _<_}
+use native.Mathlib.Omega.{arith}
+use mathlib.Core.List.{List, _++_}
+use mathlib.Core.Path.{_≡_, sym, ap, _∙_}
+use lib.ListN.{length, take, replicate}
+use lib.Dec.{eqb}
+use borrow.Author.Tests.{eqb-true}
+use Rattle.recovery.specs.Restart.{aborts}
+use Rattle.log.specs.Log.{encodeLog}
+use Rattle.log.specs.Stores.{apply}
+use Rattle.log.proofs.StoreLaws.{length-apply, length-clears}
+use Rattle.image.proofs.Rules.{image-count}
+use Rattle.restart.proofs.Undos.{aborts-length}
+use Rattle.restart.proofs.Recovery.{undoneBy, undone-few, tail-is}
+use Rattle.store.specs.declared.State.{State}
+use Rattle.store.specs.Stored.{DiskOutcome}
+use Rattle.disk.specs.declared.examine.Examined.{Examined}
+use Rattle.disk.specs.Examine.{Meaning, stepsOf, examineOf}
+use Rattle.disk.specs.Restart.{recoveredState, clearing, restartOf}
+use Rattle.disk.proofs.Examining.{roomy}
+use Rattle.disk.proofs.Accepted.{imageIn, memoryIn, logIn, Accepted, accepted-is, memory-length}
+use Rattle.disk.proofs.Restarting.{restart-cut, restart-done}
+use Rattle.disk.proofs.Again.{cleared}
+use Rattle.history.specs.Calls.{restart, World, stepOf}
+use Rattle.history.proofs.Padded.{padded, padded-length}
+use Rattle.history.proofs.Quick.{widened, Lengths, telling, cutting, here, restartQuick}
+use Rattle.history.proofs.QuickRight.{Right, tested, enough, done-right, cut-right}
+
+module _ (d m bs : List ℕ) (s : State) (l : Lengths d m bs) where
+  abbrev w : World
+  w = widened (here d m bs s)
+
+  abbrev t : List ℕ
+  t = padded bs
+
+  abbrev found : Examined
+  found = examineOf d .result
+
+  abbrev need : ℕ
+  need = 16384 - found .end
+
+  module _ (number : found .number ≡ 0) where
+    accepted : Accepted d
+    accepted = accepted-is d number
+
+    abbrev undone : List ℕ
+    undone = encodeLog (aborts (undoneBy (imageIn d) (logIn d)))
+
+    -- at most eight abort records
+    undone-short : length undone ≤ 16384
+    undone-short =
+        omega (arith, aborts-length (undoneBy (imageIn d) (logIn d)), undone-few (imageIn d) (logIn d), image-count (imageIn d) (accepted .rules))
+
+    restart-tail : examineOf d .tail ≡ padded undone
+    unfolding stepsOf
+    restart-tail =
+        let e : 4 * length (undoneBy (imageIn d) (logIn d)) ≡ length undone = omega (arith, aborts-length (undoneBy (imageIn d) (logIn d))) in
+        ap (λ (x : Meaning). x .tail) (accepted .is)
+        ∙ tail-is (imageIn d) (accepted .rules) (logIn d) (memoryIn d)
+        ∙ ap (λ (k : ℕ). undone ++ replicate (16384 - k) 0) e
+
+  module _ (a : ℕ) where
+    abbrev restarts : DiskOutcome
+    restarts = restartOf d m t a
+
+    abbrev left : List ℕ
+    left = take (17307 + found .end + (need - a)) d ++ replicate (need - (need - a)) 0
+
+    left-is : apply (take a (clearing (found .end))) d ≡ left
+    left-is = let fits = roomy d in cleared a (found .end) d (l .disk) (omega arith)
+
+    left-length : length left ≡ 33691
+    left-length = ap length (sym left-is) ∙ length-apply (take a (clearing (found .end))) d ∙ l .disk
+
+    clears-need : length (clearing (found .end)) ≡ need
+    clears-need = length-clears (17307 + found .end) need
+
+    module _ (number : found .number ≡ 0) where
+      restarts-cut : a < need → Right (restarted restarts) (cutting a left)
+      restarts-cut h =
+          cut-right (restarted restarts) (ap stored (restart-cut d m t a (l .disk) (l .memory) (padded-length bs (l .tail)) number h))
+          (omega (arith, clears-need, h)) left-is left-length
+
+      abbrev state : State
+      state = recoveredState (found .end) (found .csn) (found .last)
+
+      restarts-done : need ≤ a → Right (restarted restarts) (telling (found .undone) need left (examineOf d .memory) (undone number) state)
+      restarts-done h =
+          done-right (restarted restarts) (ap stored (restart-done d m t a (l .disk) (l .memory) (padded-length bs (l .tail)) number h))
+          (omega (arith, clears-need, h)) left-is (restart-tail number)
+          (record { disk = left-length; memory = memory-length d (l .disk) (accepted number); tail = undone-short number })
+
+    pub restart-right : Right (stepOf (restart a) w) (restartQuick d m bs s a)
+    unfolding stepOf
+    restart-right =
+        tested (restarted restarts) (eqb (found .number) 0) _ (λ f.
+        let number = eqb-true (found .number) 0 f in
+        enough (restarted restarts) a need _ _ (restarts-cut number) (restarts-done number))
