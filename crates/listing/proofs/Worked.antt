@@ -15,5 +15,5 @@ longest = refl
 
 -- "a wrong input length is 1"
 wrong-length : (disk : List ℕ) → (length disk ≡ 33691 → ⊥) → listingOf disk ≡ ascii "refused=1\n"
-unfolding listingOf restartOf refusedRestart refusedText line decimal
+unfolding listingOf restartOf refusedText line decimal
 wrong-length disk h = rw (ne-eqb (length disk) 33691 h)
