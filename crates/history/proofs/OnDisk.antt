@@ -1,6 +1,6 @@
 -- A disk that shows an abstract one: the image that its pointer byte names, and the groups of its log. What restart makes of it then is what
 -- `recovery`'s machine says.
-use Prim.Native.Nat.{ℕ, zero, _+_, _-_, _*_, _≤_}
+use Prim.Native.Nat.{ℕ, _+_, _-_, _*_, _≤_}
 use native.Mathlib.Omega.{arith}
 use mathlib.Core.Bool.{true}
 use mathlib.Core.List.{List, _++_}
