@@ -62,7 +62,8 @@ module _ (a b m m' t t' : List ℕ) (n n' : ℕ) where
       let y = done-inv b m' t' n' q in
       let f = ap (λ (o : DiskOutcome Restarted). o .memory) (done-with a m t n x) in
       let g = ap (λ (o : DiskOutcome Restarted). o .memory) (done-with b m' t' n' y) in
-      both a b (taken a (x .disk-length) (x .number)) (taken b (y .disk-length) (y .number)) ∙ ap (sameBytes (examineOf a .memory)) (sym g ∙ sym e ∙ f) ∙ same-self (examineOf a .memory)
+      both a b (taken a (x .disk-length) (x .number)) (taken b (y .disk-length) (y .number)) ∙ ap (sameBytes (examineOf a .memory)) (sym g ∙ sym e ∙ f)
+      ∙ same-self (examineOf a .memory)
 
   pub equal-only : equalOf a b ≡ true → length m ≡ 4096 → length m' ≡ 4096 → length t ≡ 16384 → length t' ≡ 16384 → 16384 ≤ n → 16384 ≤ n'
       → Done? (restartOf a m t n) × Done? (restartOf b m' t' n') × (restartOf a m t n .memory ≡ restartOf b m' t' n' .memory)
@@ -74,5 +75,6 @@ module _ (a b m m' t t' : List ℕ) (n n' : ℕ) where
       let g = done-with b m' t' n' (enough-for b m' t' n' (and-right (accepted a) (accepted b) xy) lm' lt' h') in (
         ap (λ (o : DiskOutcome Restarted). o .result .answer) f,
         ap (λ (o : DiskOutcome Restarted). o .result .answer) g,
-        ap (λ (o : DiskOutcome Restarted). o .memory) f ∙ same-equal (examineOf a .memory) (examineOf b .memory) s ∙ sym (ap (λ (o : DiskOutcome Restarted). o .memory) g),
+        ap (λ (o : DiskOutcome Restarted). o .memory) f ∙ same-equal (examineOf a .memory) (examineOf b .memory) s
+            ∙ sym (ap (λ (o : DiskOutcome Restarted). o .memory) g),
       )
