@@ -22,3 +22,5 @@ pub mod Flushing
 pub mod Checkpointing
 pub mod Premises
 pub mod Answers
+pub mod Sameness
+pub mod SameCalls
