@@ -24,3 +24,4 @@ pub mod Premises
 pub mod Answers
 pub mod Sameness
 pub mod SameCalls
+pub mod SameWrite

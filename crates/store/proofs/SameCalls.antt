@@ -24,7 +24,7 @@ use Rattle.store.proofs.Sameness.{room-alike, number-alike, ids, slots,
 
 -- ---- one transaction
 
-same-as : {t t' u u' : Tx} → t ≡ t' → u ≡ u' → SameTx t' u' → SameTx t u
+pub same-as : {t t' u u' : Tx} → t ≡ t' → u ≡ u' → SameTx t' u' → SameTx t u
 same-as {t} {t'} {u} {u'} e f h = subst (λ (x : Tx). SameTx x u) (sym e) (subst (λ (y : Tx). SameTx t' y) (sym f) h)
 
 fresh-same : (n m : ℕ) → n ≡ m → SameTx (freshTx (record { 0 = n + 1 })) (freshTx (record { 0 = m + 1 }))
