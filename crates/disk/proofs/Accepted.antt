@@ -84,7 +84,8 @@ loaded-length pointer disk d = go (eqb pointer 0)
     go true = length-replicate {A = ℕ} 4096 0
     go false =
         let s = slot-within pointer in
-        let a : length (imagePart pointer disk) ≡ 8653 = length-take-le 8653 (drop (imageAt pointer) disk) (rw (length-drop (imageAt pointer) disk) (omega arith)) in
+        let a : length (imagePart pointer disk) ≡ 8653 =
+        length-take-le 8653 (drop (imageAt pointer) disk) (rw (length-drop (imageAt pointer) disk) (omega arith)) in
         length-take-le 4096 (drop 13 (imagePart pointer disk)) (rw (length-drop 13 (imagePart pointer disk)) (omega arith))
 
 tail-kept : (i : Image) (log m t : List ℕ) → length (recoverOf i log m t .tail) ≡ length t
@@ -97,7 +98,8 @@ module _ (disk : List ℕ) (d : length disk ≡ 33691) (a : Accepted disk) where
   memory-length =
       ap (λ (m : Meaning). length (m .memory)) (a .is)
       ∙ ap length (memory-is (imageIn disk) (a .rules) (logIn disk) (memoryIn disk) (replicate 16384 0))
-      ∙ recover-length 4096 (memoryIn disk) (loaded-length (pointerOf disk) disk d) (txsOf (imageIn disk)) (imageIn disk .ondisk .0) (groupsOf (imageIn disk) (logIn disk))
+      ∙ recover-length 4096 (memoryIn disk) (loaded-length (pointerOf disk) disk d) (txsOf (imageIn disk)) (imageIn disk .ondisk .0)
+      (groupsOf (imageIn disk) (logIn disk))
 
   pub tail-length : length (examineOf disk .tail) ≡ 16384
   unfolding stepsOf

@@ -116,29 +116,16 @@ module _ (disk : List ℕ) (d : length disk ≡ 33691) (a : Accepted disk) where
     means-front =
         let b = front p k disk within in
         let q : pointerOf b ≡ pointerOf disk = front-pointer p k disk within (omega arith) in
-        let f : loadOf (pointerOf b) b ≡ loadOf (pointerOf disk) disk = ap (λ (x : ℕ). loadOf x b) q ∙ front-load p k disk within (pointerOf disk) (omega arith) in
+        let f : loadOf (pointerOf b) b ≡ loadOf (pointerOf disk) disk = ap (λ (x : ℕ). loadOf x b) q
+        ∙ front-load p k disk within (pointerOf disk) (omega arith) in
         let s = steps-front in
         let fits = a .fits in
         let low = a .low in
-        means b (omega arith) (loadOf (pointerOf disk) disk .decoded) (memoryIn disk) (sym (ap (λ (x : Loaded). x .decoded) f)) (sym (ap (λ (x : Loaded). x .memory) f)) (a .ok)
+        means b (omega arith) (loadOf (pointerOf disk) disk .decoded) (memoryIn disk) (sym (ap (λ (x : Loaded). x .decoded) f))
+        (sym (ap (λ (x : Loaded). x .memory) f)) (a .ok)
         (subst (λ (o : Outcome). imageIn disk .logend + o .answer .end + 4 * o .answer .undone ≤ 16384) (sym s) fits)
         ∙ ap (meant (imageIn disk .logend)) s
         ∙ sym (a .is)
-
-  -- what is cleared once more, with stores enough, is cleared to the same
-  pub cleared-again : (n k : ℕ) → 16384 - examineOf disk .result .end ≤ k
-      → apply (take k (clearing (examineOf disk .result .end))) (apply (take n (clearing (examineOf disk .result .end))) disk)
-      ≡ apply (take k (clearing (examineOf disk .result .end))) disk
-  cleared-again n k h =
-      let end = examineOf disk .result .end in
-      let r = roomy disk in
-      let p = 17307 + end + (16384 - end - n) in
-      let q = 17307 + end + (16384 - end - k) in
-      let z : List ℕ = replicate (16384 - end - (16384 - end - k)) 0 in
-      cleared k end (apply (take n (clearing end)) disk) (length-apply (take n (clearing end)) disk ∙ d) (omega arith)
-      ∙ ap (λ (l : List ℕ). take q l ++ z) (cleared n end disk d (omega arith))
-      ∙ ap (λ (l : List ℕ). l ++ z) (front-part p (16384 - end - (16384 - end - n)) disk (omega arith) 0 q (omega arith))
-      ∙ sym (cleared k end disk d (omega arith))
 
   pub means-again : (n : ℕ) → examineOf (apply (take n (clearing (examineOf disk .result .end))) disk) ≡ examineOf disk
   means-again n =
@@ -162,7 +149,8 @@ alike true true m disk disk' n = record { result = refl; memory = refl; tail = r
 alike true false m disk disk' n = record { result = refl; memory = refl; tail = refl }
 alike false w m disk disk' n = record { result = refl; memory = refl; tail = refl }
 
-module _ (disk m t m' t' : List ℕ) (n k : ℕ) (d : length disk ≡ 33691) (lm : length m ≡ 4096) (lt : length t ≡ 16384) (lm' : length m' ≡ 4096) (lt' : length t' ≡ 16384) where
+module _ (disk m t m' t' : List ℕ) (n k : ℕ) (d : length disk ≡ 33691) (lm : length m ≡ 4096) (lt : length t ≡ 16384) (lm' : length m' ≡ 4096)
+    (lt' : length t' ≡ 16384) where
   abbrev left : List ℕ
   left = restarts.restartOf disk m t n .disk
 
@@ -189,19 +177,7 @@ module _ (disk m t m' t' : List ℕ) (n k : ℕ) (d : length disk ≡ 33691) (lm
   restart-again =
       let l = left-is (eqb (examineOf disk .result .number) 0) refl in
       let m = examineOf disk in
-      subst (λ (o : DiskOutcome). SameBut o (restarts.restartOf disk m' t' k)) (sym (restart-meant left m' t' k (l .0) lm' lt' ∙ ap (λ (x : Meaning). ofMeaning x left k) (l .1)))
+      subst (λ (o : DiskOutcome). SameBut o (restarts.restartOf disk m' t' k))
+      (sym (restart-meant left m' t' k (l .0) lm' lt' ∙ ap (λ (x : Meaning). ofMeaning x left k) (l .1)))
       (subst (λ (o : DiskOutcome). SameBut (ofMeaning m left k) o) (sym (restart-meant disk m' t' k d lm' lt'))
       (alike (eqb (m .result .number) 0) (ltb k (length (clearing (m .result .end)))) m left disk k))
-
-  -- and with stores enough, which are as many, it leaves the same disk
-  pub restart-again-disk : examineOf disk .result .number ≡ 0 → 16384 - examineOf disk .result .end ≤ k → restarts.restartOf left m' t' k .disk ≡ restarts.restartOf disk m' t' k .disk
-  restart-again-disk number h =
-      let end = examineOf disk .result .end in
-      let l = left-is (eqb (examineOf disk .result .number) 0) refl in
-      let c = left-cleared number in
-      let e : examineOf left .result .number ≡ 0 = ap (λ (x : Meaning). x .result .number) (l .1) ∙ number in
-      let f : examineOf left .result .end ≡ end = ap (λ (x : Meaning). x .result .end) (l .1) in
-      ap (λ (o : DiskOutcome). o .disk) (restart-done left m' t' k (l .0) lm' lt' e (rw f h))
-      ∙ ap₂ (λ (x : ℕ) (b : List ℕ). apply (take k (clearing x)) b) f c
-      ∙ cleared-again disk d (accepted-is disk number) n k h
-      ∙ sym (ap (λ (o : DiskOutcome). o .disk) (restart-done disk m' t' k d lm' lt' number h))

@@ -14,7 +14,9 @@ use Rattle.disk.specs.Equal.{sameBytes}
 
 module _ (a b : List ℕ) (i : ℕ) (h : i < length a) (l : length a ≡ length b) where
   first : sameBytes (drop i a) (drop i b) ≡ eqb (getD a i 0) (getD b i 0) && sameBytes (drop (i + 1) a) (drop (i + 1) b)
-  first = ap₂ sameBytes (drop-cons a i 0 h) (drop-cons b i 0 (omega arith)) ∙ ap (λ (n : ℕ). eqb (getD a i 0) (getD b i 0) && sameBytes (drop n a) (drop n b)) (sym (add-one i))
+  first =
+      ap₂ sameBytes (drop-cons a i 0 h) (drop-cons b i 0 (omega arith))
+      ∙ ap (λ (n : ℕ). eqb (getD a i 0) (getD b i 0) && sameBytes (drop n a) (drop n b)) (sym (add-one i))
 
   pub same-not : (getD a i 0 ≡ getD b i 0 → ⊥) → sameBytes (drop i a) (drop i b) ≡ false
   same-not n = first ∙ rw (ne-eqb (getD a i 0) (getD b i 0) n)

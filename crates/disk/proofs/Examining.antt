@@ -27,7 +27,8 @@ loaded-keeps : (pointer : ℕ) (disk : List ℕ) → loadOf pointer disk .decode
 unfolding loadOf emptyImage
 loaded-keeps pointer disk = go (eqb pointer 0)
   where
-    go : (b : Bool) → cond b noImage (imageNamed pointer disk) .decoded .ok ≡ true → keepsRules (cond b noImage (imageNamed pointer disk) .decoded .image) ≡ true
+    go : (b : Bool) → cond b noImage (imageNamed pointer disk) .decoded .ok ≡ true
+        → keepsRules (cond b noImage (imageNamed pointer disk) .decoded .image) ≡ true
     go true e = refl
     go false e = decode-keeps (imagePart pointer disk) e
 
@@ -62,19 +63,24 @@ pub means-3 : (disk : List ℕ) → 2 < pointerOf disk → examineOf disk ≡ re
 unfolding examineOf
 means-3 disk h = rw (lt-ltb 2 (pointerOf disk) h)
 
-module _ (disk : List ℕ) (p : pointerOf disk ≤ 2) (d : Decoded) (m : List ℕ) (loaded : d ≡ loadOf (pointerOf disk) disk .decoded) (memory : m ≡ loadOf (pointerOf disk) disk .memory) where
+module _ (disk : List ℕ) (p : pointerOf disk ≤ 2) (d : Decoded) (m : List ℕ) (loaded : d ≡ loadOf (pointerOf disk) disk .decoded)
+    (memory : m ≡ loadOf (pointerOf disk) disk .memory) where
   pub keeps : d .ok ≡ true → keepsRules (d .image) ≡ true
-  keeps e = subst (λ (x : Decoded). keepsRules (x .image) ≡ true) (sym loaded) (loaded-keeps (pointerOf disk) disk (subst (λ (x : Decoded). x .ok ≡ true) loaded e))
+  keeps e =
+      subst (λ (x : Decoded). keepsRules (x .image) ≡ true) (sym loaded) (loaded-keeps (pointerOf disk) disk (subst (λ (x : Decoded). x .ok ≡ true) loaded e))
 
   pub means-4 : d .ok ≡ false → examineOf disk ≡ refusedBy 4
   unfolding examineOf
   means-4 e = rw (le-ltb 2 (pointerOf disk) p, ← loaded, e)
 
-  taken : d .ok ≡ true → examineOf disk ≡ cond (ltb 16384 (d .image .logend + stepsOf (d .image) m disk .answer .end + 4 * stepsOf (d .image) m disk .answer .undone)) (refusedBy 5) (meant (d .image .logend) (stepsOf (d .image) m disk))
+  taken : d .ok ≡ true → examineOf disk
+      ≡ cond (ltb 16384 (d .image .logend + stepsOf (d .image) m disk .answer .end + 4 * stepsOf (d .image) m disk .answer .undone)) (refusedBy 5)
+      (meant (d .image .logend) (stepsOf (d .image) m disk))
   unfolding examineOf
   taken e = rw (le-ltb 2 (pointerOf disk) p, ← loaded, ← memory, e)
 
-  pub means-5 : d .ok ≡ true → 16384 < d .image .logend + stepsOf (d .image) m disk .answer .end + 4 * stepsOf (d .image) m disk .answer .undone → examineOf disk ≡ refusedBy 5
+  pub means-5 : d .ok ≡ true → 16384 < d .image .logend + stepsOf (d .image) m disk .answer .end + 4 * stepsOf (d .image) m disk .answer .undone
+      → examineOf disk ≡ refusedBy 5
   means-5 e h = taken e ∙ rw (lt-ltb 16384 (d .image .logend + stepsOf (d .image) m disk .answer .end + 4 * stepsOf (d .image) m disk .answer .undone) h)
 
   pub means : d .ok ≡ true → d .image .logend + stepsOf (d .image) m disk .answer .end + 4 * stepsOf (d .image) m disk .answer .undone ≤ 16384

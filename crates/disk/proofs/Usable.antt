@@ -38,7 +38,13 @@ fit-empty end csn last tail h e =
 aborts-pass : (csn : ℕ) (ts : List Tx) (n : ℕ) (tail : List ℕ) → tail ≡ encodeLog (aborts ts) ++ replicate n 0 → readLog csn tail ≡ aborts ts
     → tailOk csn csn tail ≡ true
 aborts-pass csn ts n tail e r =
-    rw (r, eq-eqb (lastCsn csn (aborts ts)) csn (lastCsn-aborts csn ts), e, drop-at (encodeLog (aborts ts)) (replicate n 0) (groupsSize (aborts ts)) (length-log (aborts ts)))
+    rw (
+      r,
+      eq-eqb (lastCsn csn (aborts ts)) csn (lastCsn-aborts csn ts),
+      e,
+      drop-at (encodeLog (aborts ts)) (replicate n 0) (groupsSize (aborts ts))
+          (length-log (aborts ts)),
+    )
     (zeros-pass n)
 
 module _ (disk : List ℕ) (a : Accepted disk) where
@@ -63,7 +69,8 @@ module _ (disk : List ℕ) (a : Accepted disk) where
       let e = ap (λ (m : Meaning). m .result .end) (a .is) in
       let u = ap (λ (m : Meaning). m .result .undone) (a .is) in
       fit-empty (examineOf disk .result .end) csn last (examineOf disk .tail) (omega (arith, a .fits, s, steps-undone, e, u))
-      (aborts-pass (csn .0) undoneIn (16384 - 4 * length undoneIn) (examineOf disk .tail) (steps-tail ∙ tail-is (imageIn disk) (a .rules) (logIn disk) (memoryIn disk)) (tail-reads (csn .0)))
+      (aborts-pass (csn .0) undoneIn (16384 - 4 * length undoneIn) (examineOf disk .tail)
+      (steps-tail ∙ tail-is (imageIn disk) (a .rules) (logIn disk) (memoryIn disk)) (tail-reads (csn .0)))
 
 pub record Ready (o : DiskOutcome) : Type 0 where
   pub disk : length (o .disk) ≡ 33691

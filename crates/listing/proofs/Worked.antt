@@ -4,7 +4,7 @@ use mathlib.Core.List.{List}
 use mathlib.Core.Path.{_≡_, refl}
 use lib.ListN.{length}
 use borrow.Author.Tests.{ne-eqb}
-use Rattle.disk.specs.Restart.{refusedRestart, restartOf}
+use Rattle.disk.specs.Restart.{restartOf}
 use Rattle.listing.specs.Text.{ascii, decimal, line, foundText, refusedText}
 use Rattle.listing.specs.Listing.{listingOf}
 

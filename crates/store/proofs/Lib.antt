@@ -21,3 +21,6 @@ pub mod Storing
 pub mod Flushing
 pub mod Checkpointing
 pub mod Premises
+pub mod Sameness
+pub mod SameCalls
+pub mod SameWrite

@@ -1,4 +1,6 @@
 use borrow.Author.Needs.{needs}
+use Prim.Native.Nat.{ℕ}
+use mathlib.Core.List.{List}
 use mathlib.Core.Path.{sym, ap, ap₂, _∙_}
 use Rattle.disk.specs.declared.examine.Examined.{Examined}
 use Rattle.disk.specs.Equal.{sameBytes}
@@ -21,11 +23,28 @@ slice-aggregate-examine-2 c = search needs
 examine-requires : tie.Need-examine-requires
 examine-requires c κs = search needs
 
+-- ---- the two disks, once their lengths are right, and where each was looked at
+
+abbrev one : tie.Else2 → List ℕ
+one l = l .before .before .before .before .args .a .now
+
+abbrev two : tie.Else2 → List ℕ
+two l = l .before .before .before .before .args .b .now
+
+abbrev lengths : tie.After-examine → tie.Else2
+lengths x = x .before .before .before
+
+abbrev first : tie.After-examine2 → tie.After-examine
+first y = y .before .before .before .before .before .before .before
+
+abbrev numberOf : Examined → ℕ
+numberOf r = r .number
+
 returns-3 : tie.Need-returns-3
 returns-3 c =
-    let a = c .before .before .before .before .before .before .before .before .before .before .before .args in
-    let n = ap (λ (r : Examined). r .number) (c .before .before .before .before .examine .ensures .0) in
-    sym (not-first (a .a .now) (a .b .now) (refused (a .a .now) (c .before .before .before .before .before .before .before .before .if1 .left) (λ z. c .if3 .taken (n ∙ z))))
+    let x = c .before .before .before .before in
+    let l = lengths x in
+    sym (not-first (one l) (two l) (refused (one l) (l .before .if1 .left) (λ z. c .if3 .taken (ap numberOf (x .examine .ensures .0) ∙ z))))
 
 slice-aggregate-examine-3 : tie.Need-slice-aggregate-examine-3
 slice-aggregate-examine-3 c = search needs
@@ -38,9 +57,9 @@ examine-requires-2 c κs = search needs
 
 returns-4 : tie.Need-returns-4
 returns-4 c =
-    let a = c .before .before .before .before .before .before .before .before .before .before .before .before .before .before .before .before .before .before .args in
-    let n = ap (λ (r : Examined). r .number) (c .before .before .before .before .examine2 .ensures .0) in
-    sym (not-second (a .a .now) (a .b .now) (refused (a .b .now) (c .before .before .before .before .before .before .before .before .before .before .before .before .before .before .if2 .left) (λ z. c .if4 .taken (n ∙ z))))
+    let y = c .before .before .before .before in
+    let l = lengths (first y) in
+    sym (not-second (one l) (two l) (refused (two l) (l .if2 .left) (λ z. c .if4 .taken (ap numberOf (y .examine2 .ensures .0) ∙ z))))
 
 slice-aggregate-same : tie.Need-slice-aggregate-same
 slice-aggregate-same c = search needs
@@ -53,12 +72,13 @@ same-requires c κs = search needs
 
 returns-5 : tie.Need-returns-5
 returns-5 c =
-    let a = c .before .before .before .before .before .before .before .before .before .before .before .before .before .before .before .before .before .before .before .before .before .args in
-    let x = c .before .before .before .before .before .before .before .before .before .before .before .before .before .before .examine .ensures in
-    let y = c .before .before .before .before .before .before .before .examine2 .ensures in
-    let p = taken (a .a .now) (c .before .before .before .before .before .before .before .before .before .before .before .before .before .before .before .before .before .before .if1 .left) (sym (ap (λ (r : Examined). r .number) (x .0)) ∙ c .before .before .before .before .before .before .before .before .before .before .if3 .left) in
-    let q = taken (a .b .now) (c .before .before .before .before .before .before .before .before .before .before .before .before .before .before .before .before .before .if2 .left) (sym (ap (λ (r : Examined). r .number) (y .0)) ∙ c .before .before .before .if4 .left) in
-    c .same .ensures ∙ (ap₂ sameBytes (x .1 .0) (y .1 .0) ∙ sym (both (a .a .now) (a .b .now) p q))
+    let y = c .before .before .before .before .before .before .before in
+    let l = lengths (first y) in
+    let e = first y .examine .ensures in
+    let f = y .examine2 .ensures in
+    let p = taken (one l) (l .before .if1 .left) (sym (ap numberOf (e .0)) ∙ y .before .before .before .if3 .left) in
+    let q = taken (two l) (l .if2 .left) (sym (ap numberOf (f .0)) ∙ c .before .before .before .if4 .left) in
+    c .same .ensures ∙ (ap₂ sameBytes (e .1 .0) (f .1 .0) ∙ sym (both (one l) (two l) p q))
 
 pub equal-spec : {M : Type 1} → statement M
 equal-spec =

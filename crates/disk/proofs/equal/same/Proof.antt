@@ -23,7 +23,9 @@ shared-slice-read-if1-2 : tie.Need-shared-slice-read-if1-2 Inv-loop μ-loop
 shared-slice-read-if1-2 c = omega (arith, c .before .before .before .before .pre)
 
 returns : tie.Need-returns Inv-loop μ-loop
-returns c = sym (c .before .before .before .before .loop .inv .1 ∙ same-not _ _ _ (c .before .before .before .loop-test .taken) (c .before .before .before .before .before .pre) (c .if1 .taken))
+returns c =
+    sym (c .before .before .before .before .loop .inv .1
+    ∙ same-not _ _ _ (c .before .before .before .loop-test .taken) (c .before .before .before .before .before .pre) (c .if1 .taken))
 
 add-i : tie.Need-add-i Inv-loop μ-loop
 add-i c = omega arith
@@ -32,8 +34,11 @@ loop-less : tie.Need-loop-less Inv-loop μ-loop
 loop-less c = omega (arith, c .before .before .before .loop-test .taken)
 
 loop-again : tie.Need-loop-again Inv-loop μ-loop
-loop-again c =
-    (omega (arith, c .before .before .before .loop-test .taken), c .before .before .before .before .loop .inv .1 ∙ same-go _ _ _ (c .before .before .before .loop-test .taken) (c .before .before .before .before .before .pre) (c .if1 .left))
+loop-again c = (
+  omega (arith, c .before .before .before .loop-test .taken),
+  c .before .before .before .before .loop .inv .1
+      ∙ same-go _ _ _ (c .before .before .before .loop-test .taken) (c .before .before .before .before .before .pre) (c .if1 .left),
+)
 
 returns-2 : tie.Need-returns-2 Inv-loop μ-loop
 returns-2 c = sym (c .before .loop .inv .1 ∙ same-end _ _ _ (c .loop-test .left) (c .before .before .pre))

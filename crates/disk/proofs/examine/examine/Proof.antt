@@ -31,7 +31,8 @@ same-length-2 c = search needs
 returns : tie.Need-returns
 returns c =
     let r = c .before .before .before .before .refuse .ensures in
-    let e = means-3 (c .before .before .before .before .before .before .before .before .before .before .before .before .args .disk .now) (c .before .before .before .before .before .before .before .if1 .taken) in
+    let e = means-3 (c .before .before .before .before .before .before .before .before .before .before .before .before .args .disk .now)
+    (c .before .before .before .before .before .before .before .if1 .taken) in
     answered e (r .0) (r .1 .0) (r .1 .1)
 
 load-requires : tie.Need-load-requires
@@ -55,7 +56,8 @@ returns-2 : tie.Need-returns-2
 returns-2 c =
     let l = c .before .before .before .before .before .before .before .before .before .before .before in
     let r = c .before .before .before .before .refuse2 .ensures in
-    let e = means-4 (entry l .args .disk .now) (l .before .before .if1 .left) (l .load .result) (l .load .last .1 .1 .0) (l .load .ensures .0) (l .load .ensures .1) (not-true _ (c .before .before .before .before .before .before .before .if2 .taken)) in
+    let e = means-4 (entry l .args .disk .now) (l .before .before .if1 .left) (l .load .result) (l .load .last .1 .1 .0) (l .load .ensures .0)
+    (l .load .ensures .1) (not-true _ (c .before .before .before .before .before .before .before .if2 .taken)) in
     answered e (r .0) (r .1 .0) (r .1 .1)
 
 abbrev loaded : tie.Else2 → tie.After-load
@@ -65,7 +67,8 @@ loaded c = c .before .before .before .before
 kept : (c : tie.Else2) → keepsRules (loaded c .load .result .image) ≡ true
 kept c =
     let l = loaded c in
-    keeps (entry l .args .disk .now) (l .before .before .if1 .left) (l .load .result) (l .load .last .1 .1 .0) (l .load .ensures .0) (l .load .ensures .1) (not-false _ (c .if2 .left))
+    keeps (entry l .args .disk .now) (l .before .before .if1 .left) (l .load .result) (l .load .last .1 .1 .0) (l .load .ensures .0) (l .load .ensures .1)
+    (not-false _ (c .if2 .left))
 
 start : (c : tie.Else2) → loaded c .load .result .image .logend ≤ 16384
 start c = image-logend (loaded c .load .result .image) (kept c)
@@ -96,6 +99,9 @@ recover-requires c κs =
 
 -- ---- the steps of the image that was loaded
 
+abbrev cleared : tie.After-recover → tie.After-fill-zero
+cleared c = c .before .before .before .before .before .before .before .before
+
 abbrev passed : tie.After-recover → tie.Else2
 passed c = c .before .before .before .before .before .before .before .before .before .before
 
@@ -112,9 +118,12 @@ abbrev diskAt : tie.After-recover → List ℕ
 diskAt c = begun c .args .disk .now
 
 steps : (c : tie.After-recover)
-    → recoverOf (imageAt c) (take (length (diskAt c) - (17307 + imageAt c .logend)) (drop (17307 + imageAt c .logend) (diskAt c))) (memoryAt c) (c .before .before .before .before .before .before .before .before .fill-zero .last .0)
+    → recoverOf (imageAt c) (take (length (diskAt c) - (17307 + imageAt c .logend)) (drop (17307 + imageAt c .logend) (diskAt c))) (memoryAt c)
+    (cleared c .fill-zero .last .0)
     ≡ stepsOf (imageAt c) (memoryAt c) (diskAt c)
-steps c = steps-are (imageAt c) (diskAt c) (memoryAt c) _ (c .before .before .before .before .before .before .before .before .fill-zero .ensures ∙ ap (λ (n : ℕ). replicate n 0) (begun c .pre .2))
+steps c =
+    steps-are (imageAt c) (diskAt c) (memoryAt c) _
+    (cleared c .fill-zero .ensures ∙ ap (λ (n : ℕ). replicate n 0) (begun c .pre .2))
 
 found : (c : tie.After-recover) → c .recover .result ≡ stepsOf (imageAt c) (memoryAt c) (diskAt c) .answer
 found c = c .recover .ensures .0 ∙ ap (λ (o : Outcome). o .answer) (steps c)
@@ -131,12 +140,16 @@ ends c = omega (arith, end-within (imageAt c) (kept (passed c)) (memoryAt c) (di
 few : (c : tie.After-recover) → c .recover .result .undone ≤ 16
 few c = omega (arith, undone-within (imageAt c) (kept (passed c)) (memoryAt c) (diskAt c) (begun c .pre .0), ap (λ (r : Recovered). r .undone) (found c))
 
+-- number 5 refuses after the steps
+abbrev recovered : tie.After-refuse3 → tie.After-recover
+recovered c = c .before .before .before .before .before .before .before .before .before .before
+
 -- the lengths are kept
 memory-whole : (c : tie.After-recover) → length (c .recover .last .1 .1 .0) ≡ 4096
 memory-whole c = c .recover .kept .1 .1 .0 ∙ (loaded (passed c) .load .kept .1 .1 .0 ∙ begun c .pre .1)
 
 tail-whole : (c : tie.After-recover) → length (c .recover .last .1 .1 .1 .0) ≡ 16384
-tail-whole c = c .recover .kept .1 .1 .1 .0 ∙ (c .before .before .before .before .before .before .before .before .fill-zero .kept .0 ∙ begun c .pre .2)
+tail-whole c = c .recover .kept .1 .1 .1 .0 ∙ (cleared c .fill-zero .kept .0 ∙ begun c .pre .2)
 
 add-end : tie.Need-add-end
 add-end c = omega (arith, ends (c .before .before .before .before .before))
@@ -151,19 +164,28 @@ refuse-requires-3 : tie.Need-refuse-requires-3
 refuse-requires-3 c κs = let x = c .before .before .before .before .before .before .before .before .before in (memory-whole x, tail-whole x)
 
 same-length-5 : tie.Need-same-length-5
-same-length-5 c = let x = c .before .before .before .before .before .before .before .before .before .before .before .before .before .before in c .before .before .before .before .refuse3 .kept .1 .0 ∙ (memory-whole x ∙ sym (begun x .pre .1))
+same-length-5 c =
+    let r = c .before .before .before .before in
+    let x = recovered r in
+    r .refuse3 .kept .1 .0 ∙ (memory-whole x ∙ sym (begun x .pre .1))
 
 same-length-6 : tie.Need-same-length-6
-same-length-6 c = let x = c .before .before .before .before .before .before .before .before .before .before .before .before .before .before in c .before .before .before .before .refuse3 .kept .1 .1 .0 ∙ (tail-whole x ∙ sym (begun x .pre .2))
+same-length-6 c =
+    let r = c .before .before .before .before in
+    let x = recovered r in
+    r .refuse3 .kept .1 .1 .0 ∙ (tail-whole x ∙ sym (begun x .pre .2))
 
 returns-3 : tie.Need-returns-3
 returns-3 c =
-    let x = c .before .before .before .before .before .before .before .before .before .before .before .before .before .before in
+    let five = c .before .before .before .before in
+    let x = recovered five in
     let l = loaded (passed x) in
-    let r = c .before .before .before .before .refuse3 .ensures in
-    let f = found x in
-    let e = means-5 (diskAt x) (l .before .before .if1 .left) (l .load .result) (memoryAt x) (l .load .ensures .0) (l .load .ensures .1) (not-false _ (passed x .if2 .left))
-    (omega (arith, c .before .before .before .before .before .before .before .if3 .taken, ap (λ (y : Recovered). y .end) f, ap (λ (y : Recovered). y .undone) f)) in
+    let r = five .refuse3 .ensures in
+    let end = ap (λ (y : Recovered). y .end) (found x) in
+    let undone = ap (λ (y : Recovered). y .undone) (found x) in
+    let e = means-5 (diskAt x) (l .before .before .if1 .left) (l .load .result) (memoryAt x) (l .load .ensures .0) (l .load .ensures .1)
+    (not-false _ (passed x .if2 .left))
+    (omega (arith, five .before .before .before .if3 .taken, end, undone)) in
     answered e (r .0) (r .1 .0) (r .1 .1)
 
 same-length-7 : tie.Need-same-length-7
@@ -177,7 +199,8 @@ returns-4 c =
     let x = c .before .before .before .before .before .before .before .before .before .before in
     let l = loaded (passed x) in
     let f = found x in
-    let e = means (diskAt x) (l .before .before .if1 .left) (l .load .result) (memoryAt x) (l .load .ensures .0) (l .load .ensures .1) (not-false _ (passed x .if2 .left))
+    let e = means (diskAt x) (l .before .before .if1 .left) (l .load .result) (memoryAt x) (l .load .ensures .0) (l .load .ensures .1)
+    (not-false _ (passed x .if2 .left))
     (omega (arith, c .before .before .before .if3 .left, ap (λ (y : Recovered). y .end) f, ap (λ (y : Recovered). y .undone) f)) in
     answered e
     (ap (λ (y : Recovered). record { number = 0; end = imageAt x .logend + y .end; csn = y .csn; last = y .last; undone = y .undone; found = y .found }) f)

@@ -24,9 +24,11 @@ same-length c = search needs
 
 returns : tie.Need-returns
 returns c =
-    let e = load-none (c .before .before .before .before .before .before .before .before .args .pointer) (c .before .before .before .before .before .before .before .before .args .disk .now) (c .before .before .before .before .before .if1 .taken) in (
+    let start = c .before .before .before .before .before .before .before .before in
+    let e = load-none (start .args .pointer) (start .args .disk .now) (c .before .before .before .before .before .if1 .taken) in (
       ap (λ (i : Image). record { ok = true; image = i }) (c .empty .ensures) ∙ sym (ap (λ (l : Loaded). l .decoded) e),
-      c .before .before .before .fill-zero .ensures ∙ ap (λ (n : ℕ). replicate n 0) (c .before .before .before .before .before .before .before .before .pre .1) ∙ sym (ap (λ (l : Loaded). l .memory) e),
+      c .before .before .before .fill-zero .ensures
+          ∙ ap (λ (n : ℕ). replicate n 0) (start .pre .1) ∙ sym (ap (λ (l : Loaded). l .memory) e),
     )
 
 image-at-requires : tie.Need-image-at-requires
@@ -64,7 +66,8 @@ part-decode-start : tie.Need-part-decode-start
 part-decode-start c = search needs
 
 part-decode-end : tie.Need-part-decode-end
-part-decode-end c = omega (arith, slot (c .before .before .before .before .before), c .before .before .before .before .before .before .before .before .before .pre .0)
+part-decode-end c =
+    omega (arith, slot (c .before .before .before .before .before), c .before .before .before .before .before .before .before .before .before .pre .0)
 
 decode-requires : tie.Need-decode-requires
 decode-requires c κs = search needs
@@ -74,16 +77,18 @@ same-length-2 c = search needs
 
 returns-2 : tie.Need-returns-2
 returns-2 c =
-    let a = c .before .before .before .before .before .before .before .before .before .before .before .args in
-    let e = load-image (a .pointer) (a .disk .now) (c .before .before .before .before .before .before .before .before .if1 .left) in
-    let f = c .before .before .before .before .before .before .before .image-at .result in
-    let s : f ≡ imageAt (a .pointer) = c .before .before .before .before .before .before .before .image-at .ensures in
+    let x = c .before .before .before .before .before .before .before in
+    let start = x .before .before .before .before in
+    let a = start .args in
+    let e = load-image (a .pointer) (a .disk .now) (x .before .if1 .left) in
+    let f = x .image-at .result in
+    let s : f ≡ imageAt (a .pointer) = x .image-at .ensures in
     let z : f + 8653 - f ≡ 8653 = omega arith in (
       c .decode .ensures
           ∙ ap decodeOf (ap₂ (λ (n k : ℕ). take n (drop k (a .disk .now))) z s)
           ∙ sym (ap (λ (l : Loaded). l .decoded) e),
       c .before .before .before .before .copy .ensures
-          ∙ memory-loaded _ (a .disk .now) (a .memory .now) (slot (c .before .before .before .before .before .before .before)) (c .before .before .before .before .before .before .before .before .before .before .before .pre .0) (c .before .before .before .before .before .before .before .before .before .before .before .pre .1)
+          ∙ memory-loaded _ (a .disk .now) (a .memory .now) (slot x) (start .pre .0) (start .pre .1)
           ∙ ap (λ (k : ℕ). memoryOf (take 8653 (drop k (a .disk .now)))) s
           ∙ sym (ap (λ (l : Loaded). l .memory) e),
     )

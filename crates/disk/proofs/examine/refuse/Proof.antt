@@ -20,13 +20,14 @@ same-length-2 c = search needs
 
 returns : tie.Need-returns
 unfolding refusedBy
-returns c = (
-  refl,
-  (
-    c .before .before .before .before .before .before .fill-zero .ensures ∙ ap (λ (n : ℕ). replicate n 0) (c .before .before .before .before .before .before .before .before .before .before .pre .0),
-    c .before .before .fill-zero2 .ensures ∙ ap (λ (n : ℕ). replicate n 0) (c .before .before .before .before .before .before .before .before .before .before .pre .1),
-  ),
-)
+returns c =
+    let start = c .before .before .before .before .before .before .before .before .before .before in (
+      refl,
+      (
+        c .before .before .before .before .before .before .fill-zero .ensures ∙ ap (λ (n : ℕ). replicate n 0) (start .pre .0),
+        c .before .before .fill-zero2 .ensures ∙ ap (λ (n : ℕ). replicate n 0) (start .pre .1),
+      ),
+    )
 
 pub refuse-spec : {M : Type 1} → statement M
 refuse-spec =
