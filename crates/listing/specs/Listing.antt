@@ -36,3 +36,7 @@ pub record Listed (text : List ℕ) (r : ℕ) (out : List ℕ) : Type 0 where
   pub bytes : out ≡ padded text
   pub within : r ≤ length out
   pub part : r ≡ length (take r out)
+
+-- whatever the whole input is, if the first `count` bytes of the buffer are it, or as much of it as the buffer holds: its text
+abbrev pub ListedWhole : List ℕ → ℕ → ℕ → List ℕ → Type 0
+ListedWhole buffer count r out = (whole : List ℕ) → take count buffer ≡ take (length buffer) whole → Listed (listingOf whole) r out

@@ -6,9 +6,11 @@ use crate::text::put_line;
 use disk::call::restart;
 use log::stores::fill_zero;
 use store::Answer;
+ghost use mathlib.Core.List.{_++_};
 ghost use mathlib.Core.Path.{_≡_};
+ghost use lib.ListN.{take, drop};
 ghost use Rattle.disk.specs.Layout.{pointerOf};
-ghost use Rattle.listing.specs.Listing.{restarted, listingOf, Listed};
+ghost use Rattle.listing.specs.Listing.{restarted, listingOf, Listed, ListedWhole};
 
 // 0 of no bytes at all, which restart refuses.
 fn pointer_of(disk: &[u8]) -> u8
@@ -36,4 +38,25 @@ pub fn list(disk: &mut [u8], out: &mut [u8; 64]) -> usize
     }
     let state = found.state;
     put_found(out, pointer, state, found.undone)
+}
+
+// The text of the first count bytes, or of all if there are fewer.
+fn list_front(buffer: &mut [u8], count: usize, out: &mut [u8; 64]) -> usize
+    ensures { λ r. ⌜ Listed (listingOf (take count (now (buffer .entry)))) r (now (out .exit)) ⌝ }
+    ensures { λ _. ⌜ now (buffer .exit) ≡ restarted (take count (now (buffer .entry))) .disk ++ drop count (now (buffer .entry)) ⌝ }
+{
+    if buffer.len() <= count {
+        return list(buffer, out);
+    }
+    list(&mut buffer[..count], out)
+}
+
+// The text of a whole input, of which count bytes were read into the front of the buffer. That has one byte more than a disk, so that an input
+// too long is seen to be one: a shorter buffer would not keep the first promise.
+pub fn list_input(buffer: &mut [u8; 33692], count: usize, out: &mut [u8; 64]) -> usize
+    ensures { λ r. ⌜ ListedWhole (now (buffer .entry)) count r (now (out .exit)) ⌝ }
+    ensures { λ r. ⌜ Listed (listingOf (take count (now (buffer .entry)))) r (now (out .exit)) ⌝ }
+    ensures { λ _. ⌜ now (buffer .exit) ≡ restarted (take count (now (buffer .entry))) .disk ++ drop count (now (buffer .entry)) ⌝ }
+{
+    list_front(buffer, count, out)
 }
