@@ -7,11 +7,15 @@ use crate::print::memory_places;
 use crate::print::number;
 use crate::print::text;
 use disk::call::restart;
+use layout::DISK_LEN;
+use layout::LOG_LEN;
+use layout::MEMORY_LEN;
+use layout::TAIL_LEN;
 use log::TxId;
 use store::State;
 
 fn start(disk: &mut [u8], memory: &mut [u8], tail: &mut [u8]) -> State {
-    let x = restart(disk, memory, tail, 16384);
+    let x = restart(disk, memory, tail, LOG_LEN);
     let answer = x.answer;
     call(b"restart", answer);
     text(b" after ");
@@ -79,11 +83,11 @@ fn book(
 // How many stores a flush of the whole tail needs, found out on copies.
 fn stores_needed(
     s: State,
-    mut disk: [u8; 33691],
-    mut memory: [u8; 4096],
-    mut tail: [u8; 16384],
+    mut disk: [u8; DISK_LEN],
+    mut memory: [u8; MEMORY_LEN],
+    mut tail: [u8; TAIL_LEN],
 ) -> usize {
-    let x = s.flush(&mut disk, &mut memory, &mut tail, 16384, 16384);
+    let x = s.flush(&mut disk, &mut memory, &mut tail, LOG_LEN, LOG_LEN);
     x.stores
 }
 
@@ -95,7 +99,7 @@ fn flush(
     allowed: usize,
     needed: usize,
 ) -> State {
-    let x = s.flush(disk, memory, tail, 16384, allowed);
+    let x = s.flush(disk, memory, tail, LOG_LEN, allowed);
     let answer = x.answer;
     call(b"flush", answer);
     text(b" after ");
@@ -115,15 +119,15 @@ fn try_begin(s: State, memory: &[u8], tail: &[u8]) {
 }
 
 fn main() {
-    let mut disk = [0u8; 33691];
-    let mut memory = [0u8; 4096];
-    let mut tail = [0u8; 16384];
+    let mut disk = [0u8; DISK_LEN];
+    let mut memory = [0u8; MEMORY_LEN];
+    let mut tail = [0u8; TAIL_LEN];
     text(b"A fresh disk: 33691 zero bytes.\n");
     let mut s = start(&mut disk, &mut memory, &mut tail);
     text(b"\nThe first booking: three writes together, on disk after the flush.\n");
     s = book(s, &mut memory, &mut tail, b"pane 7", b"lead 12 mm", b"ruby");
     let first = stores_needed(s, disk, memory, tail);
-    s = flush(s, &mut disk, &mut memory, &mut tail, 16384, first);
+    s = flush(s, &mut disk, &mut memory, &mut tail, LOG_LEN, first);
     memory_places(&memory);
     text(
         b"\nThe second booking, at the same places; the power fails in the middle of its flush.\n",

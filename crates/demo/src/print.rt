@@ -1,4 +1,6 @@
 // What the story is told with: plain text on standard output.
+use layout::DISK_LEN;
+use layout::MEMORY_LEN;
 use libc::STDOUT_FILENO;
 use listing::list;
 use store::Answer;
@@ -56,7 +58,7 @@ fn place(addr: usize, s: &[u8]) {
 }
 
 // The three places that the bookings write.
-pub(crate) fn memory_places(memory: &[u8; 4096]) {
+pub(crate) fn memory_places(memory: &[u8; MEMORY_LEN]) {
     text(b"  memory:\n");
     let m = &memory[..];
     place(100, &m[100..106]);
@@ -65,7 +67,7 @@ pub(crate) fn memory_places(memory: &[u8; 4096]) {
 }
 
 // disklist's lines, of a copy of the disk.
-pub(crate) fn listing(mut disk: [u8; 33691]) {
+pub(crate) fn listing(mut disk: [u8; DISK_LEN]) {
     let mut out = [0u8; 64];
     let n = list(&mut disk, &mut out);
     text(&out[..n]);

@@ -1,13 +1,13 @@
 // disklist: one disk on standard input; what restart finds on it is printed (document 01, "Program disklist"). Crate `listing` proves the text.
 use libc::STDIN_FILENO;
 use libc::STDOUT_FILENO;
-use listing::list;
+use listing::INPUT_LEN;
+use listing::list_input;
 
 fn main() {
-    // One byte more than a disk has, so that a longer input is seen to be one.
-    let mut input = [0u8; 33692];
+    let mut input = [0u8; INPUT_LEN];
     let n = io::read_full(STDIN_FILENO, &mut input);
     let mut text = [0u8; 64];
-    let k = list(&mut input[..n], &mut text);
+    let k = list_input(&mut input, n, &mut text);
     io::write_all(STDOUT_FILENO, &text[..k]);
 }

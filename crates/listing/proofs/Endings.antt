@@ -1,13 +1,14 @@
--- How a restart with 16,384 stores allowed ends: refused or done.
-use Prim.Native.Nat.{ℕ, _≤_}
+-- How a restart with 16,384 stores allowed ends, refused or done, and what text that gives.
+use Prim.Native.Nat.{ℕ, _<_, _≤_}
 use native.Mathlib.Omega.{arith}
 use mathlib.Core.Bool.{Bool, true, false}
 use mathlib.Core.List.{List, [], _∷_}
 use mathlib.Core.Logic.{⊎-elim}
-use mathlib.Core.Path.{_≡_, refl, ap, _∙_}
-use lib.ListN.{length, replicate, length-replicate}
-use lib.Dec.{eqb}
-use borrow.Author.Tests.{eqb-true, eqb-false}
+use mathlib.Core.Path.{_≡_, refl, sym, ap, _∙_, subst}
+use lib.ListN.{length, take, replicate, length-replicate, length-take}
+use lib.Seq.{take-all}
+use lib.Dec.{eqb, ltb}
+use borrow.Author.Tests.{eqb-true, eqb-false, ne-eqb, ltb-true, ltb-false}
 use types.Run.{OneOf}
 use denote.Enum.Declared.{tagOf}
 use Rattle.log.proofs.Basics.{clash}
@@ -20,11 +21,11 @@ use Rattle.store.specs.Stored.{DiskOutcome}
 use Rattle.disk.specs.declared.call.Restarted.{Restarted}
 use Rattle.disk.specs.Layout.{pointerOf}
 use Rattle.disk.specs.Examine.{examineOf}
-use Rattle.disk.specs.Restart.{ofRestarted, refusedRestart}
+use Rattle.disk.specs.Restart.{ofRestarted, refusedRestart, restartOf}
 use Rattle.disk.proofs.Examining.{roomy}
 use Rattle.disk.proofs.Restarting.{doneFrom, restart-1, restart-refused, restart-done}
 use Rattle.listing.specs.Text.{foundText, refusedText}
-use Rattle.listing.specs.Listing.{restartWhole, listingOf}
+use Rattle.listing.specs.Listing.{restartWhole, listingOf, Listed}
 
 pub data Ending (disk : List ℕ) : Type 0 where
   refused : (n : ℕ) → restartWhole disk .result ≡ refusedRestart n → Ending disk
@@ -98,3 +99,26 @@ module _ (disk : List ℕ) (r : Restarted) (e : ofRestarted r ≡ restartWhole d
       go : Ending disk → Found pointer
       go (refused n x) = absurd (refused-tag n (r .answer) (ap (λ (y : Told). y .says) (e ∙ x)) k)
       go (done x) = listing-done pointer p (ap (λ (y : Told). y .says) e ∙ ap (λ (o : DiskOutcome). o .result .says) x)
+
+pub listed : {x y out : List ℕ} {r : ℕ} → x ≡ y → Listed x r out → Listed y r out
+listed {out = out} {r} e l = subst (λ (text : List ℕ). Listed text r out) e l
+
+-- ---- an input of any length, read into a buffer
+
+-- a wrong length is number 1
+listing-1 : (disk : List ℕ) → (length disk ≡ 33691 → ⊥) → listingOf disk ≡ refusedText 1
+unfolding listingOf restartOf
+listing-1 disk l = rw (ne-eqb (length disk) 33691 l)
+
+-- 33,692 bytes of an input tell as much as all of them
+front-tells : (whole : List ℕ) → listingOf (take 33692 whole) ≡ listingOf whole
+front-tells whole = go (ltb 33692 (length whole)) refl
+  where
+    go : (b : Bool) → ltb 33692 (length whole) ≡ b → listingOf (take 33692 whole) ≡ listingOf whole
+    go false p = ap listingOf (take-all 33692 whole (ltb-false 33692 (length whole) p))
+    go true p =
+        let longer : 33692 < length whole = ltb-true 33692 (length whole) p in
+        listing-1 (take 33692 whole) (λ e. omega (arith, e, longer, length-take 33692 whole)) ∙ sym (listing-1 whole (λ e. omega (arith, e, longer)))
+
+pub read-tells : (buffer : List ℕ) (count : ℕ) (whole : List ℕ) → length buffer ≡ 33692 → take count buffer ≡ take (length buffer) whole → listingOf (take count buffer) ≡ listingOf whole
+read-tells buffer count whole l e = ap listingOf (e ∙ ap (λ (n : ℕ). take n whole) l) ∙ front-tells whole

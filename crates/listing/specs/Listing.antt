@@ -3,6 +3,7 @@ use Prim.Native.Nat.{ℕ, _-_, _≤_}
 use mathlib.Core.List.{List, [], _++_}
 use mathlib.Core.Path.{_≡_}
 use lib.ListN.{length, take, replicate}
+use Rattle.layout.specs.{memoryLen, tailLen, logLen}
 use Rattle.store.specs.Answer.{Word, done, cut, refused, Told}
 use Rattle.store.specs.Stored.{DiskOutcome}
 use Rattle.disk.specs.Layout.{pointerOf}
@@ -11,7 +12,7 @@ use Rattle.listing.specs.Text.{foundText, refusedText}
 
 -- the log has 16,384 bytes, so no restart needs more stores
 abbrev pub restartWhole : List ℕ → DiskOutcome
-restartWhole disk = restartOf disk (replicate 4096 0) (replicate 16384 0) 16384
+restartWhole disk = restartOf disk (replicate memoryLen 0) (replicate tailLen 0) logLen
 
 -- it is never cut: `uncut` (proofs/Endings.antt)
 abbrev pub textOf : ℕ → Told → Word → List ℕ
@@ -34,3 +35,7 @@ pub record Listed (text : List ℕ) (r : ℕ) (out : List ℕ) : Type 0 where
   pub bytes : out ≡ padded text
   pub within : r ≤ length out
   pub part : r ≡ length (take r out)
+
+-- whatever the whole input is, if the first `count` bytes of the buffer are it, or as much of it as the buffer holds: its text
+abbrev pub ListedWhole : List ℕ → ℕ → ℕ → List ℕ → Type 0
+ListedWhole buffer count r out = (whole : List ℕ) → take count buffer ≡ take (length buffer) whole → Listed (listingOf whole) r out

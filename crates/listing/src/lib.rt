@@ -4,11 +4,17 @@ mod text;
 use crate::text::put_found;
 use crate::text::put_line;
 use disk::call::restart;
+use layout::DISK_LEN;
+use layout::LOG_LEN;
+use layout::MEMORY_LEN;
+use layout::TAIL_LEN;
 use log::stores::fill_zero;
 use store::Answer;
+ghost use mathlib.Core.List.{_++_};
 ghost use mathlib.Core.Path.{_≡_};
+ghost use lib.ListN.{take, drop};
 ghost use Rattle.disk.specs.Layout.{pointerOf};
-ghost use Rattle.listing.specs.Listing.{restartWhole, listingOf, Listed};
+ghost use Rattle.listing.specs.Listing.{restartWhole, listingOf, Listed, ListedWhole};
 
 // 0 of no bytes at all, which restart refuses.
 fn pointer_of(disk: &[u8]) -> u8
@@ -26,9 +32,9 @@ pub fn list(disk: &mut [u8], out: &mut [u8; 64]) -> usize
     ensures { λ _. ⌜ now (disk .exit) ≡ restartWhole (now (disk .entry)) .disk ⌝ }
 {
     let pointer = pointer_of(&*disk);
-    let mut memory = [0u8; 4096];
-    let mut tail = [0u8; 16384];
-    let found = restart(disk, &mut memory, &mut tail, 16384);
+    let mut memory = [0u8; MEMORY_LEN];
+    let mut tail = [0u8; TAIL_LEN];
+    let found = restart(disk, &mut memory, &mut tail, LOG_LEN);
     let answer = found.answer;
     fill_zero(out);
     if let Answer::Refused(number) = answer {
@@ -36,4 +42,27 @@ pub fn list(disk: &mut [u8], out: &mut [u8; 64]) -> usize
     }
     let state = found.state;
     put_found(out, pointer, state, found.undone)
+}
+
+// The text of the first count bytes, or of all if there are fewer.
+fn list_front(buffer: &mut [u8], count: usize, out: &mut [u8; 64]) -> usize
+    ensures { λ r. ⌜ Listed (listingOf (take count (now (buffer .entry)))) r (now (out .exit)) ⌝ }
+    ensures { λ _. ⌜ now (buffer .exit) ≡ restartWhole (take count (now (buffer .entry))) .disk ++ drop count (now (buffer .entry)) ⌝ }
+{
+    if buffer.len() <= count {
+        return list(buffer, out);
+    }
+    list(&mut buffer[..count], out)
+}
+
+// One byte more than a disk has, so that an input too long is seen to be one: a shorter buffer would not keep `list_input`'s first promise.
+pub const INPUT_LEN: usize = DISK_LEN + 1;
+
+// The text of a whole input, of which count bytes were read into the front of the buffer.
+pub fn list_input(buffer: &mut [u8; INPUT_LEN], count: usize, out: &mut [u8; 64]) -> usize
+    ensures { λ r. ⌜ ListedWhole (now (buffer .entry)) count r (now (out .exit)) ⌝ }
+    ensures { λ r. ⌜ Listed (listingOf (take count (now (buffer .entry)))) r (now (out .exit)) ⌝ }
+    ensures { λ _. ⌜ now (buffer .exit) ≡ restartWhole (take count (now (buffer .entry))) .disk ++ drop count (now (buffer .entry)) ⌝ }
+{
+    list_front(buffer, count, out)
 }

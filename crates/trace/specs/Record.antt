@@ -1,4 +1,4 @@
--- The 64 bytes of a record of the stream (docs/TESTING.md), numbers highest byte first.
+-- The 64 bytes of a record of the stream (docs/STREAM.md), numbers highest byte first.
 use Prim.Native.Nat.{ℕ, min}
 use mathlib.Core.Bool.{cond}
 use mathlib.Core.List.{List, []}

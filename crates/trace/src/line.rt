@@ -4,13 +4,17 @@ use store::Answer;
 use store::State;
 ghost use mathlib.Core.Path.{_≡_};
 ghost use Rattle.trace.specs.Adler.{adlerOf};
-ghost use Rattle.trace.specs.Outcome.{storedOf, readOf};
+ghost use Rattle.trace.specs.Outcome.{storedOf, readOf, comparedOf};
 
-// read prints the length of its part in place of an answer; each other call prints its answer.
+// A line's second field: a call's answer, the length of read's part, or whether two disks are equal in meaning.
+pub enum Told {
+    Answered(Answer),
+    Part(usize),
+    Equal(bool),
+}
+
 pub struct Outcome {
-    pub part: bool,
-    pub length: usize,
-    pub answer: Answer,
+    pub told: Told,
     pub value: usize,
     pub stores: usize,
     pub state: State,
@@ -21,9 +25,7 @@ impl Outcome {
         ensures { λ r. ⌜ r ≡ storedOf answer value stores state ⌝ }
     {
         Outcome {
-            part: false,
-            length: 0,
-            answer: answer,
+            told: Told::Answered(answer),
             value: value,
             stores: stores,
             state: state,
@@ -34,10 +36,19 @@ impl Outcome {
         ensures { λ r. ⌜ r ≡ readOf (now (part .entry)) state ⌝ }
     {
         Outcome {
-            part: true,
-            length: part.len(),
-            answer: Answer::Done,
+            told: Told::Part(part.len()),
             value: adler(part) as usize,
+            stores: 0,
+            state: state,
+        }
+    }
+
+    pub(crate) fn compared(equal: bool, state: State) -> Self
+        ensures { λ r. ⌜ r ≡ comparedOf equal state ⌝ }
+    {
+        Outcome {
+            told: Told::Equal(equal),
+            value: 0,
             stores: 0,
             state: state,
         }
@@ -102,6 +113,25 @@ fn print_answer(answer: Answer) {
     }
 }
 
+fn print_told(told: Told) {
+    match told {
+        Told::Answered(answer) => {
+            print_answer(answer);
+        }
+        Told::Part(length) => {
+            text(b" part=");
+            number(length);
+        }
+        Told::Equal(equal) => {
+            if equal {
+                text(b" yes");
+            } else {
+                text(b" no");
+            }
+        }
+    }
+}
+
 // Recovered, log end, number on disk, number assigned, last id, transactions listed.
 fn print_state(s: State) {
     if s.recovered {
@@ -119,13 +149,8 @@ fn print_state(s: State) {
 
 pub(crate) fn print_line(call: u8, out: Outcome, disk: &[u8], memory: &[u8], tail: &[u8]) {
     number(call as usize);
-    if out.part {
-        text(b" part=");
-        number(out.length);
-    } else {
-        let answer = out.answer;
-        print_answer(answer);
-    }
+    let told = out.told;
+    print_told(told);
     blank_number(out.value);
     blank_number(out.stores);
     blank_number(adler(disk) as usize);

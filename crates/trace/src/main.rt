@@ -1,4 +1,4 @@
-// trace: a stream of calls on standard input, 64 bytes each; after each call one line of what it answered and left (docs/TESTING.md).
+// trace: a stream of calls on standard input, 64 bytes each; after each call one line of what it answered and left (docs/STREAM.md).
 mod line;
 mod record;
 
@@ -9,6 +9,10 @@ use crate::record::Record;
 use crate::record::data_of;
 use crate::record::read_record;
 use disk::call::restart;
+use disk::equal::equal;
+use layout::DISK_LEN;
+use layout::MEMORY_LEN;
+use layout::TAIL_LEN;
 use libc::STDIN_FILENO;
 use log::stores::copy;
 use log::stores::fill;
@@ -17,30 +21,23 @@ use store::State;
 ghost use mathlib.Core.Path.{_≡_};
 ghost use lib.Seq.{sets};
 
-// Stores the bytes of src from an offset on, those that lie on the disk: `sets` leaves out what is past the end.
-fn damage(disk: &mut [u8], at: usize, src: &[u8])
-    ensures { λ _. ⌜ now (disk .exit) ≡ sets (now (disk .entry)) at (now (src .entry)) ⌝ }
+// Stores the bytes of src from an offset on, those that lie within dst: `sets` leaves out what is past the end.
+fn lay(dst: &mut [u8], at: usize, src: &[u8])
+    ensures { λ _. ⌜ now (dst .exit) ≡ sets (now (dst .entry)) at (now (src .entry)) ⌝ }
 {
-    if disk.len() <= at {
+    if dst.len() <= at {
         return;
     }
-    let room = disk.len() - at;
+    let room = dst.len() - at;
     if room < src.len() {
-        copy(disk, at, &src[..room]);
+        copy(dst, at, &src[..room]);
         return;
     }
-    copy(disk, at, src);
+    copy(dst, at, src);
 }
 
-// The calls that store on the disk, and what befalls it.
-fn disk_call(
-    r: Record,
-    data: &[u8],
-    s: State,
-    disk: &mut [u8],
-    memory: &mut [u8],
-    tail: &mut [u8],
-) -> Outcome {
+// The calls that store on the disk.
+fn disk_call(r: Record, s: State, disk: &mut [u8], memory: &mut [u8], tail: &mut [u8]) -> Outcome {
     if r.call == 7 {
         let x = s.flush(disk, memory, tail, r.groups, r.allowed);
         let answer = x.answer;
@@ -53,20 +50,37 @@ fn disk_call(
         let state = x.state;
         return Outcome::stored(answer, 0, x.stores, state);
     }
-    if r.call == 10 {
-        let x = restart(disk, memory, tail, r.allowed);
-        let answer = x.answer;
-        let state = x.state;
-        return Outcome::stored(answer, x.undone, x.stores, state);
-    }
+    let x = restart(disk, memory, tail, r.allowed);
+    let answer = x.answer;
+    let state = x.state;
+    Outcome::stored(answer, x.undone, x.stores, state)
+}
+
+// What befalls the store between calls, and whether its disk means what the kept one does.
+fn stream_call(
+    r: Record,
+    data: &[u8],
+    s: State,
+    disk: &mut [u8],
+    kept: &mut [u8],
+    memory: &mut [u8],
+    tail: &mut [u8],
+) -> Outcome {
     if r.call == 11 {
         fill(memory, 165);
         fill(tail, 165);
         let none = State::unrecovered();
         return Outcome::stored(Answer::Done, 0, 0, none);
     }
-    damage(disk, r.addr, data);
-    Outcome::stored(Answer::Done, 0, 0, s)
+    if r.call == 12 {
+        lay(disk, r.addr, data);
+        return Outcome::stored(Answer::Done, 0, 0, s);
+    }
+    if r.call == 13 {
+        lay(kept, 0, &*disk);
+        return Outcome::stored(Answer::Done, 0, 0, s);
+    }
+    Outcome::compared(equal(&*disk, &*kept), s)
 }
 
 // The calls that work in memory.
@@ -113,35 +127,44 @@ fn memory_call(r: Record, data: &[u8], s: State, memory: &mut [u8], tail: &mut [
 }
 
 // One record: the call, its line, and the state that it leaves.
-fn step(bytes: &[u8], s: State, disk: &mut [u8], memory: &mut [u8], tail: &mut [u8]) -> State {
+fn step(
+    bytes: &[u8],
+    s: State,
+    disk: &mut [u8],
+    kept: &mut [u8],
+    memory: &mut [u8],
+    tail: &mut [u8],
+) -> State {
     let r = read_record(bytes);
     let call = r.call;
-    if call < 1 {
-        print_unknown();
-        return s;
+    match call {
+        7 | 9 | 10 => {
+            let out = disk_call(r, s, disk, memory, tail);
+            print_line(call, out, &*disk, &*memory, &*tail);
+            out.state
+        }
+        1..=6 | 8 => {
+            let out = memory_call(r, data_of(bytes), s, memory, tail);
+            print_line(call, out, &*disk, &*memory, &*tail);
+            out.state
+        }
+        11..=14 => {
+            let out = stream_call(r, data_of(bytes), s, disk, kept, memory, tail);
+            print_line(call, out, &*disk, &*memory, &*tail);
+            out.state
+        }
+        _ => {
+            print_unknown();
+            s
+        }
     }
-    if 12 < call {
-        print_unknown();
-        return s;
-    }
-    let mut on_disk = call == 7;
-    if 8 < call {
-        on_disk = true;
-    }
-    if on_disk {
-        let out = disk_call(r, data_of(bytes), s, disk, memory, tail);
-        print_line(call, out, &*disk, &*memory, &*tail);
-        return out.state;
-    }
-    let out = memory_call(r, data_of(bytes), s, memory, tail);
-    print_line(call, out, &*disk, &*memory, &*tail);
-    out.state
 }
 
 fn main() {
-    let mut disk = [0u8; 33691];
-    let mut memory = [0u8; 4096];
-    let mut tail = [0u8; 16384];
+    let mut disk = [0u8; DISK_LEN];
+    let mut kept = [0u8; DISK_LEN];
+    let mut memory = [0u8; MEMORY_LEN];
+    let mut tail = [0u8; TAIL_LEN];
     let mut record = [0u8; 64];
     let mut s = State::unrecovered();
     // A proved loop ends: it counts down from a number that no stream uses up.
@@ -152,6 +175,6 @@ fn main() {
         if n < 64 {
             return;
         }
-        s = step(&record, s, &mut disk, &mut memory, &mut tail);
+        s = step(&record, s, &mut disk, &mut kept, &mut memory, &mut tail);
     }
 }

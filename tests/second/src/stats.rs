@@ -1,12 +1,13 @@
-//! What a stream reaches: counts of each call with each answer, and how the
-//! stores allowed compare with the stores needed.
+//! What a stream reaches: counts of each call with each answer, how the stores
+//! allowed compare with the stores needed, and which disks are compared.
 
 use std::collections::BTreeMap;
 
 use crate::needs::stores_needed;
+use crate::restart::recover;
 use crate::trace::{calls, Answer, Call, Outcome, World};
 
-const NAMES: [&str; 13] = [
+const NAMES: [&str; 15] = [
     "unknown",
     "begin",
     "write",
@@ -20,6 +21,8 @@ const NAMES: [&str; 13] = [
     "restart",
     "power fails",
     "damage",
+    "keep copy",
+    "equal",
 ];
 
 /// Lines `count name`, sorted by name, then what the store grew to.
@@ -35,6 +38,11 @@ pub fn stats(stream: &[u8]) -> String {
         count(format!("{name} {}", answer_name(&call, &outcome)));
         if let Some(need) = need {
             count(format!("{name} {}", allowance_name(&call, need)));
+        }
+        if call == Call::Equal {
+            for what in compared_names(&world, &outcome) {
+                count(format!("{name} {what}"));
+            }
         }
         most.see(&world);
     }
@@ -61,7 +69,23 @@ fn answer_name(call: &Call, outcome: &Outcome) -> String {
         Answer::Refused(number) => format!("refused={number:02}"),
         Answer::Part(0) => "part=0".to_string(),
         Answer::Part(_) => "part>0".to_string(),
+        Answer::Yes => "yes".to_string(),
+        Answer::No => "no".to_string(),
     }
+}
+
+/// The answer beside what the bytes say, and the disks that restart refuses.
+fn compared_names(world: &World, outcome: &Outcome) -> Vec<String> {
+    let answer = answer_name(&Call::Equal, outcome);
+    let same = world.disk == world.kept;
+    let bytes = if same { "same" } else { "other" };
+    let mut names = vec![format!("{answer}, {bytes} bytes")];
+    for (which, bytes) in [("disk", &world.disk), ("copy", &world.kept)] {
+        if let Err(number) = recover(bytes) {
+            names.push(format!("of a {which} refused={number:02}"));
+        }
+    }
+    names
 }
 
 /// The stores allowed, seen from the stores needed.

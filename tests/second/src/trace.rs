@@ -2,7 +2,7 @@
 
 use crate::layout::{be16, be32, DISK_LEN, MEMORY_LEN, TAIL_LEN};
 use crate::log::TxId;
-use crate::restart::restart;
+use crate::restart::{equal_in_meaning, restart};
 use crate::state::{Refusal, State};
 use crate::stores::Stored;
 
@@ -55,6 +55,10 @@ pub enum Call {
         address: usize,
         bytes: Vec<u8>,
     },
+    /// The stream keeps a copy of the disk.
+    KeepCopy,
+    /// Is the disk equal in meaning to the copy kept?
+    Equal,
     Unknown {
         number: u8,
     },
@@ -90,6 +94,8 @@ impl Call {
             10 => Call::Restart { allowed },
             11 => Call::PowerFails,
             12 => Call::Damage { address, bytes },
+            13 => Call::KeepCopy,
+            14 => Call::Equal,
             number => Call::Unknown { number },
         }
     }
@@ -108,6 +114,8 @@ impl Call {
             Call::Restart { .. } => 10,
             Call::PowerFails => 11,
             Call::Damage { .. } => 12,
+            Call::KeepCopy => 13,
+            Call::Equal => 14,
             Call::Unknown { number } => *number,
         }
     }
@@ -120,6 +128,9 @@ pub enum Answer {
     Refused(Refusal),
     /// Read's answer: the length of the part.
     Part(usize),
+    /// The answers to "equal in meaning".
+    Yes,
+    No,
 }
 
 /// What a call gave back, as far as the ledger and the lines need it.
@@ -167,22 +178,33 @@ impl Outcome {
             stores: 0,
         }
     }
+
+    fn of_equal(equal: bool) -> Outcome {
+        Outcome {
+            answer: if equal { Answer::Yes } else { Answer::No },
+            value: 0,
+            stores: 0,
+        }
+    }
 }
 
-/// The three buffers and the state, handed from call to call.
+/// The three buffers and the state, handed from call to call, and the copy of
+/// a disk that the stream keeps.
 #[derive(Clone)]
 pub struct World {
     pub disk: Vec<u8>,
+    pub kept: Vec<u8>,
     pub memory: Vec<u8>,
     pub tail: Vec<u8>,
     pub state: State,
 }
 
 impl World {
-    /// Disk, memory and tail zero, the state unrecovered.
+    /// Disk, copy, memory and tail zero, the state unrecovered.
     pub fn fresh() -> World {
         World {
             disk: vec![0; DISK_LEN],
+            kept: vec![0; DISK_LEN],
             memory: vec![0; MEMORY_LEN],
             tail: vec![0; TAIL_LEN],
             state: State::default(),
@@ -192,6 +214,7 @@ impl World {
     pub fn run(&mut self, call: &Call) -> Outcome {
         let World {
             disk,
+            kept,
             memory,
             tail,
             state,
@@ -245,6 +268,11 @@ impl World {
                 }
                 Outcome::of_value(Ok(0))
             }
+            Call::KeepCopy => {
+                kept.clone_from(disk);
+                Outcome::of_value(Ok(0))
+            }
+            Call::Equal => Outcome::of_equal(equal_in_meaning(disk, kept)),
             Call::Unknown { .. } => Outcome::of_value(Ok(0)),
         }
     }
@@ -259,6 +287,8 @@ impl World {
             Answer::Cut => "cut".to_string(),
             Answer::Refused(number) => format!("refused={number}"),
             Answer::Part(length) => format!("part={length}"),
+            Answer::Yes => "yes".to_string(),
+            Answer::No => "no".to_string(),
         };
         format!(
             "{} {} {} {} {} {} {} {}",

@@ -1,14 +1,12 @@
 use Prim.Native.Nat.{ℕ, _<_, _≤_}
 use native.Mathlib.Omega.{arith}
-use mathlib.Core.List.{List}
-use mathlib.Core.Path.{_≡_, sym, ap, _∙_, subst}
+use mathlib.Core.Path.{_≡_, sym, ap, _∙_}
 use lib.ListN.{length, replicate, length-replicate}
 use borrow.Author.Needs.{needs}
 use Rattle.store.specs.Answer.{Told}
 use Rattle.listing.specs.Text.{refusedText}
-use Rattle.listing.specs.Listing.{Listed}
 use Rattle.listing.proofs.Putting.{Short, lines-short, found-short, refused-short, put-front}
-use Rattle.listing.proofs.Endings.{few-undone, listing-refused, listing-found}
+use Rattle.listing.proofs.Endings.{few-undone, listing-refused, listing-found, listed}
 use Rattle.listing.proofs.list.Statement.{statement}
 use Rattle.listing.proofs.list.Tie as tie
 
@@ -37,9 +35,6 @@ zeros-length c = ap length (zeros c) ∙ length-replicate {A = ℕ} 64 0
 -- the number is a byte
 byte : (c : tie.After-known-told) → c .before .answer .given .0 .0 < 256
 byte c = search needs
-
-listed : {x y out : List ℕ} {r : ℕ} → x ≡ y → Listed x r out → Listed y r out
-listed {out = out} {r} e l = subst (λ (text : List ℕ). Listed text r out) e l
 
 enum-known-answer : tie.Need-enum-known-answer
 enum-known-answer c = search needs

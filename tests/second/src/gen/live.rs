@@ -225,8 +225,8 @@ impl Generator {
                 self.emit(Call::PowerFails);
             }
             Action::Unknown => {
-                let high = self.rng.between(13, 255) as u8;
-                let number = self.rng.pick(&[0, 13, 255, high]);
+                let high = self.rng.between(15, 255) as u8;
+                let number = self.rng.pick(&[0, 15, 255, high]);
                 self.emit(Call::Unknown { number });
             }
         }

@@ -134,8 +134,41 @@ impl Generator {
         self.limit = limit;
     }
 
-    /// Adds the call's record and runs it. Past the limit nothing happens.
+    /// Adds the call, now and then with a copy kept before it and a comparison
+    /// after it.
     fn emit(&mut self, call: Call) -> Outcome {
+        let (keep, compare) = self.watched(&call);
+        if keep {
+            self.add(Call::KeepCopy);
+        }
+        let outcome = self.add(call);
+        if compare {
+            self.add(Call::Equal);
+        }
+        outcome
+    }
+
+    /// Whether a copy is kept before the call, and compared after it: mostly
+    /// around calls that store, and less in the long runs of damage. Copies are
+    /// compared more often than kept, since a store moves away from an old one.
+    fn watched(&mut self, call: &Call) -> (bool, bool) {
+        let one_in = match call {
+            Call::Flush { .. } | Call::Checkpoint { .. } | Call::Restart { .. } => 5,
+            Call::Damage { .. } => 10,
+            _ => 40,
+        };
+        if self.rng.below(one_in) > 0 {
+            return (false, false);
+        }
+        match self.rng.below(12) {
+            0 => (true, false),
+            1 | 2 => (true, true),
+            _ => (false, true),
+        }
+    }
+
+    /// Adds the call's record and runs it. Past the limit nothing happens.
+    fn add(&mut self, call: Call) -> Outcome {
         if self.is_full() {
             return Outcome {
                 answer: Answer::Refused(0),
@@ -249,7 +282,7 @@ impl Generator {
         let mut bytes = self.out.concat();
         if self.rng.percent(70) {
             let count = self.rng.between(1, RECORD_LEN - 1);
-            bytes.push(self.rng.between(1, 12) as u8);
+            bytes.push(self.rng.between(1, 14) as u8);
             bytes.extend(self.rng.bytes(count - 1));
         }
         bytes

@@ -72,6 +72,41 @@ fn damage_goes_only_to_bytes_on_the_disk() {
     assert!(trace(&off).starts_with("12 done 0 0 2207973377 "));
 }
 
+/// Calls 13 and 14 around a commit and a pointer byte above 2: what the copy
+/// and the disk mean, and that nothing but the second field tells of it.
+#[test]
+fn a_copy_is_kept_and_compared() {
+    let records = [
+        record(14, 0, 0, 0, [0, 0], &[]),
+        record(10, 0, 0, 0, [0, 16_384], &[]),
+        record(1, 0, 0, 0, [0, 0], &[]),
+        record(2, 1, 10, 0, [0, 0], &[5]),
+        record(9, 0, 0, 0, [0, 9_000], &[]),
+        record(14, 0, 0, 0, [0, 0], &[]),
+        record(5, 1, 0, 0, [0, 0], &[]),
+        record(7, 0, 0, 0, [1, 16_384], &[]),
+        record(14, 0, 0, 0, [0, 0], &[]),
+        record(13, 0, 0, 0, [0, 0], &[]),
+        record(14, 0, 0, 0, [0, 0], &[]),
+        record(12, 0, 0, 0, [0, 0], &[3]),
+        record(14, 0, 0, 0, [0, 0], &[]),
+        record(13, 0, 0, 0, [0, 0], &[]),
+        record(14, 0, 0, 0, [0, 0], &[]),
+        record(15, 0, 0, 0, [0, 0], &[]),
+    ];
+    let lines = trace(&records.concat());
+    let lines: Vec<Vec<&str>> = lines.lines().map(|l| l.split(' ').collect()).collect();
+    let told: Vec<&str> = lines.iter().map(|l| *l.get(1).unwrap_or(&l[0])).collect();
+    let expected = "yes done done done done yes done done no done yes done no done no unknown";
+    assert_eq!(told.join(" "), expected);
+    for pair in lines.windows(2) {
+        if let "13" | "14" = pair[1][0] {
+            assert_eq!(pair[1][2..4], ["0", "0"]);
+            assert_eq!(pair[1][4..], pair[0][4..]);
+        }
+    }
+}
+
 #[test]
 fn a_count_above_40_counts_as_40() {
     let mut damage = record(12, 0, 0, 0, [0, 0], &[1; 40]);

@@ -35,7 +35,7 @@ fn demand_3_holds_after_every_store() {
 
 #[test]
 fn the_gates_stream_reaches_every_number() {
-    let reached = stats(&stream(4, 4_000, Kind::Mixed));
+    let reached = stats(&stream(1, 4_000, Kind::Mixed));
     for what in [
         "1 begin refused=02",
         "1 begin refused=11",
@@ -88,6 +88,17 @@ fn the_gates_stream_reaches_every_number() {
         "10 restart allowed need - 1",
         "10 restart allowed need\n",
         "10 restart allowed need + 1",
+        "13 keep copy done",
+        "14 equal yes, same bytes",
+        "14 equal yes, other bytes",
+        "14 equal no, same bytes",
+        "14 equal no, other bytes",
+        "14 equal of a disk refused=03",
+        "14 equal of a disk refused=04",
+        "14 equal of a disk refused=05",
+        "14 equal of a copy refused=03",
+        "14 equal of a copy refused=04",
+        "14 equal of a copy refused=05",
         "16384 most log end",
         "16384 most log room used",
         "8 most transactions",
