@@ -122,7 +122,7 @@ module _ (w : World) (d : Disk) (l : Live) (o : OnDisk (w .disk) d) (v : LiveOn 
     image = encodeImage (imageOf s) m
 
     abbrev slot : ℕ
-    slot = checkpoint-spec.slotAt p
+    slot = checkpoint-spec.targetAt p
 
     abbrev rest : List ℕ
     rest = take (8653 - length image) (drop (slot + length image) (w .disk))
