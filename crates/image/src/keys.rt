@@ -8,24 +8,26 @@ ghost use Prim.Native.Nat.{_-_, _≤_};
 ghost use Rattle.recovery.specs.Lists.{any};
 ghost use Rattle.transaction.specs.Lists.{upFrom};
 ghost use Rattle.transaction.specs.Rules.{alike};
-ghost use Rattle.image.specs.Keys.{keyAt, KeysOf};
+ghost use Rattle.image.specs.Keys.{keysOf, keyAt};
 
 pub struct Keys {
-    pub ids: [u16; 8],
-    pub csns: [u32; 8],
+    pub ids: [TxId; 8],
+    pub csns: [Csn; 8],
 }
 
 pub fn keys_of(txs: [Tx; 8]) -> Keys
-    ensures { λ r. ⌜ KeysOf txs r ⌝ }
+    ensures { λ r. ⌜ r ≡ keysOf txs ⌝ }
 {
+    let id = TxId(0);
+    let csn = Csn(0);
     let mut keys = Keys {
-        ids: [0; 8],
-        csns: [0; 8],
+        ids: [id; 8],
+        csns: [csn; 8],
     };
     let mut i: usize = 0;
     while i < 8 {
-        keys.ids[i] = txs[i].id.0;
-        keys.csns[i] = txs[i].csn.0;
+        keys.ids[i] = TxId(txs[i].id.0);
+        keys.csns[i] = Csn(txs[i].csn.0);
         i += 1;
     }
     keys
@@ -38,7 +40,7 @@ pub fn alike_from(keys: Keys, n: usize, i: usize, id: TxId, csn: Csn) -> bool
 {
     let mut j = i;
     while j < n {
-        if alike(id, csn, TxId(keys.ids[j]), Csn(keys.csns[j])) {
+        if alike(id, csn, keys.ids[j], keys.csns[j]) {
             return true;
         }
         j += 1;

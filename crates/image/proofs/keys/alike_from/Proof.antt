@@ -20,17 +20,17 @@ abbrev μ-loop : tie.MeasureT-loop
 loop-holds : tie.Need-loop-holds Inv-loop μ-loop
 loop-holds c = (omega arith, refl)
 
-mul-t10 : tie.Need-mul-t10 Inv-loop μ-loop
-mul-t10 c = search needs
+mul-alike : tie.Need-mul-alike Inv-loop μ-loop
+mul-alike c = search needs
 
-element-copy-out-t13 : tie.Need-element-copy-out-t13 Inv-loop μ-loop
-element-copy-out-t13 c = search needs
+element-copy-out-alike : tie.Need-element-copy-out-alike Inv-loop μ-loop
+element-copy-out-alike c = search needs
 
-mul-t15 : tie.Need-mul-t15 Inv-loop μ-loop
-mul-t15 c = search needs
+mul-alike-2 : tie.Need-mul-alike-2 Inv-loop μ-loop
+mul-alike-2 c = search needs
 
-element-copy-out-t18 : tie.Need-element-copy-out-t18 Inv-loop μ-loop
-element-copy-out-t18 c = search needs
+element-copy-out-alike-2 : tie.Need-element-copy-out-alike-2 Inv-loop μ-loop
+element-copy-out-alike-2 c = search needs
 
 alike-requires : tie.Need-alike-requires Inv-loop μ-loop
 alike-requires c κs = search needs
@@ -59,10 +59,10 @@ alike-from-spec =
     Inv-loop
     μ-loop
     loop-holds
-    mul-t10
-    element-copy-out-t13
-    mul-t15
-    element-copy-out-t18
+    mul-alike
+    element-copy-out-alike
+    mul-alike-2
+    element-copy-out-alike-2
     alike-requires
     returns
     add-j
