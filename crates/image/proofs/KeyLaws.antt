@@ -4,7 +4,7 @@ use native.Mathlib.Decide.{decLt}
 use native.Mathlib.Omega.{arith}
 use mathlib.Core.Bool.{not, _&&_, _||_}
 use mathlib.Core.List.{List}
-use mathlib.Core.Path.{_≡_, refl, sym, ap, ap₂, _∙_}
+use mathlib.Core.Path.{_≡_, sym, ap, ap₂, _∙_}
 use lib.ListN.{length, getD, set, length-set}
 use lib.Seq.{getD-set-same, getD-set-other, ext-getD}
 use lib.Dec.{eqb}
@@ -16,7 +16,7 @@ use Rattle.transaction.specs.Lists.{upFrom}
 use Rattle.transaction.specs.Rules.{alike}
 use Rattle.transaction.proofs.Lists.{length-up, any-same}
 use Rattle.image.specs.declared.keys.Keys.{Keys}
-use Rattle.image.specs.Slots.{slotAt, outlineAt}
+use Rattle.image.specs.Slots.{outlineAt}
 use Rattle.image.specs.Keys.{idAt, csnAt, keysOf, keyAt}
 
 -- ---- an array of eight that a loop fills from the front
@@ -54,6 +54,6 @@ unfolding keysOf
 by-keys txs keys e id csn k i h =
     any-same (alike id csn) (alike id csn) (keyAt keys) (outlineAt txs) k i
     (λ x a b.
-      ap₂ (λ (j : TxId) (m : Csn). eqb id (j .0) || (not (eqb csn 0) && eqb csn (m .0)))
-      (ap (λ (s : Keys). getD (s .ids) x (record { 0 = 0 })) e ∙ up-eight (idAt txs) _ x (omega arith))
-      (ap (λ (s : Keys). getD (s .csns) x (record { 0 = 0 })) e ∙ up-eight (csnAt txs) _ x (omega arith)))
+    ap₂ (λ (j : TxId) (m : Csn). eqb id (j .0) || (not (eqb csn 0) && eqb csn (m .0)))
+    (ap (λ (s : Keys). getD (s .ids) x (record { 0 = 0 })) e ∙ up-eight (idAt txs) _ x (omega arith))
+    (ap (λ (s : Keys). getD (s .csns) x (record { 0 = 0 })) e ∙ up-eight (csnAt txs) _ x (omega arith)))

@@ -36,7 +36,9 @@ alike-requires : tie.Need-alike-requires Inv-loop μ-loop
 alike-requires c κs = search needs
 
 returns : tie.Need-returns Inv-loop μ-loop
-returns c = sym (c .before .before .before .before .before .loop .inv .1 ∙ any-hit (keyAt (c .before .before .before .before .before .before .args .t1)) _ _ (c .before .before .before .before .loop-test .taken) (alike _ _) (sym (c .before .alike .ensures) ∙ c .if1 .taken))
+returns c = sym (c .before .before .before .before .before .loop .inv .1
+    ∙ any-hit (keyAt (c .before .before .before .before .before .before .args .t1)) _ _ (c .before .before .before .before .loop-test .taken) (alike _ _)
+    (sym (c .before .alike .ensures) ∙ c .if1 .taken))
 
 add-j : tie.Need-add-j Inv-loop μ-loop
 add-j c = search needs
@@ -45,12 +47,18 @@ loop-less : tie.Need-loop-less Inv-loop μ-loop
 loop-less c = search needs
 
 loop-again : tie.Need-loop-again Inv-loop μ-loop
-loop-again c = (omega arith, c .before .before .before .before .before .loop .inv .1 ∙ any-miss (keyAt (c .before .before .before .before .before .before .args .t1)) _ _ (c .before .before .before .before .loop-test .taken) (alike _ _) (sym (c .before .alike .ensures) ∙ c .if1 .left))
+loop-again c = (
+  omega arith,
+  c .before .before .before .before .before .loop .inv .1
+      ∙ any-miss (keyAt (c .before .before .before .before .before .before .args .t1)) _ _ (c .before .before .before .before .loop-test .taken) (alike _ _)
+      (sym (c .before .alike .ensures) ∙ c .if1 .left),
+)
 
 returns-2 : tie.Need-returns-2 Inv-loop μ-loop
 returns-2 c =
     let args = c .before .before .args in
-    sym (c .before .loop .inv .1 ∙ ap (any (alike (args .id .0) (args .csn .0))) (up-done (keyAt (args .t1)) (args .n) (c .before .loop .j) (c .loop-test .left)))
+    sym (c .before .loop .inv .1 ∙ ap (any (alike (args .id .0) (args .csn .0)))
+    (up-done (keyAt (args .t1)) (args .n) (c .before .loop .j) (c .loop-test .left)))
 
 pub alike-from-spec : {M : Type 1} → statement M
 alike-from-spec =
