@@ -14,7 +14,7 @@ use Rattle.log.specs.Log.{encodeLog}
 use Rattle.image.specs.declared.Image.{Image}
 use Rattle.image.specs.Rules.{keepsRules}
 use Rattle.image.specs.Reading.{memoryOf}
-use Rattle.restart.specs.Slots.{txsOf}
+use Rattle.image.specs.Content.{transactionsIn}
 use Rattle.restart.specs.Forward.{groupsOf, forwardOf}
 use Rattle.restart.specs.Undo.{undoneOf}
 use Rattle.restart.specs.Restart.{Outcome, recoverOf}
@@ -98,7 +98,7 @@ module _ (disk : List ℕ) (d : length disk ≡ 33691) (a : Accepted disk) where
   memory-length =
       ap (λ (m : Meaning). length (m .memory)) (a .is)
       ∙ ap length (memory-is (imageIn disk) (a .rules) (logIn disk) (memoryIn disk) (replicate 16384 0))
-      ∙ recover-length 4096 (memoryIn disk) (loaded-length (pointerOf disk) disk d) (txsOf (imageIn disk)) (imageIn disk .ondisk .0)
+      ∙ recover-length 4096 (memoryIn disk) (loaded-length (pointerOf disk) disk d) (transactionsIn (imageIn disk)) (imageIn disk .ondisk .0)
       (groupsOf (imageIn disk) (logIn disk))
 
   pub tail-length : length (examineOf disk .tail) ≡ 16384

@@ -20,7 +20,7 @@ use Rattle.log.proofs.StoreLaws.{drop-zeros}
 use Rattle.log.proofs.Torn.{log-zeros}
 use Rattle.image.specs.Pack.{emptyImage}
 use Rattle.image.specs.Rules.{keepsRules}
-use Rattle.restart.specs.Slots.{txsOf}
+use Rattle.image.specs.Content.{transactionsIn}
 use Rattle.restart.specs.Forward.{groupsOf}
 use Rattle.restart.proofs.Recovery as restarts
 use Rattle.restart.proofs.Recovery.{end-is, csn-is, count-is, memory-is, tail-is}
@@ -36,7 +36,7 @@ pub record OnDisk (disk : List ℕ) (d : Disk) : Type 0 where
   pub long : length disk ≡ 33691
   pub low : pointerOf disk ≤ 2
   pub ok : loadOf (pointerOf disk) disk .decoded .ok ≡ true
-  pub txs : txsOf (imageIn disk) ≡ d .image .txs
+  pub txs : transactionsIn (imageIn disk) ≡ d .image .txs
   pub memory : memoryIn disk ≡ d .image .memory
   pub csn : imageIn disk .ondisk .0 ≡ d .image .csn
   pub place : imageIn disk .logend ≡ groupsSize (d .before)
@@ -69,7 +69,7 @@ same-image x y d e o long p l i b log =
       long = long;
       low = subst (λ (q : ℕ). q ≤ 2) (sym p) (o .low);
       ok = ap (λ (z : Loaded). z .decoded .ok) f ∙ o .ok;
-      txs = ap (λ (z : Loaded). txsOf (z .decoded .image)) f ∙ o .txs ∙ ap (λ z. z .txs) (sym i);
+      txs = ap (λ (z : Loaded). transactionsIn (z .decoded .image)) f ∙ o .txs ∙ ap (λ z. z .txs) (sym i);
       memory = ap (λ (z : Loaded). z .memory) f ∙ o .memory ∙ ap (λ z. z .memory) (sym i);
       csn = ap (λ (z : Loaded). z .decoded .image .ondisk .0) f ∙ o .csn ∙ ap (λ z. z .csn) (sym i);
       place = ap (λ (z : Loaded). z .decoded .image .logend) f ∙ o .place ∙ ap groupsSize (sym b);

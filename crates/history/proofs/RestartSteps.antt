@@ -20,7 +20,7 @@ use Rattle.log.proofs.StoreLaws.{length-apply}
 use Rattle.log.proofs.Torn.{log-torn}
 use Rattle.transaction.specs.declared.Tx.{Tx as Slot}
 use Rattle.transaction.specs.Flat.{emptyTx}
-use Rattle.restart.specs.Slots.{txsOf}
+use Rattle.image.specs.Content.{transactionsIn}
 use Rattle.restart.specs.Forward.{groupsOf}
 use Rattle.restart.proofs.Recovery.{last-above-image, last-above-groups}
 use Rattle.store.specs.declared.State.{State}
@@ -101,7 +101,7 @@ module _ (disk : List ℕ) (d : Disk) (o : OnDisk disk d) (n : lastCsn 0 (d .bef
   unfolding stepsOf
   ids-image =
       subst (λ (ts : List Tx). All (λ t. t .id ≤ last) ts) (o .txs)
-      (subst (λ (i : ℕ). All (λ t. t .id ≤ i) (txsOf (imageIn disk))) last-is (last-above-image (imageIn disk) (ok .rules) (logIn disk) (memoryIn disk) (replicate 16384 0)))
+      (subst (λ (i : ℕ). All (λ t. t .id ≤ i) (transactionsIn (imageIn disk))) last-is (last-above-image (imageIn disk) (ok .rules) (logIn disk) (memoryIn disk) (replicate 16384 0)))
 
   ids-groups : All (λ g. groupId g ≤ last) (d .after)
   unfolding stepsOf

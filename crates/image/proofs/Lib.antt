@@ -1,5 +1,5 @@
 -- The laws of the checkpoint image: of the image rules (KeyLaws, Rules), of the layout in flat arrays (Pushing, Packing), of the readers (Readings,
--- TxReadings) and writers (Sizes, Writings); round trip, soundness, worked cases.
+-- TxReadings) and writers (Sizes, Writings); round trip, soundness, that a slot on disk has bytes enough, worked cases.
 pub mod Lists
 pub mod KeyLaws
 pub mod Rules
@@ -11,4 +11,5 @@ pub mod Sizes
 pub mod Writings
 pub mod RoundTrip
 pub mod Soundness
+pub mod Enough
 pub mod Cases

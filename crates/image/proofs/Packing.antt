@@ -1,10 +1,10 @@
 -- Laws of a content laid out in flat arrays: it is seen there again.
-use Prim.Native.Nat.{ℕ, zero, suc, _+_, _-_, _≤_, _<_}
+use Prim.Native.Nat.{ℕ, zero, suc, _+_, _-_, _≤_}
 use native.Mathlib.Nat.{zero-add, suc-add}
 use native.Mathlib.Omega.{arith}
 use mathlib.Core.List.{List, [], _∷_, _++_, map}
-use mathlib.Core.Path.{_≡_, refl, sym, ap, ap₂, _∙_, subst}
-use lib.ListN.{length, getD, drop, replicate, length-map, List·getD-append}
+use mathlib.Core.Path.{_≡_, refl, sym, ap, ap₂, _∙_}
+use lib.ListN.{length, getD, drop, replicate, length-map}
 use lib.Seq.{sets-eq}
 use lib.Dec.{eqb}
 use Rattle.recovery.specs.Group.{Write}
@@ -12,14 +12,13 @@ use Rattle.transaction.specs.declared.Tx.{Tx}
 use Rattle.transaction.specs.Lists.{upFrom}
 use Rattle.transaction.specs.Flat.{emptyRecords, emptyTx, noTx}
 use Rattle.transaction.specs.View.{outline, outlineOf, viewOf}
-use Rattle.transaction.proofs.Pushed.{Sized}
 use Rattle.image.specs.Slots.{slotAt, listed, outlined}
 use Rattle.image.specs.Rules.{imageOk, keepsRules}
 use Rattle.image.specs.Content.{Saved, saved, Content, savedOf, savedIn, contentOf, outlineIn, contentOk, transactionOf}
 use Rattle.image.specs.Format.{undosIn}
 use Rattle.image.specs.Pack.{loaded, packedTx, packedTxs, packed}
 use Rattle.image.proofs.Lists.{up-map, up-front, map-self}
-use Rattle.image.proofs.Pushing.{UndosOk, packed-sized, packed-writes, packed-ranges}
+use Rattle.image.proofs.Pushing.{UndosOk, packed-writes, packed-ranges}
 
 -- ---- transactions
 
@@ -46,12 +45,6 @@ packed-each : {A : Type 0} (f : Tx → A) (g : Saved → A) → ((t : Saved) →
 packed-each f g h [] k = refl
 packed-each {A = A} f g h (t ∷ ts) k = ap₂ (λ (x : A) (xs : List A). x ∷ xs) (h t (k .0)) (packed-each f g h ts (k .1))
 
-sized-each : (ts : List Saved) → TxsOk ts → (j : ℕ) → j < length ts → Sized (getD (map packedTx ts) j noTx .undo)
-unfolding loaded
-sized-each [] k j h = absurd (omega arith)
-sized-each (saved id status csn us ∷ ts) k zero h = packed-sized us (k .0)
-sized-each (saved id status csn us ∷ ts) k (suc j) h = sized-each ts (k .1) j (omega arith)
-
 -- ---- the slots
 
 drop-same : {A : Type 0} (a : A) (m n : ℕ) → drop m (replicate (m + n) a) ≡ replicate n a
@@ -74,7 +67,8 @@ packed-listed ts h =
     ap₂ (λ (l : List Tx) (k : ℕ). upFrom (λ j. getD l j noTx) k 0) (packed-slots ts h) (sym (length-map ts packedTx))
     ∙ up-front (map packedTx ts) (replicate (8 - length ts) emptyTx) noTx
 
-module _ {A : Type 0} (f : Tx → A) (g : Saved → A) (h : (t : Saved) → UndosOk (undosIn t) → f (packedTx t) ≡ g t) (ts : List Saved) (c : length ts ≤ 8) (k : TxsOk ts) where
+module _ {A : Type 0} (f : Tx → A) (g : Saved → A) (h : (t : Saved) → UndosOk (undosIn t) → f (packedTx t) ≡ g t) (ts : List Saved) (c : length ts ≤ 8)
+    (k : TxsOk ts) where
   packed-seen : upFrom (λ j. f (slotAt (packedTxs ts) j)) (length ts) 0 ≡ map g ts
   packed-seen = up-map f (slotAt (packedTxs ts)) (length ts) 0 ∙ ap (map f) (packed-listed ts c) ∙ packed-each f g h ts k
 
@@ -88,14 +82,6 @@ module _ (ts : List Saved) (c : length ts ≤ 8) (k : TxsOk ts) where
   -- as recovery has them
   pub packed-transactions : map viewOf (listed (packedTxs ts) (length ts)) ≡ map transactionOf ts
   packed-transactions = sym (up-map viewOf (slotAt (packedTxs ts)) (length ts) 0) ∙ packed-seen viewOf transactionOf packed-transaction ts c k
-
-  -- their arrays have the lengths of the code's
-  pub packed-arrays : (j : ℕ) → j < length ts → Sized (slotAt (packedTxs ts) j .undo)
-  packed-arrays j h =
-      let n = length-map ts packedTx in
-      let e : slotAt (packedTxs ts) j ≡ getD (map packedTx ts) j noTx =
-      ap (λ (l : List Tx). getD l j noTx) (packed-slots ts c) ∙ List·getD-append (map packedTx ts) (replicate (8 - length ts) emptyTx) noTx j (omega (arith, n, h)) in
-      subst (λ (t : Tx). Sized (t .undo)) (sym e) (sized-each ts k j h)
 
 -- ---- the whole
 

@@ -13,7 +13,7 @@ use Rattle.recovery.specs.Group.{Write}
 use Rattle.log.specs.Record.{inRange}
 use Rattle.log.specs.Flat.{writeAt}
 use Rattle.log.proofs.Basics.{and-left, and-right}
-use Rattle.transaction.specs.declared.Records.{Records}
+use Rattle.transaction.specs.declared.records.Records.{Records}
 use Rattle.transaction.specs.Lists.{every}
 use Rattle.transaction.specs.Flat.{emptyRecords}
 use Rattle.transaction.specs.View.{range, rangeAt, rangesOf, writesOf}
@@ -68,7 +68,8 @@ record Laid (r : Records) (ws : List Write) : Type 0 where
   pub few : r .count ≤ 16
   pub writes : writesOf r ≡ ws
 
-push-all : (us : List Write) (r : Records) (ws : List Write) → Laid r ws → r .count + length us ≤ 16 → every rangeOk (map rangeOf us) ≡ true → Laid (pushedAll r us) (ws ++ us)
+push-all : (us : List Write) (r : Records) (ws : List Write) → Laid r ws → r .count + length us ≤ 16 → every rangeOk (map rangeOf us) ≡ true
+    → Laid (pushedAll r us) (ws ++ us)
 push-all [] r ws z c e = record { arrays = z .arrays; short = z .short; few = z .few; writes = z .writes ∙ sym (append-nil ws) }
 push-all (u ∷ us) r ws z c e =
     let a = u .addr in
@@ -82,7 +83,8 @@ push-all (u ∷ us) r ws z c e =
       few = omega arith;
       writes = pushed-writes r a bs (z .arrays) (omega arith) l (z .short) ∙ ap (λ (vs : List Write). vs ++ (u ∷ [])) (z .writes);
     } in
-    subst (Laid (pushedAll (pushed r a bs) us)) (append-assoc ws (u ∷ []) us) (push-all us (pushed r a bs) (ws ++ (u ∷ [])) next (omega arith) (rest-ranged u us e))
+    subst (Laid (pushedAll (pushed r a bs) us)) (append-assoc ws (u ∷ []) us)
+    (push-all us (pushed r a bs) (ws ++ (u ∷ [])) next (omega arith) (rest-ranged u us e))
 
 -- the ranges of records are those of what they hold
 pub ranges-of : (r : Records) → length (r .bytes) ≡ 512 → r .count ≤ 16 → ((j : ℕ) → j < r .count → getD (r .len) j 0 ≤ 32)
@@ -97,10 +99,8 @@ module _ (us : List Write) (e : UndosOk us) where
   laid : Laid (pushedAll emptyRecords us) us
   unfolding emptyRecords
   laid =
-      push-all us emptyRecords [] (record { arrays = empty-sized; short = λ j h. absurd (omega arith); few = omega arith; writes = refl }) (omega (arith, undos-few us e)) (undos-ranged us e)
-
-  pub packed-sized : Sized (pushedAll emptyRecords us)
-  packed-sized = laid .arrays
+      push-all us emptyRecords [] (record { arrays = empty-sized; short = λ j h. absurd (omega arith); few = omega arith; writes = refl })
+      (omega (arith, undos-few us e)) (undos-ranged us e)
 
   pub packed-writes : writesOf (pushedAll emptyRecords us) ≡ us
   packed-writes = laid .writes

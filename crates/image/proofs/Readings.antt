@@ -14,7 +14,8 @@ use Rattle.log.specs.Number.{be16}
 use Rattle.log.specs.Record.{inRange}
 use Rattle.log.specs.Group.{andThen}
 use Rattle.log.proofs.Basics.{clash, and-left, and-right, and-both}
-use Rattle.transaction.specs.declared.Records.{Records}
+use Rattle.transaction.specs.declared.records.Records.{Records}
+use Rattle.transaction.specs.Flat.{emptyRecords}
 use Rattle.transaction.specs.Lists.{every}
 use Rattle.transaction.specs.Rules.{rangeOk}
 use Rattle.transaction.specs.Steps.{pushed}
@@ -48,7 +49,7 @@ module _ (t : List ℕ) where
   unfolding undoHere
   here-within e = leb-true _ _ (and-right (inRange (be16 t 0) (getD t 2 0)) _ e)
 
-  here-ranged : undoHere t ≡ true → inRange (be16 t 0) (getD t 2 0) ≡ true
+  pub here-ranged : undoHere t ≡ true → inRange (be16 t 0) (getD t 2 0) ≡ true
   unfolding undoHere
   here-ranged e = and-left (inRange (be16 t 0) (getD t 2 0)) _ e
 
@@ -82,8 +83,17 @@ undos-turn : (t : List ℕ) (n k : ℕ) → k < n
     → readUndos (n - k) t ≡ cond (undoHere t) (andThen (firstUndo t) (readUndos (n - (k + 1)) (drop (3 + getD t 2 0) t))) none
 undos-turn t n k h = let e : n - k ≡ suc (n - (k + 1)) = omega arith in ap (λ (j : ℕ). readUndos j t) e
 
+-- the answer of records behind those of r that took the first `at` bytes
+abbrev pub undosFrom : ℕ → Records → Option (List Write) → Undos
+undosFrom at r none = noUndos
+undosFrom at r (some us) = record { ok = true; undo = pushedAll r us; size = at + undosSize us }
+
+pub undos-start : (x : Option (List Write)) → undosRead x ≡ undosFrom 0 emptyRecords x
+undos-start none = refl
+undos-start (some us) = ap (λ (n : ℕ). record { ok = true; undo = pushedAll emptyRecords us; size = n }) (omega arith)
+
 undos-pushed : (at : ℕ) (r : Records) (n : ℕ) (u : Write) (x : Option (List Write)) → length (u .bytes) ≡ n
-    → undosRead at r (andThen u x) ≡ undosRead (at + (3 + n)) (pushed r (u .addr) (u .bytes)) x
+    → undosFrom at r (andThen u x) ≡ undosFrom (at + (3 + n)) (pushed r (u .addr) (u .bytes)) x
 undos-pushed at r n u none l = refl
 undos-pushed at r n u (some us) l =
     let e : at + (3 + length (u .bytes) + undosSize us) ≡ at + (3 + n) + undosSize us = omega arith in
@@ -91,11 +101,11 @@ undos-pushed at r n u (some us) l =
 
 module _ (s : List ℕ) (at : ℕ) (r : Records) (n k : ℕ) (h : k < n) (x : Undos) (e : x ≡ undoStep r (drop at s)) where
   -- a turn that finds no record answers for the whole
-  pub undos-stop : x .ok ≡ false → x ≡ undosRead at r (readUndos (n - k) (drop at s))
+  pub undos-stop : x .ok ≡ false → x ≡ undosFrom at r (readUndos (n - k) (drop at s))
   undos-stop f =
       let g : undoHere (drop at s) ≡ false = sym (step-ok r (drop at s)) ∙ ap (λ (u : Undos). u .ok) (sym e) ∙ f in
       let w : readUndos (n - k) (drop at s) ≡ none = undos-turn (drop at s) n k h ∙ rw g in
-      e ∙ step-no r (drop at s) g ∙ ap (undosRead at r) (sym w)
+      e ∙ step-no r (drop at s) g ∙ ap (undosFrom at r) (sym w)
 
   undos-here : x .ok ≡ true → undoHere (drop at s) ≡ true
   undos-here f = sym (step-ok r (drop at s)) ∙ ap (λ (u : Undos). u .ok) (sym e) ∙ f
@@ -111,17 +121,17 @@ module _ (s : List ℕ) (at : ℕ) (r : Records) (n k : ℕ) (h : k < n) (x : Un
   undos-count f = ap (λ (u : Undos). u .undo .count) (e ∙ step-yes r (drop at s) (undos-here f))
 
   pub undos-go : x .ok ≡ true
-      → undosRead at r (readUndos (n - k) (drop at s)) ≡ undosRead (at + x .size) (x .undo) (readUndos (n - (k + 1)) (drop (at + x .size) s))
+      → undosFrom at r (readUndos (n - k) (drop at s)) ≡ undosFrom (at + x .size) (x .undo) (readUndos (n - (k + 1)) (drop (at + x .size) s))
   undos-go f =
       let t = drop at s in
       let g = undos-here f in
       let q : x ≡ stepped r t = e ∙ step-yes r t g in
       let rest = readUndos (n - (k + 1)) (drop (3 + getD t 2 0) t) in
       let w : readUndos (n - k) t ≡ andThen (firstUndo t) rest = undos-turn t n k h ∙ rw g in
-      ap (undosRead at r) w
+      ap (undosFrom at r) w
       ∙ undos-pushed at r (getD t 2 0) (firstUndo t) rest (first-length t g)
-      ∙ ap (λ (l : List ℕ). undosRead (at + (3 + getD t 2 0)) (stepped r t .undo) (readUndos (n - (k + 1)) l)) (drop-drop (3 + getD t 2 0) at s)
-      ∙ ap (λ (u : Undos). undosRead (at + u .size) (u .undo) (readUndos (n - (k + 1)) (drop (at + u .size) s))) (sym q)
+      ∙ ap (λ (l : List ℕ). undosFrom (at + (3 + getD t 2 0)) (stepped r t .undo) (readUndos (n - (k + 1)) l)) (drop-drop (3 + getD t 2 0) at s)
+      ∙ ap (λ (u : Undos). undosFrom (at + u .size) (u .undo) (readUndos (n - (k + 1)) (drop (at + u .size) s))) (sym q)
 
 -- ---- a reading, a record at a time
 
@@ -139,12 +149,15 @@ undos-inv zero s (u ∷ us) e = clash (cc)
 undos-inv (suc k) s us e = go (undoHere s) refl (undos-inv k (drop (3 + getD s 2 0) s))
   where
     found : ((vs : List Write) → readUndos k (drop (3 + getD s 2 0) s) ≡ some vs → (length vs ≡ k) × UndosAt (drop (3 + getD s 2 0) s) vs)
-        → undoHere s ≡ true → (vs : List Write) × (readUndos k (drop (3 + getD s 2 0) s) ≡ some vs) × (us ≡ firstUndo s ∷ vs) → (length us ≡ suc k) × UndosAt s us
+        → undoHere s ≡ true → (vs : List Write) × (readUndos k (drop (3 + getD s 2 0) s) ≡ some vs) × (us ≡ firstUndo s ∷ vs)
+        → (length us ≡ suc k) × UndosAt s us
     found ih b w =
         let i = ih (w .0) (w .1) in
         subst (λ (l : List Write). (length l ≡ suc k) × UndosAt s l) (sym (w .2)) (ap suc (i .0), (b, refl, i .1))
 
-    go : (b : Bool) → undoHere s ≡ b → ((vs : List Write) → readUndos k (drop (3 + getD s 2 0) s) ≡ some vs → (length vs ≡ k) × UndosAt (drop (3 + getD s 2 0) s) vs) → (length us ≡ suc k) × UndosAt s us
+    go : (b : Bool) → undoHere s ≡ b
+        → ((vs : List Write) → readUndos k (drop (3 + getD s 2 0) s) ≡ some vs → (length vs ≡ k) × UndosAt (drop (3 + getD s 2 0) s) vs)
+        → (length us ≡ suc k) × UndosAt s us
     go true b ih =
         let f : andThen (firstUndo s) (readUndos k (drop (3 + getD s 2 0) s)) ≡ some us = rw b at e in
         found ih b (and-then-inv _ _ us f)

@@ -4,7 +4,7 @@ use native.Mathlib.Omega.{arith}
 use mathlib.Core.Bool.{true}
 use mathlib.Core.List.{List, [], _∷_, _++_, append-assoc, map}
 use mathlib.Core.Option.{some}
-use mathlib.Core.Path.{_≡_, refl, sym, ap, ap₂, _∙_, subst}
+use mathlib.Core.Path.{_≡_, refl, sym, ap, ap₂, _∙_}
 use lib.ListN.{length, take, drop, length-append}
 use lib.Seq.{sets, sets-eq, take-at, drop-at}
 use Rattle.recovery.specs.Group.{Write}
@@ -32,7 +32,7 @@ use Rattle.image.specs.Decode.{decodeOf}
 use Rattle.image.proofs.Lists.{up-map}
 use Rattle.image.proofs.Rules.{undo-at}
 use Rattle.image.proofs.Pushing.{UndosOk, undos-few, undos-ranged, first-ranged, rest-ranged, ranges-of}
-use Rattle.image.proofs.Packing.{TxsOk, packed-transactions, packed-arrays, packed-content, packed-rules}
+use Rattle.image.proofs.Packing.{TxsOk, packed-transactions, packed-content, packed-rules}
 use Rattle.image.proofs.Readings.{here-yes}
 use Rattle.image.proofs.TxReadings.{tx-undos, content-txs, decode-good}
 use Rattle.image.proofs.Sizes.{length-tx, length-content, content-few, content-each, image-small}
@@ -126,10 +126,6 @@ module _ (c : Content) (e : contentOk c ≡ true) where
   unfolding packed
   packed-recovers = packed-transactions (c .txs) (content-few c e) (content-each c e)
 
-  pub packed-whole : Whole (packed c)
-  unfolding packed
-  packed-whole j h = packed-arrays (c .txs) (content-few c e) (content-each c e) j h .space
-
 saved-transactions : (i : Image) → map transactionOf (savedIn (i .txs) (i .count)) ≡ map withoutRedo (transactionsIn i)
 saved-transactions i =
     sym (up-map transactionOf (savedAt (i .txs)) (i .count) 0)
@@ -152,7 +148,8 @@ module _ (i : Image) (w : Whole i) (e : keepsRules i ≡ true) where
   pub image-content : contentOk (contentOf i) ≡ true
   image-content =
       ap (imageOk (i .logend) (i .ondisk .0) (i .assigned .0) (i .lastid .0))
-      (sym (up-map outlineIn (savedAt (i .txs)) (i .count) 0) ∙ up-same (λ j. outlineIn (savedAt (i .txs) j)) (outlineAt (i .txs)) (i .count) 0 (λ j g h. same j (omega arith)))
+      (sym (up-map outlineIn (savedAt (i .txs)) (i .count) 0)
+      ∙ up-same (λ j. outlineIn (savedAt (i .txs) j)) (outlineAt (i .txs)) (i .count) 0 (λ j g h. same j (omega arith)))
       ∙ e
     where
       same : (j : ℕ) → j < i .count → outlineIn (savedAt (i .txs) j) ≡ outlineAt (i .txs) j
@@ -185,6 +182,3 @@ module _ (i : Image) (e : keepsRules i ≡ true) (m b : List ℕ) (l : length m 
 
   pub encode-used : take (imageSize i) (sets b 0 (encodeImage i m)) ≡ encodeImage i m
   encode-used = ap (take (imageSize i)) encode-stored ∙ take-at (encodeImage i m) _ (imageSize i) (length-content (contentOf i) m l)
-
-  pub encode-restored : Whole i → Restored i m (sets b 0 (encodeImage i m))
-  encode-restored w = subst (λ (s : List ℕ). Restored i m s) (sym encode-stored) (image-restored i w e m (drop (imageSize i) b) l)

@@ -6,7 +6,7 @@ use mathlib.Core.List.{List}
 use mathlib.Core.Path.{_≡_, refl, sym, ap, _∙_, subst}
 use lib.ListN.{length}
 use lib.Dec.{eqb, leb}
-use borrow.Author.Tests.{le-leb, lt-leb, leb-true, eqb-true, eqb-false, not-true}
+use borrow.Author.Tests.{leb-true, eqb-true, eqb-false, not-true}
 use Rattle.recovery.specs.Lists.{any}
 use Rattle.recovery.proofs.Lists.{none-any}
 use Rattle.log.proofs.Basics.{and-left, and-right}
@@ -18,28 +18,24 @@ use Rattle.transaction.proofs.Lists.{length-up, all-at, up-turn, every-at}
 use Rattle.transaction.proofs.Heads.{Ruled, head-rules}
 use Rattle.image.specs.declared.Image.{Image}
 use Rattle.image.specs.Slots.{slotAt, outlineAt, outlined}
-use Rattle.image.specs.Rules.{alikeTo, distinct, outlinesOk, imageOk, keepsRules}
-use Rattle.image.specs.Pack.{emptyImage}
+use Rattle.image.specs.Rules.{alikeTo, distinct, outlinesOk, boundsOk, imageOk, keepsRules}
 
 -- ---- the tests, in the code's order
 
 module _ (i : Image) where
+  abbrev pub bounds : Bool
+  bounds = boundsOk (i .logend) (i .ondisk .0) (i .assigned .0) (i .count)
+
   abbrev pub eachOk : Bool
   eachOk = every (outlineOk (i .lastid .0) (i .assigned .0)) (outlined (i .txs) (i .count))
 
-  pub rules-end : 16384 < i .logend → keepsRules i ≡ false
-  rules-end a = rw (lt-leb _ _ a)
+  pub rules-are : keepsRules i ≡ bounds && (eachOk && distinct (outlined (i .txs) (i .count)))
+  rules-are =
+      ap (λ (n : ℕ). boundsOk (i .logend) (i .ondisk .0) (i .assigned .0) n && (eachOk && distinct (outlined (i .txs) (i .count))))
+      (length-up (outlineAt (i .txs)) (i .count) 0)
 
-  module _ (a : i .logend ≤ 16384) where
-    pub rules-disk : i .assigned .0 < i .ondisk .0 → keepsRules i ≡ false
-    rules-disk b = rw (le-leb _ _ a, lt-leb _ _ b)
-
-    module _ (b : i .ondisk .0 ≤ i .assigned .0) where
-      pub rules-many : 8 < i .count → keepsRules i ≡ false
-      rules-many d = rw (le-leb _ _ a, le-leb _ _ b, length-up (outlineAt (i .txs)) (i .count) 0, lt-leb _ _ d)
-
-      pub rules-few : i .count ≤ 8 → keepsRules i ≡ eachOk && distinct (outlined (i .txs) (i .count))
-      rules-few d = rw (le-leb _ _ a, le-leb _ _ b, length-up (outlineAt (i .txs)) (i .count) 0, le-leb _ _ d)
+  pub bounds-count : bounds ≡ true → i .count ≤ 8
+  bounds-count e = leb-true (i .count) 8 (and-right (leb (i .logend) 16384 && leb (i .ondisk .0) (i .assigned .0)) _ e)
 
 -- ---- a turn of the loop over pairs
 
@@ -131,8 +127,3 @@ distinct-at o (suc k) i e x y a b c =
         let none = none-any (alikeTo (o i)) later (not-true _ (and-left (not (any (alikeTo (o i)) later)) (distinct later) e)) in
         subst (λ (n : ℕ). alikeTo (o n) (o y) ≡ false) (sym (eqb-true x i q)) (all-at o k (suc i) none y (omega (arith, eqb-true x i q)) (omega arith))
     go false q f = let d = eqb-false x i q in f (omega (arith, d))
-
--- an image that holds nothing keeps them
-pub empty-keeps : keepsRules emptyImage ≡ true
-unfolding emptyImage
-empty-keeps = refl

@@ -8,7 +8,7 @@ use lib.ListN.{length, getD, take, drop, length-append, length-map}
 use Rattle.recovery.specs.Group.{Write}
 use Rattle.log.specs.Flat.{writesFrom}
 use Rattle.log.proofs.Basics.{and-left, and-right}
-use Rattle.transaction.specs.declared.Records.{Records}
+use Rattle.transaction.specs.declared.records.Records.{Records}
 use Rattle.transaction.specs.declared.Tx.{Tx}
 use Rattle.transaction.specs.Lists.{upFrom, every}
 use Rattle.transaction.specs.View.{rangesOf, writesOf, outline}
@@ -20,7 +20,7 @@ use Rattle.image.specs.Rules.{keepsRules}
 use Rattle.image.specs.Content.{Saved, saved, Content, savedAt, rangeOf, outlineIn, contentOk}
 use Rattle.image.specs.Format.{encodeUndo, encodeUndos, encodeTx, encodeTxs, encodeContent, undosSize, txSize, txsSize, contentSize, imageSize}
 use Rattle.image.proofs.Rules.{rules-length, rules-each, image-count, undo-at}
-use Rattle.image.proofs.Pushing.{undos-few, undos-ranged, first-ranged, rest-ranged}
+use Rattle.image.proofs.Pushing.{first-ranged, rest-ranged}
 use Rattle.image.proofs.Packing.{TxsOk}
 
 -- ---- the length of what is written
@@ -52,19 +52,11 @@ each-ok l a (saved id status csn us ∷ ts) e = (
   each-ok l a ts (and-right (outlineOk l a (outline id status csn (map rangeOf us))) (every (outlineOk l a) (map outlineIn ts)) e),
 )
 
-undos-small : (us : List Write) → every rangeOk (map rangeOf us) ≡ true → undosSize us ≤ 35 * length us
+pub undos-small : (us : List Write) → every rangeOk (map rangeOf us) ≡ true → undosSize us ≤ 35 * length us
 undos-small [] e = omega arith
 undos-small (u ∷ us) e =
     let h = in-range (u .addr) (length (u .bytes)) (first-ranged u us e) in
     let i = undos-small us (rest-ranged u us e) in
-    omega arith
-
-txs-small : (ts : List Saved) → TxsOk ts → txsSize ts ≤ 568 * length ts
-txs-small [] k = omega arith
-txs-small (saved id status csn us ∷ ts) k =
-    let n = undos-few us (k .0) in
-    let h = undos-small us (undos-ranged us (k .0)) in
-    let i = txs-small ts (k .1) in
     omega arith
 
 module _ (c : Content) (e : contentOk c ≡ true) where
@@ -76,9 +68,6 @@ module _ (c : Content) (e : contentOk c ≡ true) where
   pub content-each : TxsOk (c .txs)
   content-each =
       each-ok (c .lastid) (c .assigned) (c .txs) (rules-each (c .logend) (c .ondisk) (c .assigned) (c .lastid) (map outlineIn (c .txs)) e)
-
-  pub content-small : contentSize c ≤ 8653
-  content-small = let n = content-few in omega (arith, n, txs-small (c .txs) content-each)
 
 -- ---- an image that keeps the rules, whatever its arrays
 

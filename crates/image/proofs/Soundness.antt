@@ -1,5 +1,5 @@
 -- Soundness: what the reader accepts keeps the image rules and is the encoding of its answer, and then the rest. So a string of bytes has
--- one reading at most, and a reading rests on the image's own bytes alone.
+-- one reading at most.
 use Prim.Native.Nat.{ℕ, zero, suc, _+_, _-_, _≤_}
 use native.Mathlib.Omega.{arith}
 use mathlib.Core.Bool.{Bool, true, false, cond}
@@ -7,7 +7,7 @@ use mathlib.Core.List.{List, [], _∷_, _++_, append-assoc}
 use mathlib.Core.Option.{Option, none, some}
 use mathlib.Core.Path.{_≡_, refl, sym, ap, ap₂, _∙_, subst}
 use lib.ListN.{length, getD, take, drop, take-append-drop, length-drop}
-use lib.Seq.{drop-drop, drop-cons, take-at, length-take-le}
+use lib.Seq.{drop-drop, drop-cons, length-take-le}
 use lib.Dec.{leb}
 use borrow.Author.Tests.{leb-true}
 use Rattle.recovery.specs.Group.{Write}
@@ -16,12 +16,12 @@ use Rattle.log.proofs.Basics.{clash}
 use Rattle.log.proofs.Soundness.{Bytes, bytes-drop, bytes16-read, bytes32-read}
 use Rattle.image.specs.Rules.{keepsRules}
 use Rattle.image.specs.Content.{Saved, saved, Content, contentOf, contentOk}
-use Rattle.image.specs.Format.{headBytes, encodeHead, encodeTxHead, encodeUndo, encodeUndos, encodeTx, encodeTxs, encodeContent, encodeImage, undosSize, txSize, txsSize, contentSize, imageSize}
+use Rattle.image.specs.Format.{headBytes, encodeHead, encodeTxHead, encodeUndo, encodeUndos, encodeTx, encodeTxs, encodeContent, encodeImage}
+use Rattle.image.specs.Format.{undosSize, txSize, txsSize, contentSize, imageSize}
 use Rattle.image.specs.Reading.{undoHere, firstUndo, readTxs, contentIf, readContent, keepingRules, readImage, memoryOf}
 use Rattle.image.specs.Decode.{notDecoded, decodedOf, decodeOf}
 use Rattle.image.proofs.Readings.{here-within, first-length, UndosAt}
-use Rattle.image.proofs.TxReadings.{TxAt, TxsAt, txs-inv, txs-kept}
-use Rattle.image.proofs.Sizes.{length-content}
+use Rattle.image.proofs.TxReadings.{TxAt, TxsAt, txs-inv}
 use Rattle.image.proofs.RoundTrip.{memory-written, content-written, packed-holds, packed-keeps}
 
 -- the k elements from place i on
@@ -154,12 +154,6 @@ module _ (s : List ℕ) (c : Content) (e : readImage s ≡ some c) where
   pub image-keeps : contentOk c ≡ true
   image-keeps = keeping-inv (readContent s) c e .1
 
-  pub image-within : contentSize c ≤ length s
-  image-within =
-      let w = in-place .within in
-      let d : txsSize (c .txs) ≤ length s - 4109 = rw length-drop at (txs-kept (drop 4109 s) (c .txs) (in-place .txs) .0) in
-      omega (arith, w, d)
-
   pub memory-length : length (memoryOf s) ≡ 4096
   unfolding memoryOf
   memory-length = let w = in-place .within in length-take-le 4096 (drop 13 s) (simp length-drop (omega arith))
@@ -167,18 +161,6 @@ module _ (s : List ℕ) (c : Content) (e : readImage s ≡ some c) where
   -- what is accepted is the encoding of the answer, and then the rest
   pub image-sound : Bytes s → s ≡ encodeContent c (memoryOf s) ++ drop (contentSize c) s
   image-sound b = content-sound s c b in-place
-
-  -- a list that begins with the same bytes is read as the same image
-  pub image-same : Bytes s → (t : List ℕ) → take (contentSize c) t ≡ take (contentSize c) s → readImage t ≡ some c
-  image-same b t p =
-      let m = memoryOf s in
-      let n = length-content c m memory-length in
-      let x = encodeContent c m in
-      let q : take (contentSize c) t ≡ x = p ∙ ap (take (contentSize c)) (image-sound b) ∙ take-at x (drop (contentSize c) s) (contentSize c) n in
-      let r : t ≡ x ++ drop (contentSize c) t = sym (take-append-drop (contentSize c) t) ∙ ap (λ (u : List ℕ). u ++ drop (contentSize c) t) q in
-      ap readImage r
-      ∙ ap keepingRules (content-written c m (drop (contentSize c) t) memory-length image-keeps)
-      ∙ ap (λ (k : Bool). cond k (some c) none) image-keeps
 
 -- two images never share their bytes
 module _ (c d : Content) (m n t u : List ℕ) (p : contentOk c ≡ true) (q : contentOk d ≡ true) (k : length m ≡ 4096) (l : length n ≡ 4096)

@@ -14,9 +14,8 @@ use Rattle.recovery.specs.Group.{Write}
 use Rattle.log.specs.Number.{be16, be32}
 use Rattle.log.proofs.Basics.{clash, and-both}
 use Rattle.log.specs.Group.{andThen}
-use Rattle.transaction.specs.declared.Records.{Records}
 use Rattle.transaction.specs.declared.Tx.{Tx}
-use Rattle.transaction.specs.Flat.{emptyTx}
+use Rattle.transaction.specs.Flat.{emptyRecords, emptyTx}
 use Rattle.transaction.specs.Lists.{every}
 use Rattle.transaction.specs.Rules.{rangeOk}
 use Rattle.image.specs.declared.Image.{Image}
@@ -35,15 +34,15 @@ use Rattle.image.proofs.Packing.{TxsOk, packed-rules}
 
 -- ---- what the answer of the records' reader says of the reading
 
-pub undos-none : (at : ℕ) (r : Records) (y : Option (List Write)) (x : Undos) → x ≡ undosRead at r y → x .ok ≡ false → y ≡ none
-undos-none at r none x e f = refl
-undos-none at r (some us) x e f = let g : true ≡ false = sym (ap (λ (u : Undos). u .ok) e) ∙ f in clash (cc)
+pub undos-none : (y : Option (List Write)) (x : Undos) → x ≡ undosRead y → x .ok ≡ false → y ≡ none
+undos-none none x e f = refl
+undos-none (some us) x e f = let g : true ≡ false = sym (ap (λ (u : Undos). u .ok) e) ∙ f in clash (cc)
 
-pub undos-some : (at : ℕ) (r : Records) (y : Option (List Write)) (x : Undos) → x ≡ undosRead at r y → x .ok ≡ true
-    → (us : List Write) × (y ≡ some us) × (x .undo ≡ pushedAll r us) × (x .size ≡ at + undosSize us)
+pub undos-some : (y : Option (List Write)) (x : Undos) → x ≡ undosRead y → x .ok ≡ true
+    → (us : List Write) × (y ≡ some us) × (x .undo ≡ pushedAll emptyRecords us) × (x .size ≡ undosSize us)
 unfolding noUndos
-undos-some at r none x e f = let g : false ≡ true = sym (ap (λ (u : Undos). u .ok) e) ∙ f in clash (cc)
-undos-some at r (some us) x e f = (us, refl, ap (λ (u : Undos). u .undo) e, ap (λ (u : Undos). u .size) e)
+undos-some none x e f = let g : false ≡ true = sym (ap (λ (u : Undos). u .ok) e) ∙ f in clash (cc)
+undos-some (some us) x e f = (us, refl, ap (λ (u : Undos). u .undo) e, ap (λ (u : Undos). u .size) e)
 
 -- ---- one transaction
 
@@ -65,7 +64,7 @@ abbrev pub TxAt : List ℕ → Saved → Type 0
 TxAt s (saved id status csn us) =
     (8 ≤ length s) × (length us ≤ 16) × (id ≡ be16 s 0) × (status ≡ getD s 2 0) × (csn ≡ be32 s 3) × (length us ≡ getD s 7 0) × UndosAt (drop 8 s) us
 
-tx-inv : (s : List ℕ) (t : Saved) → readTx s ≡ some t → TxAt s t
+pub tx-inv : (s : List ℕ) (t : Saved) → readTx s ≡ some t → TxAt s t
 unfolding readTx
 tx-inv s t e = go (leb 8 (length s)) (leb (getD s 7 0) 16) refl refl
   where
@@ -85,7 +84,7 @@ tx-inv s t e = go (leb 8 (length s)) (leb (getD s 7 0) 16) refl refl
     go false b p q = let f : _≡_ {A = Option Saved} none (some t) = rw p at e in clash (cc)
 
 -- it lies within the list, and its records keep the rules
-tx-kept : (s : List ℕ) (t : Saved) → TxAt s t → (txSize t ≤ length s) × UndosOk (undosIn t)
+pub tx-kept : (s : List ℕ) (t : Saved) → TxAt s t → (txSize t ≤ length s) × UndosOk (undosIn t)
 tx-kept s (saved id status csn us) a =
     let k = undos-kept (drop 8 s) us (a .6) in
     let d : undosSize us ≤ length s - 8 = rw length-drop at (k .0) in
@@ -106,14 +105,24 @@ tx-some (some t) x e f = (t, refl, ap (λ (u : TxRead). u .tx) e, ap (λ (u : Tx
 txs-turn : (t : List ℕ) (n k : ℕ) → k < n → readTxs (n - k) t ≡ onTx (readTxs (n - (k + 1))) t (readTx t)
 txs-turn t n k h = let e : n - k ≡ suc (n - (k + 1)) = omega arith in ap (λ (j : ℕ). readTxs j t) e
 
-txs-laid : (txs : List Tx) (k : ℕ) (t : Saved) (y : Option (List Saved)) → txsRead txs k (andThen t y) ≡ txsRead (set txs k (packedTx t)) (k + 1) y
+-- the answer of transactions from slot k of txs on
+abbrev pub txsFrom : List Tx → ℕ → Option (List Saved) → TxsRead
+txsFrom txs k none = noTxs
+txsFrom txs k (some ts) = record { ok = true; txs = sets txs k (map packedTx ts) }
+
+pub txs-start : (y : Option (List Saved)) → txsRead y ≡ txsFrom (replicate 8 emptyTx) 0 y
+unfolding packedTxs
+txs-start none = refl
+txs-start (some ts) = refl
+
+txs-laid : (txs : List Tx) (k : ℕ) (t : Saved) (y : Option (List Saved)) → txsFrom txs k (andThen t y) ≡ txsFrom (set txs k (packedTx t)) (k + 1) y
 txs-laid txs k t none = refl
 txs-laid txs k t (some ts) = ap (λ (j : ℕ). record { ok = true; txs = sets (set txs k (packedTx t)) j (map packedTx ts) }) (sym (add-one k))
 
 module _ (s : List ℕ) (at n k : ℕ) (h : k < n) (x : TxRead) (e : x ≡ txRead (readTx (drop at s))) where
-  pub txs-stop : (txs : List Tx) → x .ok ≡ false → txsRead txs k (readTxs (n - k) (drop at s)) ≡ noTxs
+  pub txs-stop : (txs : List Tx) → x .ok ≡ false → txsFrom txs k (readTxs (n - k) (drop at s)) ≡ noTxs
   txs-stop txs f =
-      ap (txsRead txs k) (txs-turn (drop at s) n k h ∙ ap (onTx (readTxs (n - (k + 1))) (drop at s)) (tx-none (readTx (drop at s)) x e f))
+      ap (txsFrom txs k) (txs-turn (drop at s) n k h ∙ ap (onTx (readTxs (n - (k + 1))) (drop at s)) (tx-none (readTx (drop at s)) x e f))
 
   pub txs-within : at ≤ length s → x .ok ≡ true → at + x .size ≤ length s
   txs-within b f =
@@ -122,14 +131,14 @@ module _ (s : List ℕ) (at n k : ℕ) (h : k < n) (x : TxRead) (e : x ≡ txRea
       omega (arith, w .3, d, b)
 
   pub txs-go : (txs : List Tx) → x .ok ≡ true
-      → txsRead txs k (readTxs (n - k) (drop at s)) ≡ txsRead (set txs k (x .tx)) (k + 1) (readTxs (n - (k + 1)) (drop (at + x .size) s))
+      → txsFrom txs k (readTxs (n - k) (drop at s)) ≡ txsFrom (set txs k (x .tx)) (k + 1) (readTxs (n - (k + 1)) (drop (at + x .size) s))
   txs-go txs f =
       let t = drop at s in
       let w = tx-some (readTx t) x e f in
       let rest = readTxs (n - (k + 1)) in
-      ap (txsRead txs k) (txs-turn t n k h ∙ ap (onTx rest t) (w .1))
+      ap (txsFrom txs k) (txs-turn t n k h ∙ ap (onTx rest t) (w .1))
       ∙ txs-laid txs k (w .0) (rest (drop (txSize (w .0)) t))
-      ∙ ap₂ (λ (u : Tx) (l : List ℕ). txsRead (set txs k u) (k + 1) (rest l)) (sym (w .2))
+      ∙ ap₂ (λ (u : Tx) (l : List ℕ). txsFrom (set txs k u) (k + 1) (rest l)) (sym (w .2))
       (drop-drop (txSize (w .0)) at s ∙ ap (λ (m : ℕ). drop (at + m) s) (sym (w .3)))
 
 -- ---- a reading of transactions, one at a time
@@ -161,15 +170,12 @@ txs-kept s (t ∷ ts) a =
 
 -- ---- the whole
 
-abbrev noneUsed : List Tx
-noneUsed = replicate 8 emptyTx
-
-txs-none : (y : Option (List Saved)) (x : TxsRead) → x ≡ txsRead noneUsed 0 y → x .ok ≡ false → y ≡ none
+txs-none : (y : Option (List Saved)) (x : TxsRead) → x ≡ txsRead y → x .ok ≡ false → y ≡ none
 txs-none none x e f = refl
 txs-none (some ts) x e f = let g : true ≡ false = sym (ap (λ (u : TxsRead). u .ok) e) ∙ f in clash (cc)
 
-txs-some : (y : Option (List Saved)) (x : TxsRead) → x ≡ txsRead noneUsed 0 y → x .ok ≡ true → (ts : List Saved) × (y ≡ some ts) × (x .txs ≡ packedTxs ts)
-unfolding noTxs packedTxs
+txs-some : (y : Option (List Saved)) (x : TxsRead) → x ≡ txsRead y → x .ok ≡ true → (ts : List Saved) × (y ≡ some ts) × (x .txs ≡ packedTxs ts)
+unfolding noTxs
 txs-some none x e f = let g : false ≡ true = sym (ap (λ (u : TxsRead). u .ok) e) ∙ f in clash (cc)
 txs-some (some ts) x e f = (ts, refl, ap (λ (u : TxsRead). u .txs) e)
 
@@ -212,13 +218,14 @@ module _ (s : List ℕ) where
   abbrev pub imageHere : List Tx → Image
   imageHere txs = imageWith (be16 s 0) (be32 s 2) (be32 s 6) (be16 s 10) (getD s 12 0) txs
 
-  module _ (h : 4109 ≤ length s) (l : getD s 12 0 ≤ 8) (x : TxsRead) (e : x ≡ txsRead noneUsed 0 (readTxs (getD s 12 0) (drop 4109 s))) where
+  module _ (h : 4109 ≤ length s) (l : getD s 12 0 ≤ 8) (x : TxsRead) (e : x ≡ txsRead (readTxs (getD s 12 0) (drop 4109 s))) where
     pub content-none : x .ok ≡ false → readContent s ≡ none
     content-none f =
         content-txs h l ∙ ap (contentIf (be16 s 0) (be32 s 2) (be32 s 6) (be16 s 10)) (txs-none (readTxs (getD s 12 0) (drop 4109 s)) x e f)
 
     -- the image is the layout of the content that was read, and its rules are the content's
-    pub content-some : x .ok ≡ true → (c : Content) × (readContent s ≡ some c) × (imageHere (x .txs) ≡ packed c) × (keepsRules (imageHere (x .txs)) ≡ contentOk c)
+    pub content-some : x .ok ≡ true
+        → (c : Content) × (readContent s ≡ some c) × (imageHere (x .txs) ≡ packed c) × (keepsRules (imageHere (x .txs)) ≡ contentOk c)
     unfolding packed
     content-some f =
         let w = txs-some (readTxs (getD s 12 0) (drop 4109 s)) x e f in

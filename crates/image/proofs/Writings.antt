@@ -15,7 +15,8 @@ use Rattle.transaction.specs.declared.Tx.{Tx}
 use Rattle.transaction.specs.Lists.{upFrom}
 use Rattle.transaction.proofs.Lists.{up-turn}
 use Rattle.image.specs.Content.{Saved, saved, Content, savedAt}
-use Rattle.image.specs.Format.{headBytes, encodeHead, encodeTxHead, encodeUndo, encodeUndos, encodeTx, encodeTxs, encodeContent, undosSize, txSize, txsSize}
+use Rattle.image.specs.Format.{headBytes, encodeHead, encodeTxHead, encodeUndo, encodeUndos, encodeTx, encodeTxs, encodeContent, undosSize, txSize}
+use Rattle.image.specs.Format.{txsSize}
 use Rattle.image.proofs.Sizes.{length-undo, length-tx}
 
 -- ---- stores one after the other
@@ -61,7 +62,8 @@ module _ (addr len bytes : List ℕ) (n i : ℕ) (h : i < n)
 
   pub undo-turn : (o : ℕ) (b c : List ℕ)
       → c ≡ sets b o (encodeUndo (record { addr = getD addr i 0; bytes = take (i * 32 + getD len i 0 - i * 32) (drop (i * 32) bytes) }))
-      → sets b o (encodeUndos (writesFrom addr len bytes (n - i) i)) ≡ sets c (o + (3 + getD len i 0)) (encodeUndos (writesFrom addr len bytes (n - (i + 1)) (i + 1)))
+      → sets b o (encodeUndos (writesFrom addr len bytes (n - i) i))
+      ≡ sets c (o + (3 + getD len i 0)) (encodeUndos (writesFrom addr len bytes (n - (i + 1)) (i + 1)))
   undo-turn = turn-stores addr len bytes n i h p 3 encodeUndo encodeUndos (λ u us. refl) length-undo
 
 -- ---- a turn of the loop over transactions

@@ -4,6 +4,7 @@ use mathlib.Core.Bool.{Bool}
 use mathlib.Core.List.{List, [], map}
 use lib.ListN.{length}
 use lib.Dec.{eqb}
+use Rattle.layout.specs.{statusCommitting}
 use Rattle.recovery.specs.Group.{Write}
 use Rattle.recovery.specs.Transaction.{Tx as Transaction}
 use Rattle.transaction.specs.declared.Tx.{Tx}
@@ -60,7 +61,7 @@ contentOk c = imageOk (c .logend) (c .ondisk) (c .assigned) (c .lastid) (map out
 -- ---- transactions as recovery has them: an image on disk holds no redo records
 
 abbrev pub transactionOf : Saved → Transaction
-transactionOf (saved id status csn us) = record { id = id; committing = eqb status 2; csn = csn; undo = us; redo = [] }
+transactionOf (saved id status csn us) = record { id = id; committing = eqb status statusCommitting; csn = csn; undo = us; redo = [] }
 
 abbrev pub transactionsIn : Image → List Transaction
 transactionsIn i = map viewOf (listed (i .txs) (i .count))

@@ -1,14 +1,13 @@
 -- What decode and the readers under it answer.
 use Prim.Native.Nat.{ℕ, _+_}
 use mathlib.Core.Bool.{true, false, cond}
-use mathlib.Core.List.{List, map}
+use mathlib.Core.List.{List}
 use mathlib.Core.Option.{Option, none, some}
 use lib.ListN.{getD, take, drop, replicate}
-use lib.Seq.{sets}
+use Rattle.layout.specs.{undoHeadLen, maxTxs}
 use Rattle.recovery.specs.Group.{Write}
 use Rattle.log.specs.Number.{be16}
-use Rattle.transaction.specs.declared.Records.{Records}
-use Rattle.transaction.specs.declared.Tx.{Tx}
+use Rattle.transaction.specs.declared.records.Records.{Records}
 use Rattle.transaction.specs.Flat.{emptyRecords, emptyTx}
 use Rattle.transaction.specs.Steps.{pushed}
 use Rattle.image.specs.declared.read.Undos.{Undos}
@@ -18,7 +17,7 @@ use Rattle.image.specs.declared.read.Decoded.{Decoded}
 use Rattle.image.specs.Content.{Saved, Content}
 use Rattle.image.specs.Format.{undosSize, txSize}
 use Rattle.image.specs.Reading.{undoHere, readImage}
-use Rattle.image.specs.Pack.{pushedAll, packedTx, packed, emptyImage}
+use Rattle.image.specs.Pack.{pushedAll, packedTx, packedTxs, packed, emptyImage}
 
 -- ---- of a part that is not there, all zero
 
@@ -29,7 +28,7 @@ unfoldable pub noTxRead : TxRead
 noTxRead = record { ok = false; tx = emptyTx; size = 0 }
 
 unfoldable pub noTxs : TxsRead
-noTxs = record { ok = false; txs = replicate 8 emptyTx }
+noTxs = record { ok = false; txs = replicate maxTxs emptyTx }
 
 unfoldable pub notDecoded : Decoded
 notDecoded = record { ok = false; image = emptyImage }
@@ -40,22 +39,20 @@ notDecoded = record { ok = false; image = emptyImage }
 unfoldable pub undoStep : Records → List ℕ → Undos
 undoStep r s =
     cond (undoHere s)
-    (record { ok = true; undo = pushed r (be16 s 0) (take (getD s 2 0) (drop 3 s)); size = 3 + getD s 2 0 })
+    (record { ok = true; undo = pushed r (be16 s 0) (take (getD s 2 0) (drop undoHeadLen s)); size = undoHeadLen + getD s 2 0 })
     noUndos
 
--- records behind those of r that took the first `at` bytes
-abbrev pub undosRead : ℕ → Records → Option (List Write) → Undos
-undosRead at r none = noUndos
-undosRead at r (some us) = record { ok = true; undo = pushedAll r us; size = at + undosSize us }
+abbrev pub undosRead : Option (List Write) → Undos
+undosRead none = noUndos
+undosRead (some us) = record { ok = true; undo = pushedAll emptyRecords us; size = undosSize us }
 
 abbrev pub txRead : Option Saved → TxRead
 txRead none = noTxRead
 txRead (some t) = record { ok = true; tx = packedTx t; size = txSize t }
 
--- transactions from slot k of txs on
-abbrev pub txsRead : List Tx → ℕ → Option (List Saved) → TxsRead
-txsRead txs k none = noTxs
-txsRead txs k (some ts) = record { ok = true; txs = sets txs k (map packedTx ts) }
+abbrev pub txsRead : Option (List Saved) → TxsRead
+txsRead none = noTxs
+txsRead (some ts) = record { ok = true; txs = packedTxs ts }
 
 abbrev pub decodedOf : Option Content → Decoded
 decodedOf none = notDecoded

@@ -2,6 +2,7 @@
 use Prim.Native.Nat.{ℕ, _+_}
 use mathlib.Core.List.{List, [], _∷_, _++_}
 use lib.ListN.{length}
+use Rattle.layout.specs.{txsStart, txHeadLen, undoHeadLen}
 use Rattle.recovery.specs.Group.{Write}
 use Rattle.log.specs.Number.{bytes16, bytes32}
 use Rattle.image.specs.declared.Image.{Image}
@@ -47,10 +48,10 @@ encodeImage i memory = encodeContent (contentOf i) memory
 
 abbrev pub undosSize : List Write → ℕ
 undosSize [] = 0
-undosSize (u ∷ us) = 3 + length (u .bytes) + undosSize us
+undosSize (u ∷ us) = undoHeadLen + length (u .bytes) + undosSize us
 
 abbrev pub txSize : Saved → ℕ
-txSize t = 8 + undosSize (undosIn t)
+txSize t = txHeadLen + undosSize (undosIn t)
 
 abbrev pub txsSize : List Saved → ℕ
 txsSize [] = 0
@@ -58,7 +59,7 @@ txsSize (t ∷ ts) = txSize t + txsSize ts
 
 -- the bytes that an image uses
 abbrev pub contentSize : Content → ℕ
-contentSize c = 4109 + txsSize (c .txs)
+contentSize c = txsStart + txsSize (c .txs)
 
 abbrev pub imageSize : Image → ℕ
 imageSize i = contentSize (contentOf i)

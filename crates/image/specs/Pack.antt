@@ -3,8 +3,9 @@ use Prim.Native.Nat.{ℕ}
 use mathlib.Core.List.{List, [], _∷_, map}
 use lib.ListN.{length, replicate}
 use lib.Seq.{sets}
+use Rattle.layout.specs.{maxTxs}
 use Rattle.recovery.specs.Group.{Write}
-use Rattle.transaction.specs.declared.Records.{Records}
+use Rattle.transaction.specs.declared.records.Records.{Records}
 use Rattle.transaction.specs.declared.Tx.{Tx}
 use Rattle.transaction.specs.Flat.{emptyRecords, emptyTx}
 use Rattle.transaction.specs.Steps.{pushed}
@@ -24,7 +25,7 @@ packedTx (saved id status csn us) = loaded id status csn (pushedAll emptyRecords
 
 -- eight slots, the first ones used
 unfoldable pub packedTxs : List Saved → List Tx
-packedTxs ts = sets (replicate 8 emptyTx) 0 (map packedTx ts)
+packedTxs ts = sets (replicate maxTxs emptyTx) 0 (map packedTx ts)
 
 unfoldable pub packed : Content → Image
 packed c =
@@ -46,5 +47,5 @@ emptyImage =
       assigned = record { 0 = 0 };
       lastid = record { 0 = 0 };
       count = 0;
-      txs = replicate 8 emptyTx;
+      txs = replicate maxTxs emptyTx;
     }

@@ -6,6 +6,7 @@ use mathlib.Core.List.{List, []}
 use mathlib.Core.Option.{Option, none, some}
 use lib.ListN.{length, getD, take, drop}
 use lib.Dec.{leb}
+use Rattle.layout.specs.{memoryLen, countersLen, txsStart, txHeadLen, undoHeadLen, maxTxs, maxRecords}
 use Rattle.recovery.specs.Group.{Write}
 use Rattle.log.specs.Number.{be16, be32}
 use Rattle.log.specs.Record.{inRange}
@@ -15,15 +16,15 @@ use Rattle.image.specs.Format.{txSize}
 
 -- an undo record stands at the front of s: its range keeps the rule and its bytes are there
 unfoldable pub undoHere : List ℕ → Bool
-undoHere s = inRange (be16 s 0) (getD s 2 0) && leb (3 + getD s 2 0) (length s)
+undoHere s = inRange (be16 s 0) (getD s 2 0) && leb (undoHeadLen + getD s 2 0) (length s)
 
 abbrev pub firstUndo : List ℕ → Write
-firstUndo s = record { addr = be16 s 0; bytes = take (getD s 2 0) (drop 3 s) }
+firstUndo s = record { addr = be16 s 0; bytes = take (getD s 2 0) (drop undoHeadLen s) }
 
 -- n undo records
 abbrev pub readUndos : ℕ → List ℕ → Option (List Write)
 readUndos zero s = some []
-readUndos (suc n) s = cond (undoHere s) (andThen (firstUndo s) (readUndos n (drop (3 + getD s 2 0) s))) none
+readUndos (suc n) s = cond (undoHere s) (andThen (firstUndo s) (readUndos n (drop (undoHeadLen + getD s 2 0) s))) none
 
 abbrev pub savedIf : ℕ → ℕ → ℕ → Option (List Write) → Option Saved
 savedIf id status csn none = none
@@ -32,8 +33,8 @@ savedIf id status csn (some us) = some (saved id status csn us)
 -- a transaction of at most 16 undo records
 unfoldable pub readTx : List ℕ → Option Saved
 readTx s =
-    cond (leb 8 (length s) && leb (getD s 7 0) 16)
-    (savedIf (be16 s 0) (getD s 2 0) (be32 s 3) (readUndos (getD s 7 0) (drop 8 s)))
+    cond (leb txHeadLen (length s) && leb (getD s 7 0) maxRecords)
+    (savedIf (be16 s 0) (getD s 2 0) (be32 s 3) (readUndos (getD s 7 0) (drop txHeadLen s)))
     none
 
 abbrev pub onTx : (List ℕ → Option (List Saved)) → List ℕ → Option Saved → Option (List Saved)
@@ -53,8 +54,8 @@ contentIf logend ondisk assigned lastid (some ts) =
 -- all that an image of at most 8 transactions holds
 unfoldable pub readContent : List ℕ → Option Content
 readContent s =
-    cond (leb 4109 (length s) && leb (getD s 12 0) 8)
-    (contentIf (be16 s 0) (be32 s 2) (be32 s 6) (be16 s 10) (readTxs (getD s 12 0) (drop 4109 s)))
+    cond (leb txsStart (length s) && leb (getD s 12 0) maxTxs)
+    (contentIf (be16 s 0) (be32 s 2) (be32 s 6) (be16 s 10) (readTxs (getD s 12 0) (drop txsStart s)))
     none
 
 abbrev pub keepingRules : Option Content → Option Content
@@ -67,4 +68,4 @@ readImage s = keepingRules (readContent s)
 
 -- "the 4,096 memory bytes" of an image
 unfoldable pub memoryOf : List ℕ → List ℕ
-memoryOf s = take 4096 (drop 13 s)
+memoryOf s = take memoryLen (drop countersLen s)

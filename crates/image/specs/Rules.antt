@@ -4,6 +4,7 @@ use mathlib.Core.Bool.{Bool, true, not, _&&_}
 use mathlib.Core.List.{List, [], _∷_}
 use lib.ListN.{length}
 use lib.Dec.{leb}
+use Rattle.layout.specs.{logLen, maxTxs}
 use Rattle.recovery.specs.Lists.{any}
 use Rattle.transaction.specs.Lists.{every}
 use Rattle.transaction.specs.View.{Outline, outline}
@@ -22,9 +23,12 @@ distinct (t ∷ ts) = not (any (alikeTo t) ts) && distinct ts
 abbrev pub outlinesOk : ℕ → ℕ → List Outline → Bool
 outlinesOk last assigned ts = every (outlineOk last assigned) ts && distinct ts
 
--- "log end ≤ 16,384; number on disk ≤ number assigned; at most 8 transactions", and the rules of the transactions
+-- "log end ≤ 16,384; number on disk ≤ number assigned; at most 8 transactions"
+abbrev pub boundsOk : ℕ → ℕ → ℕ → ℕ → Bool
+boundsOk logend ondisk assigned count = leb logend logLen && leb ondisk assigned && leb count maxTxs
+
 abbrev pub imageOk : ℕ → ℕ → ℕ → ℕ → List Outline → Bool
-imageOk logend ondisk assigned last ts = leb logend 16384 && leb ondisk assigned && leb (length ts) 8 && outlinesOk last assigned ts
+imageOk logend ondisk assigned last ts = boundsOk logend ondisk assigned (length ts) && outlinesOk last assigned ts
 
 abbrev pub keepsRules : Image → Bool
 keepsRules i = imageOk (i .logend) (i .ondisk .0) (i .assigned .0) (i .lastid .0) (outlined (i .txs) (i .count))

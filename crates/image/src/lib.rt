@@ -5,15 +5,18 @@ pub mod write;
 
 use crate::keys::alike_from;
 use crate::keys::keys_of;
+use layout::LOG_LEN;
+use layout::MAX_TXS;
 use log::Csn;
 use log::TxId;
 use transaction::Tx;
 ghost use mathlib.Core.Path.{_≡_};
 ghost use Prim.Native.Nat.{_≤_};
+ghost use Rattle.layout.specs.{maxTxs};
 ghost use Rattle.transaction.specs.Lists.{every};
 ghost use Rattle.transaction.specs.Rules.{outlineOk};
 ghost use Rattle.image.specs.Slots.{outlined};
-ghost use Rattle.image.specs.Rules.{distinct, keepsRules};
+ghost use Rattle.image.specs.Rules.{boundsOk, distinct, keepsRules};
 ghost use Rattle.image.specs.Pack.{emptyImage};
 
 // Transactions in order of begin, in the first count slots.
@@ -23,7 +26,20 @@ pub struct Image {
     pub assigned: Csn,
     pub lastid: TxId,
     pub count: u8,
-    pub txs: [Tx; 8],
+    pub txs: [Tx; MAX_TXS],
+}
+
+// The image rules of the counters, for an image and for a state.
+pub fn bounds_ok(logend: u16, ondisk: Csn, assigned: Csn, count: u8) -> bool
+    ensures { λ r. ⌜ r ≡ boundsOk logend (ondisk .0) (assigned .0) count ⌝ }
+{
+    if LOG_LEN < logend as usize {
+        return false;
+    }
+    if assigned.0 < ondisk.0 {
+        return false;
+    }
+    count as usize <= MAX_TXS
 }
 
 impl Image {
@@ -37,21 +53,15 @@ impl Image {
             assigned: Csn(0),
             lastid: TxId(0),
             count: 0,
-            txs: [none; 8],
+            txs: [none; MAX_TXS],
         }
     }
 
     // The image rules.
-    pub fn ok(self) -> bool
+    pub(crate) fn ok(self) -> bool
         ensures { λ r. ⌜ r ≡ keepsRules self ⌝ }
     {
-        if 16384 < self.logend {
-            return false;
-        }
-        if self.assigned.0 < self.ondisk.0 {
-            return false;
-        }
-        if 8 < self.count {
+        if !bounds_ok(self.logend, self.ondisk, self.assigned, self.count) {
             return false;
         }
         if !self.each_ok() {
@@ -62,7 +72,7 @@ impl Image {
 
     // Each transaction by itself keeps the rules.
     fn each_ok(self) -> bool
-        requires { ⌜ self .count ≤ 8 ⌝ }
+        requires { ⌜ self .count ≤ maxTxs ⌝ }
         ensures { λ r. ⌜ r ≡ every (outlineOk (self .lastid .0) (self .assigned .0)) (outlined (self .txs) (self .count)) ⌝ }
     {
         let n = self.count as usize;
@@ -81,7 +91,7 @@ impl Image {
 
     // No two have an id or a commit number in common.
     fn distinct(self) -> bool
-        requires { ⌜ self .count ≤ 8 ⌝ }
+        requires { ⌜ self .count ≤ maxTxs ⌝ }
         ensures { λ r. ⌜ r ≡ distinct (outlined (self .txs) (self .count)) ⌝ }
     {
         let n = self.count as usize;

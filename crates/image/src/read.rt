@@ -1,16 +1,20 @@
 // Reading an image. Each reader looks at the front of the slice that it is handed.
 use crate::Image;
+use layout::MAX_RECORDS;
+use layout::MAX_TXS;
+use layout::TX_HEAD_LEN;
+use layout::TXS_START;
+use layout::UNDO_HEAD_LEN;
 use log::Csn;
 use log::TxId;
 use log::number::be16;
 use log::number::be32;
 use log::record::in_range;
-use transaction::Records;
 use transaction::Tx;
+use transaction::records::Records;
 ghost use mathlib.Core.Path.{_≡_};
 ghost use Prim.Native.Nat.{_<_, _≤_};
-ghost use lib.ListN.{replicate};
-ghost use Rattle.transaction.specs.Flat.{emptyRecords, emptyTx};
+ghost use Rattle.layout.specs.{maxTxs, maxRecords};
 ghost use Rattle.image.specs.Reading.{readUndos, readTx, readTxs};
 ghost use Rattle.image.specs.Pack.{loaded};
 ghost use Rattle.image.specs.Decode.{noUndos, noTxRead, noTxs, notDecoded, undoStep, undosRead, txRead, txsRead, decodeOf};
@@ -32,7 +36,7 @@ struct TxRead {
 // All transactions of an image.
 struct TxsRead {
     ok: bool,
-    txs: [Tx; 8],
+    txs: [Tx; MAX_TXS],
 }
 
 // An image; all zero where none that keeps the rules could be read.
@@ -69,7 +73,7 @@ fn no_txs() -> TxsRead
     let none = Tx::empty();
     TxsRead {
         ok: false,
-        txs: [none; 8],
+        txs: [none; MAX_TXS],
     }
 }
 
@@ -99,10 +103,10 @@ fn loaded(id: TxId, status: u8, csn: Csn, undo: Records) -> Tx
 
 // One undo record more.
 fn undo_step(undo: Records, s: &[u8]) -> Undos
-    requires { ⌜ undo .count < 16 ⌝ }
+    requires { ⌜ undo .count < maxRecords ⌝ }
     ensures { λ r. ⌜ r ≡ undoStep undo (now (s .entry)) ⌝ }
 {
-    if s.len() < 3 {
+    if s.len() < UNDO_HEAD_LEN {
         return no_undos();
     }
     let addr = be16(s, 0);
@@ -110,11 +114,11 @@ fn undo_step(undo: Records, s: &[u8]) -> Undos
     if !in_range(addr as usize, len) {
         return no_undos();
     }
-    let end = 3 + len;
+    let end = UNDO_HEAD_LEN + len;
     if s.len() < end {
         return no_undos();
     }
-    let more = undo.push(addr, &s[3..end]);
+    let more = undo.push(addr, &s[UNDO_HEAD_LEN..end]);
     Undos {
         ok: true,
         undo: more,
@@ -123,8 +127,8 @@ fn undo_step(undo: Records, s: &[u8]) -> Undos
 }
 
 fn read_undos(s: &[u8], n: usize) -> Undos
-    requires { ⌜ n ≤ 16 ⌝ }
-    ensures { λ r. ⌜ r ≡ undosRead 0 emptyRecords (readUndos n (now (s .entry))) ⌝ }
+    requires { ⌜ n ≤ maxRecords ⌝ }
+    ensures { λ r. ⌜ r ≡ undosRead (readUndos n (now (s .entry))) ⌝ }
 {
     let mut undo = Records::empty();
     let mut at: usize = 0;
@@ -148,14 +152,14 @@ fn read_undos(s: &[u8], n: usize) -> Undos
 fn read_tx(s: &[u8]) -> TxRead
     ensures { λ r. ⌜ r ≡ txRead (readTx (now (s .entry))) ⌝ }
 {
-    if s.len() < 8 {
+    if s.len() < TX_HEAD_LEN {
         return no_tx();
     }
-    let n = s[7];
-    if 16 < n {
+    let n = s[7] as usize;
+    if MAX_RECORDS < n {
         return no_tx();
     }
-    let x = read_undos(&s[8..], n as usize);
+    let x = read_undos(&s[TX_HEAD_LEN..], n);
     if !x.ok {
         return no_tx();
     }
@@ -166,16 +170,16 @@ fn read_tx(s: &[u8]) -> TxRead
     TxRead {
         ok: true,
         tx: tx,
-        size: 8 + x.size,
+        size: TX_HEAD_LEN + x.size,
     }
 }
 
 fn read_txs(s: &[u8], n: usize) -> TxsRead
-    requires { ⌜ n ≤ 8 ⌝ }
-    ensures { λ r. ⌜ r ≡ txsRead (replicate 8 emptyTx) 0 (readTxs n (now (s .entry))) ⌝ }
+    requires { ⌜ n ≤ maxTxs ⌝ }
+    ensures { λ r. ⌜ r ≡ txsRead (readTxs n (now (s .entry))) ⌝ }
 {
     let none = Tx::empty();
-    let mut txs = [none; 8];
+    let mut txs = [none; MAX_TXS];
     let mut at: usize = 0;
     let mut k: usize = 0;
     while k < n {
@@ -191,18 +195,18 @@ fn read_txs(s: &[u8], n: usize) -> TxsRead
     TxsRead { ok: true, txs: txs }
 }
 
-// The image at the front of s. Its memory is s[13..4109].
+// The image at the front of s. Its memory stands between the counters and the transactions.
 pub fn decode(s: &[u8]) -> Decoded
     ensures { λ r. ⌜ r ≡ decodeOf (now (s .entry)) ⌝ }
 {
-    if s.len() < 4109 {
+    if s.len() < TXS_START {
         return not_decoded();
     }
     let n = s[12];
-    if 8 < n {
+    if MAX_TXS < n as usize {
         return not_decoded();
     }
-    let x = read_txs(&s[4109..], n as usize);
+    let x = read_txs(&s[TXS_START..], n as usize);
     let whole = x.ok;
     if !whole {
         return not_decoded();

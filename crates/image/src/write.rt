@@ -1,17 +1,23 @@
 // Writing an image. Each writer stores its bytes from an offset on; those of lists return where they end.
 use crate::Image;
+use layout::COUNTERS_LEN;
+use layout::MAX_WRITE;
+use layout::TX_HEAD_LEN;
+use layout::TXS_START;
+use layout::UNDO_HEAD_LEN;
 use log::Csn;
 use log::TxId;
 use log::number::put16;
 use log::number::put32;
 use log::stores::copy;
-use transaction::Records;
 use transaction::Tx;
+use transaction::records::Records;
 ghost use mathlib.Core.Path.{_≡_};
 ghost use mathlib.Core.Bool.{true};
 ghost use Prim.Native.Nat.{_+_, _<_, _≤_};
 ghost use lib.ListN.{length};
 ghost use lib.Seq.{sets};
+ghost use Rattle.layout.specs.{memoryLen, imageLen, countersLen, undoHeadLen};
 ghost use Rattle.transaction.specs.View.{rangesOf, writesOf};
 ghost use Rattle.transaction.specs.Rules.{recordsOk};
 ghost use Rattle.image.specs.Rules.{keepsRules};
@@ -20,12 +26,12 @@ ghost use Rattle.image.specs.Format.{headBytes, encodeUndo, encodeUndos,
 
 fn put_undo(b: &mut [u8], at: usize, addr: u16, src: &[u8])
     requires { ⌜ length (now src) < 256 ⌝ }
-    requires { ⌜ at + (3 + length (now src)) ≤ length (now b) ⌝ }
+    requires { ⌜ at + (undoHeadLen + length (now src)) ≤ length (now b) ⌝ }
     ensures { λ _. ⌜ now (b .exit) ≡ sets (now (b .entry)) at (encodeUndo (record { addr = addr; bytes = now (src .entry) })) ⌝ }
 {
     put16(b, at, addr);
     b[at + 2] = src.len() as u8;
-    copy(b, at + 3, src);
+    copy(b, at + UNDO_HEAD_LEN, src);
 }
 
 fn put_undos(b: &mut [u8], at: usize, undo: Records) -> usize
@@ -42,9 +48,9 @@ fn put_undos(b: &mut [u8], at: usize, undo: Records) -> usize
     let mut i: usize = 0;
     while i < n {
         let l = len[i] as usize;
-        let from = i * 32;
+        let from = i * MAX_WRITE;
         put_undo(b, o, addr[i], &bytes[from..from + l]);
-        o = o + (3 + l);
+        o = o + (UNDO_HEAD_LEN + l);
         i += 1;
     }
     o
@@ -61,7 +67,7 @@ fn put_tx(b: &mut [u8], at: usize, t: Tx) -> usize
     put32(b, at + 3, t.csn.0);
     b[at + 7] = t.undo.count;
     let undo = t.undo;
-    put_undos(b, at + 8, undo)
+    put_undos(b, at + TX_HEAD_LEN, undo)
 }
 
 fn put_txs(b: &mut [u8], at: usize, image: Image) -> usize
@@ -82,7 +88,7 @@ fn put_txs(b: &mut [u8], at: usize, image: Image) -> usize
 }
 
 fn put_head(b: &mut [u8], logend: u16, ondisk: Csn, assigned: Csn, lastid: TxId, count: u8)
-    requires { ⌜ 13 ≤ length (now b) ⌝ }
+    requires { ⌜ countersLen ≤ length (now b) ⌝ }
     ensures { λ _. ⌜ now (b .exit) ≡ sets (now (b .entry)) 0 (headBytes logend (ondisk .0) (assigned .0) (lastid .0) count) ⌝ }
 {
     put16(b, 0, logend);
@@ -95,7 +101,7 @@ fn put_head(b: &mut [u8], logend: u16, ondisk: Csn, assigned: Csn, lastid: TxId,
 // Stores the image with this memory into the front of b, and returns how many bytes it uses. What stands past them stays.
 pub fn encode(b: &mut [u8], image: Image, memory: &[u8]) -> usize
     requires { ⌜ keepsRules image ≡ true ⌝ }
-    requires { ⌜ (length (now memory) ≡ 4096) × (8653 ≤ length (now b)) ⌝ }
+    requires { ⌜ (length (now memory) ≡ memoryLen) × (imageLen ≤ length (now b)) ⌝ }
     ensures { λ r. ⌜ r ≡ imageSize image ⌝ }
     ensures { λ _. ⌜ now (b .exit) ≡ sets (now (b .entry)) 0 (encodeImage image (now (memory .entry))) ⌝ }
 {
@@ -107,6 +113,6 @@ pub fn encode(b: &mut [u8], image: Image, memory: &[u8]) -> usize
         image.lastid,
         image.count,
     );
-    copy(b, 13, memory);
-    put_txs(b, 4109, image)
+    copy(b, COUNTERS_LEN, memory);
+    put_txs(b, TXS_START, image)
 }

@@ -60,5 +60,6 @@ module _ (addr len bytes : List ℕ) (n i : ℕ) (h : i < n)
 
   pub redo-stores : (id csn o : ℕ) (b c : List ℕ)
       → c ≡ sets b o (encode (redo id (record { addr = getD addr i 0; bytes = take (i * 32 + getD len i 0 - i * 32) (drop (i * 32) bytes) })))
-      → sets b o (encodeBody id csn (writesFrom addr len bytes (n - i) i)) ≡ sets c (o + (7 + getD len i 0)) (encodeBody id csn (writesFrom addr len bytes (n - (i + 1)) (i + 1)))
+      → sets b o (encodeBody id csn (writesFrom addr len bytes (n - i) i))
+      ≡ sets c (o + (7 + getD len i 0)) (encodeBody id csn (writesFrom addr len bytes (n - (i + 1)) (i + 1)))
   redo-stores id csn = turn-stores addr len bytes n i h p 7 (λ w. encode (redo id w)) (encodeBody id csn) (λ w ws. refl) (λ w. length-encode (redo id w))

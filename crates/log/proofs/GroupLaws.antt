@@ -14,7 +14,7 @@ use Rattle.recovery.specs.Group.{Write, Group, committed, aborted, redoSize, gr
 use Rattle.log.specs.Record.{Record, redo, commit, abort, readRecord}
 use Rattle.log.specs.Group.{groupBy, turnOf, more, last, stop, andThen, onTurn, bodyStep, readBody, committedIf, readGroup, endOf}
 use Rattle.log.specs.declared.group.GroupEnd.{GroupEnd}
-use Rattle.log.specs.declared.group.GroupEnd.the-variants.{Committed, NoGroup}
+use Rattle.log.specs.declared.group.GroupEnd.the-variants.{Aborted, Committed, NoGroup}
 use Rattle.log.proofs.Basics.{clash, and-left, and-right, Turned}
 use Rattle.log.proofs.Reader.{Shrinks, step}
 use Rattle.log.proofs.RecordLaws.{record-within}
@@ -42,8 +42,19 @@ body-step prev id s = step (bodyStep prev) none (body-shrinks prev) id s
 
 -- ---- what the code answers of a body, by its first record
 
+-- of a group that starts at a place
+abbrev endFrom : ℕ → Option Group → GroupEnd
+endFrom at none = NoGroup
+endFrom at (some (committed id csn ws)) = Committed (record { 0 = id }) (record { 0 = csn }) (at + (redoSize ws + 8))
+endFrom at (some (aborted id)) = Aborted (record { 0 = id }) (at + 4)
+
+pub body-start : (x : Option Group) → endOf x ≡ endFrom 0 x
+body-start none = refl
+body-start (some (committed id csn ws)) = ap (λ (k : ℕ). Committed (record { 0 = id }) (record { 0 = csn }) k) (omega arith)
+body-start (some (aborted id)) = refl
+
 abbrev pub bodyEnd : ℕ → ℕ → ℕ → List ℕ → GroupEnd
-bodyEnd prev id at t = endOf at (committedIf id (prev + 1) (readBody prev id t))
+bodyEnd prev id at t = endFrom at (committedIf id (prev + 1) (readBody prev id t))
 
 module _ (prev id at : ℕ) (t : List ℕ) where
   body-stop : turnOf prev id (readRecord t) ≡ stop → bodyEnd prev id at t ≡ NoGroup
@@ -72,7 +83,8 @@ module _ (prev id at : ℕ) (t : List ℕ) where
       → bodyEnd prev id at t ≡ bodyEnd prev id (at + (7 + length (w .bytes))) (drop (7 + length (w .bytes)) t)
   body-more w e = rw (body-step prev id t, e) (simp (eq-eqb id id refl) (go (readBody prev id (drop (7 + length (w .bytes)) t))))
     where
-      go : (x : Option (List Write)) → endOf at (committedIf id (prev + 1) (andThen w x)) ≡ endOf (at + (7 + length (w .bytes))) (committedIf id (prev + 1) x)
+      go : (x : Option (List Write))
+          → endFrom at (committedIf id (prev + 1) (andThen w x)) ≡ endFrom (at + (7 + length (w .bytes))) (committedIf id (prev + 1) x)
       go none = refl
       go (some ws) = ap (λ (k : ℕ). Committed (record { 0 = id }) (record { 0 = prev + 1 }) k) (omega arith)
 

@@ -1,11 +1,12 @@
--- The laws of the log's format, by what they say: reading (Reader, RecordLaws, GroupLaws, LogLaws), the code's answers (Answers),
--- round trip and prefix (RoundTrip), soundness (Soundness), cut and zeroed lists (Torn), parts of a log (Parts), stores (StoreLaws, FlatLaws); worked cases (Cases).
+-- The laws of the log's format, by what they say: reading (Reader, RecordLaws, GroupLaws, LogLaws), what the code's answers say (Inversions),
+-- round trip and prefix (RoundTrip), soundness (Soundness), cut and zeroed lists (Torn), parts of a log (Parts), stores (StoreLaws,
+-- FlatLaws); worked cases (Cases).
 pub mod Basics
 pub mod Reader
 pub mod RecordLaws
 pub mod GroupLaws
 pub mod LogLaws
-pub mod Answers
+pub mod Inversions
 pub mod RoundTrip
 pub mod Soundness
 pub mod Torn

@@ -35,10 +35,16 @@ log-more prev s g e = log-step prev s ∙ ap (onGroup readLog prev s) e
 
 -- ---- what the code answers of the first m groups of a log, at a place of a list
 
-abbrev pub firstEnd : ℕ → ℕ → ℕ → List ℕ → LogEnd
-firstEnd at prev m s = logEndOf at prev (take m (readLog prev s))
+abbrev endFrom : ℕ → ℕ → List Group → LogEnd
+endFrom at prev gs = record { end = at + groupsSize gs; csn = record { 0 = lastCsn prev gs } }
 
-first-nil : (at prev : ℕ) → logEndOf at prev [] ≡ record { end = at; csn = record { 0 = prev } }
+pub first-start : (prev : ℕ) (gs : List Group) → logEndOf prev gs ≡ endFrom 0 prev gs
+first-start prev gs = ap (λ (k : ℕ). record { end = k; csn = record { 0 = lastCsn prev gs } }) (omega arith)
+
+abbrev pub firstEnd : ℕ → ℕ → ℕ → List ℕ → LogEnd
+firstEnd at prev m s = endFrom at prev (take m (readLog prev s))
+
+first-nil : (at prev : ℕ) → endFrom at prev [] ≡ record { end = at; csn = record { 0 = prev } }
 first-nil at prev = ap (λ (k : ℕ). record { end = k; csn = record { 0 = prev } }) (omega arith)
 
 -- none are asked for, or none is there
@@ -46,10 +52,12 @@ pub first-zero : (at prev m : ℕ) (s : List ℕ) → m ≡ 0 → firstEnd at pr
 first-zero at prev m s e = ap (λ (k : ℕ). firstEnd at prev k s) e ∙ first-nil at prev
 
 pub first-none : (at prev m : ℕ) (s : List ℕ) → readGroup prev s ≡ none → firstEnd at prev m s ≡ record { end = at; csn = record { 0 = prev } }
-first-none at prev m s e = ap (λ (gs : List Group). logEndOf at prev (take m gs)) (log-none prev s e) ∙ ap (logEndOf at prev) (take-nil m) ∙ first-nil at prev
+first-none at prev m s e =
+    ap (λ (gs : List Group). endFrom at prev (take m gs)) (log-none prev s e) ∙ ap (endFrom at prev) (take-nil m) ∙ first-nil at prev
 
 -- over a group, at a place of a list
-pub first-turn : (prev at : ℕ) (s : List ℕ) (k n m : ℕ) (g : Group) → at ≤ length s → readGroup prev (drop at s) ≡ some g → k ≡ groupSize g → n ≡ csnAfter prev g → 0 < m
+pub first-turn : (prev at : ℕ) (s : List ℕ) (k n m : ℕ) (g : Group) → at ≤ length s → readGroup prev (drop at s) ≡ some g → k ≡ groupSize g
+    → n ≡ csnAfter prev g → 0 < m
     → Turned s at (at + k) (firstEnd at prev m (drop at s)) (firstEnd (at + k) n (m - 1) (drop (at + k) s))
 first-turn prev at s k n m g l e h q p =
     let i = group-within prev (drop at s) g e in
@@ -59,11 +67,11 @@ first-turn prev at s k n m g l e h q p =
       within = omega arith;
       less = omega arith;
       same = ap (λ (j : ℕ). firstEnd at prev j (drop at s)) z
-          ∙ ap (λ (gs : List Group). logEndOf at prev (take (suc (m - 1)) gs)) (log-more prev (drop at s) g e)
+          ∙ ap (λ (gs : List Group). endFrom at prev (take (suc (m - 1)) gs)) (log-more prev (drop at s) g e)
           ∙ rw (h, q, drop-drop (groupSize g) at s) (over (take (m - 1) (readLog (csnAfter prev g) (drop (at + groupSize g) s))));
     }
   where
-    over : (gs : List Group) → logEndOf at prev (g ∷ gs) ≡ logEndOf (at + groupSize g) (csnAfter prev g) gs
+    over : (gs : List Group) → endFrom at prev (g ∷ gs) ≡ endFrom (at + groupSize g) (csnAfter prev g) gs
     over gs = ap (λ (j : ℕ). record { end = j; csn = record { 0 = lastCsn (csnAfter prev g) gs } }) (omega arith)
 
 -- ---- a log taken apart

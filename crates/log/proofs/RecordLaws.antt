@@ -57,7 +57,12 @@ record-by s kind id k i n = rw (k, i, n)
 pub record-short : (s : List ℕ) → length s < 4 → readRecord s ≡ none
 unfolding readRecord readRedo readCommit readAbort
 record-short s h =
-    rw (List·getD-eq-default s 0 {n = 3} (omega arith), List·getD-eq-default s 0 {n = 7} (omega arith), List·getD-eq-default s 0 {n = 6 + getD s 5 0} (omega arith))
+    rw (
+      List·getD-eq-default s 0 {n = 3} (omega arith),
+      List·getD-eq-default s 0 {n = 7} (omega arith),
+      List·getD-eq-default s 0 {n = 6 + getD s 5 0}
+          (omega arith),
+    )
     (go (eqb (be16 s 1) 0) (eqb (getD s 0 0) 1) (eqb (getD s 0 0) 2) (eqb (getD s 0 0) 3))
   where
     go : (t₀ t₁ t₂ t₃ : Bool) → cond {A = Option Record} t₀ none (cond t₁ none (cond t₂ none (cond t₃ none none))) ≡ none

@@ -68,7 +68,8 @@ record-written (redo id w) rest h =
     six : 6 + length (w .bytes) ≡ suc (suc (suc (suc (suc (suc (length (w .bytes)))))))
     six = omega arith
 
-pub body-written : (prev id : ℕ) (ws : List Write) (rest : List ℕ) → wellFormedBody id (prev + 1) ws ≡ true → readBody prev id (encodeBody id (prev + 1) ws ++ rest) ≡ some ws
+pub body-written : (prev id : ℕ) (ws : List Write) (rest : List ℕ) → wellFormedBody id (prev + 1) ws ≡ true
+    → readBody prev id (encodeBody id (prev + 1) ws ++ rest) ≡ some ws
 body-written prev id [] rest h = body-intro prev id _ [] (record-written (commit id (prev + 1)) rest h)
 body-written prev id (w ∷ ws) rest h =
     let r = redo id w in
@@ -89,12 +90,14 @@ group-written prev (committed id n ws) rest h =
     group-intro prev _ (committed id n ws) (e, rw e (body-written prev id ws rest b))
 
 -- a log goes on after a group that was written
-pub log-after : (prev : ℕ) (g : Group) (rest : List ℕ) → wellFormedGroup prev g ≡ true → readLog prev (encodeGroup g ++ rest) ≡ g ∷ readLog (csnAfter prev g) rest
+pub log-after : (prev : ℕ) (g : Group) (rest : List ℕ) → wellFormedGroup prev g ≡ true
+    → readLog prev (encodeGroup g ++ rest) ≡ g ∷ readLog (csnAfter prev g) rest
 log-after prev g rest h =
     log-more prev (encodeGroup g ++ rest) g (group-written prev g rest h)
     ∙ ap (λ (t : List ℕ). g ∷ readLog (csnAfter prev g) t) (drop-at (encodeGroup g) rest (groupSize g) (length-group g))
 
-pub log-written : (prev : ℕ) (gs : List Group) (rest : List ℕ) → wellFormedLog prev gs ≡ true → readLog prev (encodeLog gs ++ rest) ≡ gs ++ readLog (lastCsn prev gs) rest
+pub log-written : (prev : ℕ) (gs : List Group) (rest : List ℕ) → wellFormedLog prev gs ≡ true
+    → readLog prev (encodeLog gs ++ rest) ≡ gs ++ readLog (lastCsn prev gs) rest
 log-written prev [] rest h = refl
 log-written prev (g ∷ gs) rest h =
     let ok = and-left (wellFormedGroup prev g) (wellFormedLog (csnAfter prev g) gs) h in

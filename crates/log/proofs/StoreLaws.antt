@@ -5,8 +5,10 @@ use native.Mathlib.Numerals.{add-one, towards-suc}
 use native.Mathlib.Omega.{arith}
 use mathlib.Core.List.{List, [], _∷_, _++_, append-nil}
 use mathlib.Core.Path.{_≡_, refl, sym, ap, ap₂, _∙_}
-use lib.ListN.{length, take, drop, getD, set, replicate, length-set, length-append, length-drop, length-replicate, getD-replicate, take-append-drop, drop-of-length-le}
-use lib.Seq.{sets, sets-eq, length-sets, take-suc, take-nil, take-all, take-at, length-take-le, take-set-le, drop-set-lt, drop-cons, getD-drop, getD-set-same, getD-set-other}
+use lib.ListN.{length, take, drop, getD, set, replicate, length-set, length-append, length-drop, length-replicate, getD-replicate, take-append-drop}
+use lib.ListN.{drop-of-length-le}
+use lib.Seq.{sets, sets-eq, length-sets, take-suc, take-nil, take-all, take-at, length-take-le, take-set-le, drop-set-lt, drop-cons, getD-drop}
+use lib.Seq.{getD-set-same, getD-set-other}
 use Rattle.log.specs.Number.{bytes16}
 use Rattle.log.specs.Record.{redo, encode}
 use Rattle.log.specs.Stores.{Store, store, apply, copies, clears, shifted}
@@ -17,7 +19,8 @@ sets-append l i (x ∷ xs) ys =
     sets-append (set l i x) (suc i) xs ys ∙ ap (λ (k : ℕ). sets (sets (set l i x) (suc i) xs) k ys) (omega arith)
 
 -- one more byte of a copy
-pub sets-more : (l : List ℕ) (at : ℕ) (src : List ℕ) (i : ℕ) → i < length src → set (sets l at (take i src)) (at + i) (getD src i 0) ≡ sets l at (take (i + 1) src)
+pub sets-more : (l : List ℕ) (at : ℕ) (src : List ℕ) (i : ℕ) → i < length src
+    → set (sets l at (take i src)) (at + i) (getD src i 0) ≡ sets l at (take (i + 1) src)
 sets-more l at src i h =
     let n : length (take i src) ≡ i = length-take-le i src (omega arith) in
     sym
@@ -28,7 +31,8 @@ sets-more l at src i h =
 
 -- the stores of a redo record: its head, its bytes by a copy, and its last byte
 pub redo-stores : (l : List ℕ) (at id addr : ℕ) (src m₁ m₂ m₃ : List ℕ) → m₁ ≡ sets (set l at 1) (at + 1) (bytes16 id) → m₂ ≡ sets m₁ (at + 3) (bytes16 addr)
-    → m₃ ≡ sets (set m₂ (at + 5) (length src)) (at + 6) src → set m₃ (at + 6 + length src) 1 ≡ sets l at (encode (redo id (record { addr = addr; bytes = src })))
+    → m₃ ≡ sets (set m₂ (at + 5) (length src)) (at + 6) src
+    → set m₃ (at + 6 + length src) 1 ≡ sets l at (encode (redo id (record { addr = addr; bytes = src })))
 redo-stores l at id addr src m₁ m₂ m₃ e₁ e₂ e₃ =
     rw (e₃, e₂, e₁)
     (sym (sets-append (set (sets (sets (set l at 1) (at + 1) (bytes16 id)) (at + 3) (bytes16 addr)) (at + 5) (length src)) (at + 6) src (1 ∷ []))
@@ -149,7 +153,8 @@ shift-front b n h =
     ∙ take-at (drop n b) (drop (0 + length (drop n b)) b) (length b - n) d
 
 -- the moves, and zeros in the rest
-pub shift-done : (b₀ b ys : List ℕ) (n i : ℕ) → n < length b₀ → i ≡ length b₀ - n → b ≡ sets b₀ 0 (take i (drop n b₀)) → ys ≡ replicate (length (take (length b - (length b₀ - n)) (drop (length b₀ - n) b))) 0
+pub shift-done : (b₀ b ys : List ℕ) (n i : ℕ) → n < length b₀ → i ≡ length b₀ - n → b ≡ sets b₀ 0 (take i (drop n b₀))
+    → ys ≡ replicate (length (take (length b - (length b₀ - n)) (drop (length b₀ - n) b))) 0
     → take (length b₀ - n) b ++ (ys ++ drop (length b - (length b₀ - n)) (drop (length b₀ - n) b)) ≡ shifted n b₀
 unfolding shifted
 shift-done b₀ b ys n i h p e z =

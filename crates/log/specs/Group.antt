@@ -5,7 +5,7 @@ use mathlib.Core.List.{List, [], _∷_, _++_}
 use mathlib.Core.Option.{Option, none, some}
 use lib.ListN.{drop}
 use lib.Dec.{eqb}
-use Rattle.recovery.specs.Group.{Write, Group, committed, aborted, redoSize}
+use Rattle.recovery.specs.Group.{Write, Group, committed, aborted, groupSize}
 use Rattle.log.specs.Record.{Record, redo, commit, abort, encode, size, wellFormed, readRecord}
 use Rattle.log.specs.Reader.{whole}
 use Rattle.log.specs.declared.group.GroupEnd.{GroupEnd}
@@ -71,8 +71,8 @@ groupBy prev s (some (abort id)) = some (aborted id)
 unfoldable pub readGroup : ℕ → List ℕ → Option Group
 readGroup prev s = groupBy prev s (readRecord s)
 
--- what the code answers of a group that starts at a place: its id, its commit number and where it ends
-abbrev pub endOf : ℕ → Option Group → GroupEnd
-endOf at none = NoGroup
-endOf at (some (committed id csn ws)) = Committed (record { 0 = id }) (record { 0 = csn }) (at + (redoSize ws + 8))
-endOf at (some (aborted id)) = Aborted (record { 0 = id }) (at + 4)
+-- what the code answers of a group: its id, its commit number and where it ends
+abbrev pub endOf : Option Group → GroupEnd
+endOf none = NoGroup
+endOf (some (committed id csn ws)) = Committed (record { 0 = id }) (record { 0 = csn }) (groupSize (committed id csn ws))
+endOf (some (aborted id)) = Aborted (record { 0 = id }) (groupSize (aborted id))

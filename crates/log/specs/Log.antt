@@ -1,5 +1,5 @@
 -- The log: "ends after the last group before the first place where no whole group stands".
-use Prim.Native.Nat.{ℕ, _+_}
+use Prim.Native.Nat.{ℕ}
 use mathlib.Core.Bool.{Bool, true, _&&_}
 use mathlib.Core.List.{List, [], _∷_, _++_}
 use mathlib.Core.Option.{Option, none, some}
@@ -20,9 +20,9 @@ logStep rest prev s = onGroup rest prev s (readGroup prev s)
 unfoldable pub readLog : ℕ → List ℕ → List Group
 readLog prev s = whole logStep [] prev s
 
--- what the code answers of a log that starts at a place: where it ends, and its last commit number
-abbrev pub logEndOf : ℕ → ℕ → List Group → LogEnd
-logEndOf at prev gs = record { end = at + groupsSize gs; csn = record { 0 = lastCsn prev gs } }
+-- what the code answers of a log's groups after a commit number: where they end, and the last commit number
+abbrev pub logEndOf : ℕ → List Group → LogEnd
+logEndOf prev gs = record { end = groupsSize gs; csn = record { 0 = lastCsn prev gs } }
 
 -- groups one after the other
 abbrev pub encodeLog : List Group → List ℕ

@@ -5,6 +5,7 @@ use mathlib.Core.List.{List, [], _∷_, _++_}
 use mathlib.Core.Option.{Option, none, some}
 use lib.ListN.{length, getD, take, drop}
 use lib.Dec.{leb, eqb}
+use Rattle.layout.specs.{memoryLen, kindRedo, kindCommit, kindAbort, redoLen, commitLen, abortLen, maxWrite}
 use Rattle.recovery.specs.Group.{Write}
 use Rattle.log.specs.Number.{be16, be32, bytes16, bytes32}
 use Rattle.log.specs.declared.record.Head.{Head}
@@ -18,18 +19,18 @@ pub data Record : Type 0 where
 
 -- "redo: 1, id (2 bytes), address (2), length (1), the new bytes, 1"; "commit: 2, id (2), commit number (4), 2"; "abort: 3, id (2), 3"
 abbrev pub encode : Record → List ℕ
-encode (redo id w) = 1 ∷ (bytes16 id ++ (bytes16 (w .addr) ++ (length (w .bytes) ∷ (w .bytes ++ (1 ∷ [])))))
-encode (commit id csn) = 2 ∷ (bytes16 id ++ (bytes32 csn ++ (2 ∷ [])))
-encode (abort id) = 3 ∷ (bytes16 id ++ (3 ∷ []))
+encode (redo id w) = kindRedo ∷ (bytes16 id ++ (bytes16 (w .addr) ++ (length (w .bytes) ∷ (w .bytes ++ (kindRedo ∷ [])))))
+encode (commit id csn) = kindCommit ∷ (bytes16 id ++ (bytes32 csn ++ (kindCommit ∷ [])))
+encode (abort id) = kindAbort ∷ (bytes16 id ++ (kindAbort ∷ []))
 
 abbrev pub size : Record → ℕ
-size (redo id w) = 7 + length (w .bytes)
-size (commit id csn) = 8
-size (abort id) = 4
+size (redo id w) = redoLen + length (w .bytes)
+size (commit id csn) = commitLen
+size (abort id) = abortLen
 
 -- the range rule: "the length is 1 to 32 and address + length ≤ 4,096"
 abbrev pub inRange : ℕ → ℕ → Bool
-inRange addr n = leb 1 n && leb n 32 && leb (addr + n) 4096
+inRange addr n = leb 1 n && leb n maxWrite && leb (addr + n) memoryLen
 
 -- "its id isn't 0 and, for redo," the range rule; that first and last byte agree is in `encode` and in the readers
 abbrev pub wellFormed : Record → Bool
@@ -47,17 +48,18 @@ keep false r = none
 unfoldable pub readRedo : ℕ → List ℕ → Option Record
 readRedo id s =
     keep
-    (eqb (getD s (6 + getD s 5 0) 0) 1 && inRange (be16 s 3) (getD s 5 0))
+    (eqb (getD s (6 + getD s 5 0) 0) kindRedo && inRange (be16 s 3) (getD s 5 0))
     (redo id (record { addr = be16 s 3; bytes = take (getD s 5 0) (drop 6 s) }))
 
 unfoldable pub readCommit : ℕ → List ℕ → Option Record
-readCommit id s = keep (eqb (getD s 7 0) 2) (commit id (be32 s 3))
+readCommit id s = keep (eqb (getD s 7 0) kindCommit) (commit id (be32 s 3))
 
 unfoldable pub readAbort : ℕ → List ℕ → Option Record
-readAbort id s = keep (eqb (getD s 3 0) 3) (abort id)
+readAbort id s = keep (eqb (getD s 3 0) kindAbort) (abort id)
 
 abbrev pub readKind : ℕ → ℕ → List ℕ → Option Record
-readKind kind id s = cond (eqb kind 1) (readRedo id s) (cond (eqb kind 2) (readCommit id s) (cond (eqb kind 3) (readAbort id s) none))
+readKind kind id s =
+    cond (eqb kind kindRedo) (readRedo id s) (cond (eqb kind kindCommit) (readCommit id s) (cond (eqb kind kindAbort) (readAbort id s) none))
 
 -- the well-formed record at the front of s, if there is one
 unfoldable pub readRecord : List ℕ → Option Record

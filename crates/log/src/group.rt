@@ -5,10 +5,15 @@ use crate::record::Head;
 use crate::record::put_commit;
 use crate::record::put_redo;
 use crate::record::read_record;
+use layout::ABORT_LEN;
+use layout::COMMIT_LEN;
+use layout::MAX_WRITE;
+use layout::REDO_LEN;
 ghost use mathlib.Core.Path.{_≡_};
 ghost use Prim.Native.Nat.{ℕ, _+_, _*_, _≤_, _<_};
 ghost use lib.ListN.{length, getD};
 ghost use lib.Seq.{sets};
+ghost use Rattle.layout.specs.{maxWrite};
 ghost use Rattle.recovery.specs.Group.{groupSize, committed};
 ghost use Rattle.log.specs.Group.{encodeGroup, readBody, committedIf, readGroup, endOf};
 ghost use Rattle.log.specs.Flat.{writesFrom};
@@ -22,7 +27,7 @@ pub enum GroupEnd {
 
 // The redo records of this id at the front of s, and their commit.
 fn read_body(s: &[u8], id: TxId, prev: Csn) -> GroupEnd
-    ensures { λ r. ⌜ r ≡ endOf 0 (committedIf (id .0) (prev .0 + 1) (readBody (prev .0) (id .0) (now (s .entry)))) ⌝ }
+    ensures { λ r. ⌜ r ≡ endOf (committedIf (id .0) (prev .0 + 1) (readBody (prev .0) (id .0) (now (s .entry)))) ⌝ }
 {
     let mut at: usize = 0;
     loop {
@@ -36,7 +41,7 @@ fn read_body(s: &[u8], id: TxId, prev: Csn) -> GroupEnd
                 if r.0 != id.0 {
                     return GroupEnd::NoGroup;
                 }
-                at = at + 7 + len as usize;
+                at = at + REDO_LEN + len as usize;
             }
             Head::Commit { id: c, csn } => {
                 if c.0 != id.0 {
@@ -51,7 +56,7 @@ fn read_body(s: &[u8], id: TxId, prev: Csn) -> GroupEnd
                 return GroupEnd::Committed {
                     id: id,
                     csn: csn,
-                    end: at + 8,
+                    end: at + COMMIT_LEN,
                 };
             }
             Head::Abort(_) => {
@@ -66,7 +71,7 @@ fn read_body(s: &[u8], id: TxId, prev: Csn) -> GroupEnd
 
 // prev is the commit number before the group.
 pub fn read_group(s: &[u8], prev: Csn) -> GroupEnd
-    ensures { λ r. ⌜ r ≡ endOf 0 (readGroup (prev .0) (now (s .entry))) ⌝ }
+    ensures { λ r. ⌜ r ≡ endOf (readGroup (prev .0) (now (s .entry))) ⌝ }
 {
     let head = read_record(s);
     match head {
@@ -76,13 +81,15 @@ pub fn read_group(s: &[u8], prev: Csn) -> GroupEnd
             len: _,
         } => read_body(s, id, prev),
         Head::Commit { id, csn: _ } => read_body(s, id, prev),
-        Head::Abort(id) => GroupEnd::Aborted { id: id, end: 4 },
+        Head::Abort(id) => GroupEnd::Aborted {
+            id: id,
+            end: ABORT_LEN,
+        },
         Head::Nothing => GroupEnd::NoGroup,
     }
 }
 
-// Writes the group of the first n redo records of these arrays and their commit, and returns where it ends. The i-th record has the len[i]
-// bytes from 32 * i on.
+// Writes the group of the first n redo records of these arrays and their commit. The i-th record has the len[i] bytes from MAX_WRITE * i on.
 pub fn put_group(
     b: &mut [u8],
     at: usize,
@@ -92,22 +99,21 @@ pub fn put_group(
     addr: &[u16],
     len: &[u8],
     bytes: &[u8],
-) -> usize
-    requires { ⌜ (n ≤ length (now addr)) × (n ≤ length (now len)) × (n * 32 ≤ length (now bytes)) ⌝ }
-    requires { ⌜ ((k : ℕ) → k < n → getD (now len) k 0 ≤ 32) ⌝ }
+)
+    requires { ⌜ (n ≤ length (now addr)) × (n ≤ length (now len)) × (n * maxWrite ≤ length (now bytes)) ⌝ }
+    requires { ⌜ ((k : ℕ) → k < n → getD (now len) k 0 ≤ maxWrite) ⌝ }
     requires { ⌜ at + groupSize (committed (id .0) (csn .0) (writesFrom (now addr) (now len) (now bytes) n 0)) ≤ length (now b) ⌝ }
-    ensures { λ r. ⌜ r ≡ at + groupSize (committed (id .0) (csn .0) (writesFrom (now (addr .entry)) (now (len .entry)) (now (bytes .entry)) n 0)) ⌝ }
-    ensures { λ _. ⌜ now (b .exit) ≡ sets (now (b .entry)) at (encodeGroup (committed (id .0) (csn .0) (writesFrom (now (addr .entry)) (now (len .entry)) (now (bytes .entry)) n 0))) ⌝ }
+    ensures { λ _. ⌜ now (b .exit)
+        ≡ sets (now (b .entry)) at (encodeGroup (committed (id .0) (csn .0) (writesFrom (now (addr .entry)) (now (len .entry)) (now (bytes .entry)) n 0))) ⌝ }
 {
     let mut o = at;
     let mut i: usize = 0;
     while i < n {
         let l = len[i] as usize;
-        let from = i * 32;
+        let from = i * MAX_WRITE;
         put_redo(b, o, id, addr[i], &bytes[from..from + l]);
-        o = o + (7 + l);
+        o = o + (REDO_LEN + l);
         i = i + 1;
     }
     put_commit(b, o, id, csn);
-    o + 8
 }

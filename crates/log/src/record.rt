@@ -6,10 +6,19 @@ use crate::number::be32;
 use crate::number::put16;
 use crate::number::put32;
 use crate::stores::copy;
+use layout::ABORT;
+use layout::ABORT_LEN;
+use layout::COMMIT;
+use layout::COMMIT_LEN;
+use layout::MAX_WRITE;
+use layout::MEMORY_LEN;
+use layout::REDO;
+use layout::REDO_LEN;
 ghost use mathlib.Core.Path.{_≡_};
 ghost use Prim.Native.Nat.{_+_, _≤_, _<_};
 ghost use lib.ListN.{length};
 ghost use lib.Seq.{sets};
+ghost use Rattle.layout.specs.{redoLen, commitLen, abortLen};
 ghost use Rattle.log.specs.Record.{inRange, encode, redo, commit, abort, readRedo, readCommit, readAbort, readRecord, headOf};
 
 // The well-formed record at the front of a slice. The new bytes of a redo record are the len bytes at 6.
@@ -27,17 +36,17 @@ pub fn in_range(addr: usize, len: usize) -> bool
     if len < 1 {
         return false;
     }
-    if 32 < len {
+    if MAX_WRITE < len {
         return false;
     }
-    addr <= 4096 - len
+    addr <= MEMORY_LEN - len
 }
 
 // Of the three below: the rest of a record of this kind and id.
 fn read_redo(s: &[u8], id: TxId) -> Head
     ensures { λ r. ⌜ r ≡ headOf (readRedo (id .0) (now (s .entry))) ⌝ }
 {
-    if s.len() < 7 {
+    if s.len() < REDO_LEN {
         return Head::Nothing;
     }
     let len = s[5];
@@ -45,7 +54,7 @@ fn read_redo(s: &[u8], id: TxId) -> Head
     if s.len() <= last {
         return Head::Nothing;
     }
-    if s[last] != 1 {
+    if s[last] != REDO {
         return Head::Nothing;
     }
     let addr = be16(s, 3);
@@ -58,10 +67,10 @@ fn read_redo(s: &[u8], id: TxId) -> Head
 fn read_commit(s: &[u8], id: TxId) -> Head
     ensures { λ r. ⌜ r ≡ headOf (readCommit (id .0) (now (s .entry))) ⌝ }
 {
-    if s.len() < 8 {
+    if s.len() < COMMIT_LEN {
         return Head::Nothing;
     }
-    if s[7] != 2 {
+    if s[7] != COMMIT {
         return Head::Nothing;
     }
     let csn = be32(s, 3);
@@ -71,10 +80,10 @@ fn read_commit(s: &[u8], id: TxId) -> Head
 fn read_abort(s: &[u8], id: TxId) -> Head
     ensures { λ r. ⌜ r ≡ headOf (readAbort (id .0) (now (s .entry))) ⌝ }
 {
-    if s.len() < 4 {
+    if s.len() < ABORT_LEN {
         return Head::Nothing;
     }
-    if s[3] != 3 {
+    if s[3] != ABORT {
         return Head::Nothing;
     }
     Head::Abort(id)
@@ -83,7 +92,8 @@ fn read_abort(s: &[u8], id: TxId) -> Head
 pub fn read_record(s: &[u8]) -> Head
     ensures { λ r. ⌜ r ≡ headOf (readRecord (now (s .entry))) ⌝ }
 {
-    if s.len() < 4 {
+    // An abort is the shortest.
+    if s.len() < ABORT_LEN {
         return Head::Nothing;
     }
     let kind = s[0];
@@ -91,46 +101,46 @@ pub fn read_record(s: &[u8]) -> Head
     if id == 0 {
         return Head::Nothing;
     }
-    if kind == 1 {
+    if kind == REDO {
         return read_redo(s, TxId(id));
     }
-    if kind == 2 {
+    if kind == COMMIT {
         return read_commit(s, TxId(id));
     }
-    if kind == 3 {
+    if kind == ABORT {
         return read_abort(s, TxId(id));
     }
     Head::Nothing
 }
 
-pub fn put_redo(b: &mut [u8], at: usize, id: TxId, addr: u16, src: &[u8])
+pub(crate) fn put_redo(b: &mut [u8], at: usize, id: TxId, addr: u16, src: &[u8])
     requires { ⌜ length (now src) < 256 ⌝ }
-    requires { ⌜ at + (7 + length (now src)) ≤ length (now b) ⌝ }
+    requires { ⌜ at + (redoLen + length (now src)) ≤ length (now b) ⌝ }
     ensures { λ _. ⌜ now (b .exit) ≡ sets (now (b .entry)) at (encode (redo (id .0) (record { addr = addr; bytes = now (src .entry) }))) ⌝ }
 {
-    b[at] = 1;
+    b[at] = REDO;
     put16(b, at + 1, id.0);
     put16(b, at + 3, addr);
     b[at + 5] = src.len() as u8;
     copy(b, at + 6, src);
-    b[at + 6 + src.len()] = 1;
+    b[at + 6 + src.len()] = REDO;
 }
 
-pub fn put_commit(b: &mut [u8], at: usize, id: TxId, csn: Csn)
-    requires { ⌜ at + 8 ≤ length (now b) ⌝ }
+pub(crate) fn put_commit(b: &mut [u8], at: usize, id: TxId, csn: Csn)
+    requires { ⌜ at + commitLen ≤ length (now b) ⌝ }
     ensures { λ _. ⌜ now (b .exit) ≡ sets (now (b .entry)) at (encode (commit (id .0) (csn .0))) ⌝ }
 {
-    b[at] = 2;
+    b[at] = COMMIT;
     put16(b, at + 1, id.0);
     put32(b, at + 3, csn.0);
-    b[at + 7] = 2;
+    b[at + 7] = COMMIT;
 }
 
 pub fn put_abort(b: &mut [u8], at: usize, id: TxId)
-    requires { ⌜ at + 4 ≤ length (now b) ⌝ }
+    requires { ⌜ at + abortLen ≤ length (now b) ⌝ }
     ensures { λ _. ⌜ now (b .exit) ≡ sets (now (b .entry)) at (encode (abort (id .0))) ⌝ }
 {
-    b[at] = 3;
+    b[at] = ABORT;
     put16(b, at + 1, id.0);
-    b[at + 3] = 3;
+    b[at + 3] = ABORT;
 }

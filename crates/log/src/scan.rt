@@ -14,7 +14,7 @@ pub struct LogEnd {
 
 // The first k groups, or all if fewer. prev is the commit number before the log's first group.
 pub fn read_first(s: &[u8], prev: Csn, k: usize) -> LogEnd
-    ensures { λ r. ⌜ r ≡ logEndOf 0 (prev .0) (take k (readLog (prev .0) (now (s .entry)))) ⌝ }
+    ensures { λ r. ⌜ r ≡ logEndOf (prev .0) (take k (readLog (prev .0) (now (s .entry)))) ⌝ }
 {
     let mut at: usize = 0;
     let mut csn = prev;
@@ -40,7 +40,7 @@ pub fn read_first(s: &[u8], prev: Csn, k: usize) -> LogEnd
 
 // The whole log: it can't have more groups than bytes.
 pub fn read_log(s: &[u8], prev: Csn) -> LogEnd
-    ensures { λ r. ⌜ r ≡ logEndOf 0 (prev .0) (readLog (prev .0) (now (s .entry))) ⌝ }
+    ensures { λ r. ⌜ r ≡ logEndOf (prev .0) (readLog (prev .0) (now (s .entry))) ⌝ }
 {
     read_first(s, prev, s.len())
 }

@@ -61,16 +61,19 @@ forward-aborts {M = M} lay txs (v ∷ vs) f m (more n d) (cons h hs) (cons k ks)
     both (cons {x = u} p ps) (cons q qs) = cons {x = u} (or-both (eqb (u .id) (v .id)) (has (u .id) f) (ne-eqb (u .id) (v .id) p) q) (both ps qs)
 
 -- the law: vs are the first of those undone
-pub abort-law : {M : Type 0} (lay : Write → M → M) (txs : List Tx) (d : ℕ) (gs : List Group) (vs ws : List Tx) (m : M) → DistinctIds txs → undone txs d gs ≡ vs ++ ws
+pub abort-law : {M : Type 0} (lay : Write → M → M) (txs : List Tx) (d : ℕ) (gs : List Group) (vs ws : List Tx) (m : M) → DistinctIds txs
+    → undone txs d gs ≡ vs ++ ws
     → recover lay txs d (gs ++ aborts vs) m ≡ recover lay txs d gs m
 abort-law {M = M} lay txs d gs vs ws m distinct split =
     let f : List ℕ = finished gs [] in
     let own : All (λ t. undoOf (t .id) txs ≡ t .undo) (undone txs d gs) =
     all-filter (isUnfinished f) (order-all txs (lastCsn d gs) (all-map (λ t e. ap undoRecords e) (lookup-own distinct))) in
-    let new : All (λ t. has (t .id) f ≡ false) (undone txs d gs) = all-map (λ t e. not-true (has (t .id) f) e) (all-passed (isUnfinished f) (undoOrder txs (lastCsn d gs))) in
+    let new : All (λ t. has (t .id) f ≡ false) (undone txs d gs) =
+    all-map (λ t e. not-true (has (t .id) f) e) (all-passed (isUnfinished f) (undoOrder txs (lastCsn d gs))) in
     let run : forward lay txs (gs ++ aborts vs) [] m ≡ undoEach lay vs (forward lay txs gs [] m) =
     forward-append lay txs gs (aborts vs) [] m
-    ∙ forward-aborts lay txs vs f (forward lay txs gs [] m) (distinct-left vs ws (undone-distinct txs d gs vs ws distinct split)) (all-left vs ws (rw split at new)) (all-left vs ws (rw split at own)) in
+    ∙ forward-aborts lay txs vs f (forward lay txs gs [] m) (distinct-left vs ws (undone-distinct txs d gs vs ws distinct split))
+    (all-left vs ws (rw split at new)) (all-left vs ws (rw split at own)) in
     ap (λ (x : M). undoEach lay (undone txs d (gs ++ aborts vs)) x) run
     ∙ (ap (λ (l : List Tx). undoEach lay l (undoEach lay vs (forward lay txs gs [] m))) (undone-after txs d gs vs ws distinct split)
     ∙ (sym (undoEach-append lay vs ws (forward lay txs gs [] m)) ∙ ap (λ (l : List Tx). undoEach lay l (forward lay txs gs [] m)) (sym split)))
@@ -102,6 +105,7 @@ module _ (txs : List Tx) (d : ℕ) (gs : List Group) where
       all-map (λ c h. one c (ltb (lastCsn d gs) (c .csn)) refl h)
       (all-unfilter (isAbove (lastCsn d gs)) (committing txs) (unsort-all (above (lastCsn d gs) (committing txs)) (all-right (running txs) order-finished)))
     where
-      one : (c : Tx) (b : Bool) → ltb (lastCsn d gs) (c .csn) ≡ b → (ltb (lastCsn d gs) (c .csn) ≡ true → has (c .id) done ≡ true) → (has (c .id) done ≡ true) ⊎ (c .csn ≤ lastCsn d gs)
+      one : (c : Tx) (b : Bool) → ltb (lastCsn d gs) (c .csn) ≡ b → (ltb (lastCsn d gs) (c .csn) ≡ true → has (c .id) done ≡ true)
+          → (has (c .id) done ≡ true) ⊎ (c .csn ≤ lastCsn d gs)
       one c true e h = inl (h e)
       one c false e h = inr (ltb-false (lastCsn d gs) (c .csn) e)

@@ -57,7 +57,8 @@ module _ (d : Disk) (l : Live) where
         follows = record {
           committings = s .follows .committings;
           runnings = rw runnings (all-map (λ t h. linked-append (new ∷ []) h) (s .follows .runnings));
-          lives = rw runnings (all-append (s .follows .lives) (cons {x = new} (unmarked [] (new-group (s .groupIds)) refl, all-filter isCommitting (new-tx (s .imageIds))) nil));
+          lives = rw runnings (all-append (s .follows .lives)
+              (cons {x = new} (unmarked [] (new-group (s .groupIds)) refl, all-filter isCommitting (new-tx (s .imageIds))) nil));
         };
         onDisk = s .onDisk;
         fit = record {
@@ -74,7 +75,8 @@ module _ (d : Disk) (l : Live) where
       foreign (committed i n ws) le h = tt
       foreign (aborted i) le h = all-append h (cons {x = new} (λ e. omega arith) nil)
 
-pub begin-keeps : (o : Opening) (d : Disk) (l : Live) (k : Ledger) → roomUsed d l + 8 ≤ o .capacity → Up o d l k → Up o d (afterBegin l) (enterBegun (suc (l .lastId)) k)
+pub begin-keeps : (o : Opening) (d : Disk) (l : Live) (k : Ledger) → roomUsed d l + 8 ≤ o .capacity → Up o d l k
+    → Up o d (afterBegin l) (enterBegun (suc (l .lastId)) k)
 begin-keeps o d l k fits u = record {
   late = u .late;
   standing = begin-standing d l (u .standing);
@@ -86,7 +88,8 @@ begin-keeps o d l k fits u = record {
         image = b .image;
         undoes = b .undoes;
         live = rw (runnings d l)
-            (put-off a (replay (layByte a) (d .after ++ l .tail) (baseAt o (d .before) a)) (getD (l .memory) a 0) (running (l .txs)) (new d l) [] (refl, refl) (rw append-nil (b .live)));
+            (put-off a (replay (layByte a) (d .after ++ l .tail) (baseAt o (d .before) a)) (getD (l .memory) a 0) (running (l .txs)) (new d l) []
+            (refl, refl) (rw append-nil (b .live)));
       };
   room = record { fits = u .room .fits; used = rw (runnings d l, reserved-append (running (l .txs)) (new d l ∷ [])) (omega arith) };
   numbers = u .numbers;
@@ -94,7 +97,8 @@ begin-keeps o d l k fits u = record {
     durable = u .ledger .durable;
     assigned = u .ledger .assigned;
     queue = u .ledger .queue;
-    active = ap (λ (ss : List OpenTx). ss ++ (openOf (new d l) ∷ [])) (u .ledger .active) ∙ rw (runnings d l) (sym (map-append openOf (running (l .txs)) (new d l ∷ [])));
+    active = ap (λ (ss : List OpenTx). ss ++ (openOf (new d l) ∷ [])) (u .ledger .active)
+        ∙ rw (runnings d l) (sym (map-append openOf (running (l .txs)) (new d l ∷ [])));
     settled = u .ledger .settled;
     latests = rw (committings d l) (u .ledger .latests);
   };

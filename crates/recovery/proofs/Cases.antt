@@ -44,7 +44,12 @@ rows =
     -- M5: id 1 writes 5, precommit; id 2 writes 6 there, precommit, checkpoint
     ∷ record { txs = precommitted 1 1 (byte10 0 ∷ []) ∷ precommitted 2 2 (byte10 5 ∷ []) ∷ []; groups = []; memory = memory10 6; wanted = zeros }
     -- M5 with its first commit on disk
-    ∷ record { txs = precommitted 1 1 (byte10 0 ∷ []) ∷ precommitted 2 2 (byte10 5 ∷ []) ∷ []; groups = committed 1 1 (byte10 5 ∷ []) ∷ []; memory = memory10 6; wanted = memory10 5 }
+    ∷ record {
+      txs = precommitted 1 1 (byte10 0 ∷ []) ∷ precommitted 2 2 (byte10 5 ∷ []) ∷ [];
+      groups = committed 1 1 (byte10 5 ∷ []) ∷ [];
+      memory = memory10 6;
+      wanted = memory10 5;
+    }
     -- a transaction that wrote twice is undone newest first
     ∷ record { txs = ran 1 (byte10 3 ∷ byte10 4 ∷ []) ∷ []; groups = []; memory = memory10 5; wanted = memory10 3 }
     -- an abort of an id that is finished does nothing

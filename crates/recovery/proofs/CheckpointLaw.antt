@@ -37,7 +37,8 @@ pub undoes-one-commit : {a x : ℕ} {T : List Group} {cs : List Tx} (i n : ℕ) 
 undoes-one-commit i n ws c undoes-nil r = undoes-commit r undoes-nil
 undoes-one-commit i n ws c (undoes-abort u) r = undoes-abort (undoes-one-commit i n ws c u r)
 undoes-one-commit {a} {x} i n ws c (undoes-commit {ws = vs} {gs} r′ u) r =
-    undoes-commit r′ (undoes-one-commit i n ws c u (subst (λ (v : ℕ). Restores (replay (layByte a) gs v) (oldest a (c .undo)) (newest a ws)) (redo-newest a vs x) r))
+    undoes-commit r′ (undoes-one-commit i n ws c u
+    (subst (λ (v : ℕ). Restores (replay (layByte a) gs v) (oldest a (c .undo)) (newest a ws)) (redo-newest a vs x) r))
 
 pub undoes-one-abort : {a x : ℕ} {T : List Group} {cs : List Tx} (i : ℕ) → Undoes a x T cs → Undoes a x (T ++ (aborted i ∷ [])) cs
 undoes-one-abort i undoes-nil = undoes-abort undoes-nil
@@ -46,7 +47,8 @@ undoes-one-abort i (undoes-commit r u) = undoes-commit r (undoes-one-abort i u)
 
 -- undoing commits, the last first
 
-undo-last-first : {M : Type 0} (lay : Write → M → M) (c : Tx) (cs : List Tx) (m : M) → undoEach lay (reverse (c ∷ cs)) m ≡ undoAll lay (c .undo) (undoEach lay (reverse cs) m)
+undo-last-first : {M : Type 0} (lay : Write → M → M) (c : Tx) (cs : List Tx) (m : M)
+    → undoEach lay (reverse (c ∷ cs)) m ≡ undoAll lay (c .undo) (undoEach lay (reverse cs) m)
 undo-last-first lay c cs m = rw (reverse-cons, undoEach-append lay (reverse cs) (c ∷ []) m)
 
 -- from the replayed value it goes back
@@ -110,7 +112,8 @@ undo-both a base mem P U rs cs u h = go (undo-running a (replay (layByte a) U x)
     go (inr k) = ap last (k .0 (replay (layByte a) P mem)) ∙ free (redone a P) refl (k .1)
 
 -- going forward over groups whose aborts are of no transaction of the image is replaying them
-forward-replay : {M : Type 0} (lay : Write → M → M) (txs : List Tx) (P : List Group) (f : List ℕ) (m : M) → All (Foreign txs) P → forward lay txs P f m ≡ replay lay P m
+forward-replay : {M : Type 0} (lay : Write → M → M) (txs : List Tx) (P : List Group) (f : List ℕ) (m : M) → All (Foreign txs) P
+    → forward lay txs P f m ≡ replay lay P m
 forward-replay lay txs [] f m s = refl
 forward-replay lay txs (committed i n ws ∷ gs) f m (cons h hs) = forward-replay lay txs gs (i ∷ f) (redoAll lay ws m) hs
 forward-replay {M = M} lay txs (aborted i ∷ gs) f m (cons h hs) =

@@ -88,7 +88,8 @@ module _ (o : Opening) (d : Disk) (l : Live) (k : Ledger) (u : Up o d l k) where
       fits = λ q.
           let e : l .tail ≡ take q (l .tail) ++ drop q (l .tail) = sym (take-append-drop q (l .tail)) in
           rw (erased-undone (l .txs) (l .csn) (take q (l .tail)), length-map (undone (l .txs) (l .csn) (take q (l .tail))) withoutRedo)
-          (roomy-image o l log (take q (l .tail)) (drop q (l .tail)) (u .late) (subst (λ (gs : List Group). Fit (l .txs) (l .csn) gs (u .late)) e (s .fit)) (rw (← e) (u .room .used)));
+          (roomy-image o l log (take q (l .tail)) (drop q (l .tail)) (u .late)
+          (subst (λ (gs : List Group). Fit (l .txs) (l .csn) gs (u .late)) e (s .fit)) (rw (← e) (u .room .used)));
       used = rw append-nil (u .room .used);
     };
     numbers = record { log = rw append-nil (u .numbers .log); image = s .onDisk ∙ sym (last-on-disk o d (u .numbers)) };

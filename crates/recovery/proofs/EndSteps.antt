@@ -16,9 +16,11 @@ use Rattle.recovery.specs.Restart.{groupId, above, sortDesc}
 use Rattle.recovery.specs.Ledger.{Ledger, OpenTx, Commit, Entry, writesOf, others, enterPrecommitted, enterRolledBack}
 use Rattle.recovery.specs.Machine.{Opening, Disk, Live, Listed, lastAssigned, inCommit, afterPrecommit, afterAbort}
 use Rattle.recovery.specs.Claim.{commits}
-use Rattle.recovery.proofs.Lists.{all-map, all-zip, all-append, all-here, all-less, all-more, all-edit, all-filter, filter-in, filter-append, EveryPrefix, prefix-whole, prefix-snoc}
+use Rattle.recovery.proofs.Lists.{all-map, all-zip, all-append, all-here, all-less, all-more, all-edit, all-filter, filter-in, filter-append}
+use Rattle.recovery.proofs.Lists.{EveryPrefix, prefix-whole, prefix-snoc}
 use Rattle.recovery.proofs.Distinct.{Distinct, distinct-more, distinct-others, distinct-less, distinct-edit}
-use Rattle.recovery.proofs.Transactions.{Found, find, DistinctIds, found-running, found-apart, running-out, running-append, committing-in, committing-out, committing-append, isCommitting, isAbove}
+use Rattle.recovery.proofs.Transactions.{Found, find, DistinctIds, found-running, found-apart, running-out, running-append, committing-in}
+use Rattle.recovery.proofs.Transactions.{committing-out, committing-append, isCommitting, isAbove}
 use Rattle.recovery.proofs.Sorting.{sort-top}
 use Rattle.recovery.proofs.Groups.{groupsSize-append, reserved-append, lastCsn-append, replay-append}
 use Rattle.recovery.proofs.Byte.{act, oldest, newest, redo-newest, layByte, undo-byte, undo-length}
@@ -57,13 +59,15 @@ module _ (o : Opening) (d : Disk) (l : Live) (k : Ledger) (r : Tx) (listed : Lis
   committings = ap committing (found .whole) ∙ committing-out (found .before) r (found .after) run
 
   committings-apart : All (λ t. t .id ≢ r .id) (committing (found .before) ++ committing (found .after))
-  committings-apart = subst (λ (ts : List Tx). All (λ t. t .id ≢ r .id) ts) (committing-append (found .before) (found .after)) (all-filter isCommitting unlisted)
+  committings-apart = subst (λ (ts : List Tx). All (λ t. t .id ≢ r .id) ts) (committing-append (found .before) (found .after))
+      (all-filter isCommitting unlisted)
 
   apart : All (λ t. t .id ≢ r .id) (xs ++ ys)
   apart = found-apart r run found (s .liveDistinct)
 
   -- at a byte, before the group
-  live-before : (a : ℕ) → AtByte o d l (u .late) a → RunningAt a (replay (layByte a) (d .after ++ l .tail) (baseAt o (d .before) a)) (getD (l .memory) a 0) (xs ++ r ∷ ys)
+  live-before : (a : ℕ) → AtByte o d l (u .late) a
+      → RunningAt a (replay (layByte a) (d .after ++ l .tail) (baseAt o (d .before) a)) (getD (l .memory) a 0) (xs ++ r ∷ ys)
   live-before a b = rw runnings at (b .live)
 
   -- the image's transactions are followed through one more group
@@ -109,7 +113,8 @@ module _ (o : Opening) (d : Disk) (l : Live) (k : Ledger) (r : Tx) (listed : Lis
           (prefix-snoc (Roomy o d) (d .after ++ l .tail) g (u .room .fits) (subst (λ (gs : List Group). Roomy o d gs) (sym regroup) now))
 
     -- the image stays right if it is right with the group
-    end-image : (a : ℕ) → AtByte o d l (u .late) a → ImageAt o d a ((d .after ++ l .tail) ++ (g ∷ [])) → EveryPrefix (ImageAt o d a) (d .after ++ (l .tail ++ (g ∷ [])))
+    end-image : (a : ℕ) → AtByte o d l (u .late) a → ImageAt o d a ((d .after ++ l .tail) ++ (g ∷ []))
+        → EveryPrefix (ImageAt o d a) (d .after ++ (l .tail ++ (g ∷ [])))
     end-image a b h = subst (λ (gs : List Group). EveryPrefix (ImageAt o d a) gs) regroup (prefix-snoc (ImageAt o d a) (d .after ++ l .tail) g (b .image) h)
 
   image-recovers : (a : ℕ) → AtByte o d l (u .late) a → ImageAt o d a (d .after ++ l .tail)
@@ -160,7 +165,8 @@ module _ (o : Opening) (d : Disk) (l : Live) (k : Ledger) (r : Tx) (listed : Lis
       tied = tied-one-abort (r .id) (s .fit .tied);
       once = end-once abortGroup refl;
       foreign = rw (found .removed)
-          (all-append (all-map (foreign-map (λ i h. all-less (found .before) r (found .after) h)) (rw (found .whole) at (s .fit .foreign))) (cons {x = abortGroup} unlisted nil));
+          (all-append (all-map (foreign-map (λ i h. all-less (found .before) r (found .after) h)) (rw (found .whole) at (s .fit .foreign)))
+          (cons {x = abortGroup} unlisted nil));
       free = rw abort-runnings (end-free abortGroup refl);
     };
     csns = rw (abort-committings, lastCsn-append (l .csn) (l .tail) (abortGroup ∷ [])) (s .csns);
@@ -177,9 +183,16 @@ module _ (o : Opening) (d : Disk) (l : Live) (k : Ledger) (r : Tx) (listed : Lis
         let x : ℕ = replay (layByte a) (d .after ++ l .tail) (baseAt o (d .before) a) in
         record {
           image = end-image abortGroup refl a b
-              (growth-abort a (baseAt o (d .before) a) (getD (d .image .memory) a 0) (d .image .txs) (d .image .csn) (d .after ++ l .tail) (getD (l .memory) a 0) xs r ys (image-recovers a b) follows-before apart (s .imageDistinct) (live-before a b));
+              (growth-abort a (baseAt o (d .before) a) (getD (d .image .memory) a 0) (d .image .txs) (d .image .csn) (d .after ++ l .tail)
+              (getD (l .memory) a 0) xs r ys (image-recovers a b) follows-before apart (s .imageDistinct) (live-before a b));
           undoes = undoes-one-abort (r .id) (b .undoes);
-          live = rw (← regroup abortGroup refl, replay-append (layByte a) (d .after ++ l .tail) (abortGroup ∷ []) (baseAt o (d .before) a), abort-runnings, undo-byte (o .size) (l .memory) (u .liveLength) a h (r .undo))
+          live = rw (
+            ← regroup abortGroup refl,
+            replay-append (layByte a) (d .after ++ l .tail) (abortGroup ∷ [])
+                (baseAt o (d .before) a),
+            abort-runnings,
+            undo-byte (o .size) (l .memory) (u .liveLength) a h (r .undo),
+          )
               (abort-byte a x (getD (l .memory) a 0) xs r ys (live-before a b));
         };
     room = record {
@@ -230,7 +243,8 @@ module _ (o : Opening) (d : Disk) (l : Live) (k : Ledger) (r : Tx) (listed : Lis
       let cs : List Tx = committing (found .before) in
       let ds : List Tx = committing (found .after) in
       let low : All (λ t. t .csn < newCsn) (above (l .csn) cs ++ above (l .csn) ds) =
-      subst (λ (ts : List Tx). All (λ t. t .csn < newCsn) ts) (filter-append high cs ds) (all-filter high (all-map (λ t h. omega arith) (rw committings at (s .csns)))) in
+      subst (λ (ts : List Tx). All (λ t. t .csn < newCsn) ts) (filter-append high cs ds)
+      (all-filter high (all-map (λ t h. omega arith) (rw committings at (s .csns)))) in
       let grown : l .csn ≤ lastAssigned l = tied-grows (s .fit .tied) in
       let old : above (l .csn) cs ++ above (l .csn) ds ≡ above (l .csn) (committing (l .txs)) =
       sym (filter-append high cs ds) ∙ ap (λ (ts : List Tx). above (l .csn) ts) (sym committings) in
@@ -253,7 +267,8 @@ module _ (o : Opening) (d : Disk) (l : Live) (k : Ledger) (r : Tx) (listed : Lis
       tied = tied-one-commit (r .id) newCsn (r .redo) r′ (s .fit .tied) refl refl refl;
       once = end-once commitGroup refl;
       foreign = rw txs′
-          (all-append (all-map (foreign-map (λ i h. all-edit (found .before) r r′ (found .after) (λ m. m) h)) (rw (found .whole) at (s .fit .foreign))) (cons {x = commitGroup} tt nil));
+          (all-append (all-map (foreign-map (λ i h. all-edit (found .before) r r′ (found .after) (λ m. m) h)) (rw (found .whole) at (s .fit .foreign)))
+          (cons {x = commitGroup} tt nil));
       free = rw precommit-runnings (end-free commitGroup refl);
     };
     csns = rw (precommit-committings, lastCsn-append (l .csn) (l .tail) (commitGroup ∷ []))
@@ -261,7 +276,8 @@ module _ (o : Opening) (d : Disk) (l : Live) (k : Ledger) (r : Tx) (listed : Lis
   }
 
   precommit-entry : record { id = r .id; csn = newCsn; writes = writesOf (r .id) (k .active) } ≡ entry
-  precommit-entry = ap (λ (ws : List Write). record { id = r .id; csn = newCsn; writes = ws }) (ap (λ (ss : List OpenTx). writesOf (r .id) ss) actives ∙ writes-one r xs ys apart)
+  precommit-entry = ap (λ (ws : List Write). record { id = r .id; csn = newCsn; writes = ws })
+      (ap (λ (ss : List OpenTx). writesOf (r .id) ss) actives ∙ writes-one r xs ys apart)
 
   -- soFar commits assigned so far, and the new one
   abbrev soFar : List Commit
@@ -275,7 +291,8 @@ module _ (o : Opening) (d : Disk) (l : Live) (k : Ledger) (r : Tx) (listed : Lis
   precommit-latests : All (HasLatest (soFar ++ (entry ∷ []))) (committing (found .before) ++ r′ ∷ committing (found .after))
   precommit-latests =
       all-more (committing (found .before)) r′ (committing (found .after)) (entry, latest-own soFar entry, refl)
-      (all-map (λ t p. (p .1 .0, latest-other (t .id) soFar entry (λ e. p .0 (sym e)) ∙ p .1 .1, p .1 .2)) (all-zip committings-apart (rw committings at (u .ledger .latests))))
+      (all-map (λ t p. (p .1 .0, latest-other (t .id) soFar entry (λ e. p .0 (sym e)) ∙ p .1 .1, p .1 .2))
+      (all-zip committings-apart (rw committings at (u .ledger .latests))))
 
   pub precommit-keeps : Up o d (afterPrecommit r l) (enterPrecommitted (r .id) (suc (lastAssigned l)) k)
   precommit-keeps = record {
@@ -291,11 +308,18 @@ module _ (o : Opening) (d : Disk) (l : Live) (k : Ledger) (r : Tx) (listed : Lis
         precommit-byte a x (getD (l .memory) a 0) xs r ys (live-before a b) in
         record {
           image = end-image commitGroup refl a b
-              (growth-commit a base (getD (d .image .memory) a 0) (d .image .txs) (d .image .csn) (d .after ++ l .tail) (getD (l .memory) a 0) xs r ys (image-recovers a b) follows-before apart (s .imageDistinct) (live-before a b) newCsn
+              (growth-commit a base (getD (d .image .memory) a 0) (d .image .txs) (d .image .csn) (d .after ++ l .tail) (getD (l .memory) a 0) xs r ys
+              (image-recovers a b) follows-before apart (s .imageDistinct) (live-before a b) newCsn
               (omega (arith, assigned-now)));
           undoes = undoes-one-commit (r .id) newCsn (r .redo) r′ (b .undoes)
               (subst (λ (v : ℕ). Restores v (oldest a (r .undo)) (newest a (r .redo))) (replay-append (layByte a) (d .after) (l .tail) base) (after .1));
-          live = rw (← regroup commitGroup refl, replay-append (layByte a) (d .after ++ l .tail) (commitGroup ∷ []) base, redo-newest a (r .redo) x, precommit-runnings) (after .0);
+          live = rw (
+            ← regroup commitGroup refl,
+            replay-append (layByte a) (d .after ++ l .tail) (commitGroup ∷ []) base,
+            redo-newest a
+                (r .redo) x,
+            precommit-runnings,
+          ) (after .0);
         };
     room = record {
       fits = end-fits commitGroup refl (omega arith) precommit-follows;
@@ -305,7 +329,8 @@ module _ (o : Opening) (d : Disk) (l : Live) (k : Ledger) (r : Tx) (listed : Lis
     ledger = record {
       durable = u .ledger .durable;
       assigned = rw (precommit-entry, precommit-commits) (ap (λ (cs : List Commit). cs ++ (entry ∷ [])) (u .ledger .assigned));
-      queue = rw precommit-entry (ap (λ (es : List Entry). es ++ (entryOf commitGroup ∷ [])) (u .ledger .queue) ∙ sym (map-append entryOf (l .tail) (commitGroup ∷ [])));
+      queue = rw precommit-entry (ap (λ (es : List Entry). es ++ (entryOf commitGroup ∷ [])) (u .ledger .queue)
+          ∙ sym (map-append entryOf (l .tail) (commitGroup ∷ [])));
       active = rw precommit-runnings actives-less;
       settled = u .ledger .settled;
       latests = rw (precommit-committings, precommit-commits) precommit-latests;

@@ -7,7 +7,8 @@ use Rattle.recovery.specs.Group.{Write}
 use Rattle.recovery.specs.Lists.{nil}
 use Rattle.recovery.specs.Restart.{undoOrder}
 use Rattle.recovery.specs.Ledger.{Commit, Ledger}
-use Rattle.recovery.specs.Machine.{Opening, fresh, System, diskOf, recovered, newTx, withWrite, inCommit, begins, writes, precommits, rollsBack, flushes, flushIsCut, settles, checkpoints, restarts, Run, opened, next}
+use Rattle.recovery.specs.Machine.{Opening, fresh, System, diskOf, recovered, newTx, withWrite, inCommit, begins, writes, precommits, rollsBack}
+use Rattle.recovery.specs.Machine.{flushes, flushIsCut, settles, checkpoints, restarts, Run, opened, next}
 use Rattle.recovery.specs.Claim.{layCommits}
 use Rattle.recovery.proofs.Cases.{byte10}
 use Rattle.recovery.proofs.Theorem.{theorem}

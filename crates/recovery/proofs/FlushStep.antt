@@ -64,7 +64,8 @@ module _ (o : Opening) (d : Disk) (l : Live) (k : Ledger) (P U : List Group) (sp
   stored-ledger = record {
     durable = rw (u .ledger .durable, commits-entries P, stored-commits);
     assigned = u .ledger .assigned ∙ same-commits;
-    queue = ap (λ (es : List Entry). drop (length (entries P)) es) (u .ledger .queue ∙ (ap entries split ∙ map-append entryOf P U)) ∙ drop-append-seam (entries P) (entries U);
+    queue = ap (λ (es : List Entry). drop (length (entries P)) es) (u .ledger .queue ∙ (ap entries split ∙ map-append entryOf P U))
+        ∙ drop-append-seam (entries P) (entries U);
     active = u .ledger .active;
     settled = all-map (λ c m. Memᴰ·append-left _ m) (u .ledger .settled);
     latests = rw same-commits at (u .ledger .latests);
@@ -105,14 +106,16 @@ module _ (o : Opening) (d : Disk) (l : Live) (k : Ledger) (q allowed : ℕ) (u :
 
   pub flush-keeps : groupsSize (take q (l .tail)) ≤ allowed → Up o (storing (take q (l .tail)) d) (afterFlush q l) (enterFlushed q allowed k)
   flush-keeps enough =
-      rw (leaving, fitting-all allowed (take q (l .tail)) enough) (stored-keeps o d l k (take q (l .tail)) (drop q (l .tail)) (sym (take-append-drop q (l .tail))) u)
+      rw (leaving, fitting-all allowed (take q (l .tail)) enough)
+      (stored-keeps o d l k (take q (l .tail)) (drop q (l .tail)) (sym (take-append-drop q (l .tail))) u)
 
   pub cut-flush-keeps : Down o (storing (fitting allowed (take q (l .tail))) d) (emptied (enterFlushed q allowed k))
   cut-flush-keeps =
       let P : List Group = fitting allowed (take q (l .tail)) in
       let R : List Group = drop (length (fitting allowed (take q (l .tail)))) (take q (l .tail)) in
       let split : l .tail ≡ P ++ (R ++ drop q (l .tail)) =
-      sym (take-append-drop q (l .tail)) ∙ (ap (λ (gs : List Group). gs ++ drop q (l .tail)) (fitting-split allowed (take q (l .tail))) ∙ append-assoc P R (drop q (l .tail))) in
+      sym (take-append-drop q (l .tail))
+      ∙ (ap (λ (gs : List Group). gs ++ drop q (l .tail)) (fitting-split allowed (take q (l .tail))) ∙ append-assoc P R (drop q (l .tail))) in
       rw leaving
       (down-emptied o (storing P d) (leave (entries P) k)
       (crash o (storing P d) (storedLive P (R ++ drop q (l .tail)) l) (leave (entries P) k) (stored-keeps o d l k P (R ++ drop q (l .tail)) split u)))

@@ -55,7 +55,8 @@ pub record Follows (itxs : List Tx) (d : ℕ) (G : List Group) (rs : List Tx) : 
   pub lives : All (λ r. (has (r .id) (finished G []) ≡ false) × All (λ c. c .id ≢ r .id) (committing itxs)) rs
 
 -- step 4 has the running ones to undo, and no more
-pub undone-running : (itxs : List Tx) (d : ℕ) (G : List Group) (rs : List Tx) → Follows itxs d G rs → undone itxs d G ≡ unfinished (finished G []) (running itxs)
+pub undone-running : (itxs : List Tx) (d : ℕ) (G : List Group) (rs : List Tx) → Follows itxs d G rs
+    → undone itxs d G ≡ unfinished (finished G []) (running itxs)
 unfolding undoOrder
 undone-running itxs d G rs w =
     let f : List ℕ = finished G [] in
@@ -74,7 +75,8 @@ pub data Kin (r : Tx) (others : List Tx) (t : Tx) : Type 0 where
   another : t .id ≢ r .id → Linked t others → Kin r others t
 
 -- One more group, g, ends the live running transaction r.
-module _ (itxs : List Tx) (d : ℕ) (G : List Group) (xs : List Tx) (r : Tx) (ys : List Tx) (w : Follows itxs d G (xs ++ r ∷ ys)) (apart : All (λ t. t .id ≢ r .id) (xs ++ ys)) where
+module _ (itxs : List Tx) (d : ℕ) (G : List Group) (xs : List Tx) (r : Tx) (ys : List Tx) (w : Follows itxs d G (xs ++ r ∷ ys))
+    (apart : All (λ t. t .id ≢ r .id) (xs ++ ys)) where
   abbrev f : List ℕ
   f = finished G []
 
@@ -99,7 +101,8 @@ module _ (itxs : List Tx) (d : ℕ) (G : List Group) (xs : List Tx) (r : Tx) (ys
     follows-next le = record {
       committings = rw (now-finished, lastCsn-append d G (g ∷ [])) (all-map old (w .committings));
       runnings = rw now-left (all-passing (isUnfinished (r .id ∷ [])) (all-map (λ t p e. other t e p) kin));
-      lives = rw now-finished (all-map (λ t p. (or-both (eqb (t .id) (r .id)) (has (t .id) f) (ne-eqb (t .id) (r .id) (p .0)) (p .1 .0), p .1 .1)) (all-zip apart (all-less xs r ys (w .lives))));
+      lives = rw now-finished (all-map (λ t p. (or-both (eqb (t .id) (r .id)) (has (t .id) f) (ne-eqb (t .id) (r .id) (p .0)) (p .1 .0), p .1 .1))
+          (all-zip apart (all-less xs r ys (w .lives))));
     }
       where
         old : (c : Tx) → (has (c .id) f ≡ true) ⊎ (c .csn ≤ lastCsn d G) → (has (c .id) (r .id ∷ f) ≡ true) ⊎ (c .csn ≤ csnAfter (lastCsn d G) g)

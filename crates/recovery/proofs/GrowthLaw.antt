@@ -69,10 +69,12 @@ module _ (a x mem v : ℕ) (xs : List Tx) (r : Tx) (ys L : List Tx) (at : Runnin
       go (on o n q) = rw n (undo-still mem (rest-still q))
 
   -- u: the image's undo records of r's id
-  grow-abort : (u : List Write) → All (λ t. t .id ≡ r .id → t .undo ≡ u) L → (All (λ t. t .id ≢ r .id) L → u ≡ []) → undoEach (layByte a) rest (act (oldest a u) v) ≡ x
+  grow-abort : (u : List Write) → All (λ t. t .id ≡ r .id → t .undo ≡ u) L → (All (λ t. t .id ≢ r .id) L → u ≡ [])
+      → undoEach (layByte a) rest (act (oldest a u) v) ≡ x
   grow-abort u own gone = go (lookup (r .id) L) refl
     where
-      one : (ps : List Tx) (t : Tx) (qs : List Tx) → L ≡ ps ++ t ∷ qs → t .id ≡ r .id → t .undo ≡ u → Side a x mem r (xs ++ ys) → undoEach (layByte a) rest (act (oldest a u) v) ≡ x
+      one : (ps : List Tx) (t : Tx) (qs : List Tx) → L ≡ ps ++ t ∷ qs → t .id ≡ r .id → t .undo ≡ u → Side a x mem r (xs ++ ys)
+          → undoEach (layByte a) rest (act (oldest a u) v) ≡ x
       one ps t qs w i tu (off q k) =
           let still : oldest a u ≡ none = rw (← tu) (same-over t i (all-here ps t qs (rw w at kins)) a (q .0)) in
           rw still (undo-rest q)
@@ -80,7 +82,8 @@ module _ (a x mem v : ℕ) (xs : List Tx) (r : Tx) (ys L : List Tx) (at : Runnin
           let out : rest ≡ ps ++ qs = rw (w, ← i) (leave-one ps t qs (rw w at distinct)) in
           let stills : All (Still a) (ps ++ qs) = rw out at (rest-still q) in
           let alone : undoEach (layByte a) (ps ++ t ∷ qs) v ≡ act (oldest a u) v =
-          undoEach-append (layByte a) ps (t ∷ qs) v ∙ rw (undo-still v (all-left ps qs stills), undo-still (undoAll (layByte a) (t .undo) v) (all-right ps stills), tu) (undo-oldest a u v) in
+          undoEach-append (layByte a) ps (t ∷ qs) v
+          ∙ rw (undo-still v (all-left ps qs stills), undo-still (undoAll (layByte a) (t .undo) v) (all-right ps stills), tu) (undo-oldest a u v) in
           undo-still (act (oldest a u) v) (rest-still q) ∙ (sym alone ∙ (ap (λ (l : List Tx). undoEach (layByte a) l v) (sym w) ∙ e))
 
       go : (f : Option Tx) → lookup (r .id) L ≡ f → undoEach (layByte a) rest (act (oldest a u) v) ≡ x
@@ -89,7 +92,8 @@ module _ (a x mem v : ℕ) (xs : List Tx) (r : Tx) (ys L : List Tx) (at : Runnin
           rw (gone h) (ap (λ (l : List Tx). undoEach (layByte a) l v) (leave-none (r .id) h) ∙ e)
       go (some t) f =
           let found : Found (r .id) t L = find (r .id) t L f in
-          one (found .before) t (found .after) (found .whole) (found .named) (all-here (found .before) t (found .after) (rw (found .whole) at own) (found .named)) (side a x mem xs r ys at)
+          one (found .before) t (found .after) (found .whole) (found .named)
+          (all-here (found .before) t (found .after) (rw (found .whole) at own) (found .named)) (side a x mem xs r ys at)
 
 -- the law, at one byte: base is its value by the commits before the image, imem the image's
 
@@ -112,14 +116,22 @@ module _ (a base imem : ℕ) (itxs : List Tx) (d : ℕ) where
     distinct-now : DistinctIds unfinishedNow
     distinct-now = distinct-filter (isUnfinished (finished G [])) (distinct-filter isRunning distinct)
 
-    undone-next : (g : Group) → groupId g ≡ r .id → lastCsn d G ≤ csnAfter (lastCsn d G) g → undone itxs d (G ++ (g ∷ [])) ≡ unfinished (r .id ∷ []) unfinishedNow
+    undone-next : (g : Group) → groupId g ≡ r .id → lastCsn d G ≤ csnAfter (lastCsn d G) g
+        → undone itxs d (G ++ (g ∷ [])) ≡ unfinished (r .id ∷ []) unfinishedNow
     undone-next g of le =
         undone-running itxs d (G ++ (g ∷ [])) (xs ++ ys) (follows-next itxs d G xs r ys w apart g of le) ∙ now-left itxs d G xs r ys w apart g of
 
     pub growth-commit : (n : ℕ) → lastCsn d G ≤ n → Recovers (G ++ (committed (r .id) n (r .redo) ∷ []))
     growth-commit n le =
         let c : Group = committed (r .id) n (r .redo) in
-        rw (undone-next c refl le, forward-append (layByte a) itxs G (c ∷ []) [] imem, replay-append (layByte a) G (c ∷ []) base, redo-newest a (r .redo) v, redo-newest a (r .redo) (replay (layByte a) G base))
+        rw (
+          undone-next c refl le,
+          forward-append (layByte a) itxs G (c ∷ []) [] imem,
+          replay-append (layByte a) G (c ∷ []) base,
+          redo-newest a
+              (r .redo) v,
+          redo-newest a (r .redo) (replay (layByte a) G base),
+        )
         (grow-commit a (replay (layByte a) G base) mem v xs r ys unfinishedNow at distinct-now (kin itxs d G xs r ys w apart) start)
 
     pub growth-abort : Recovers (G ++ (aborted (r .id) ∷ []))
@@ -133,10 +145,13 @@ module _ (a base imem : ℕ) (itxs : List Tx) (d : ℕ) where
         forward-append (layByte a) itxs G (g ∷ []) [] imem ∙ ap (λ (b : Bool). cond b v (undoAll (layByte a) u v)) (live .0) in
         rw (undone-next g refl (omega arith), step, replay-append (layByte a) G (g ∷ []) base, undo-oldest a u v)
         (grow-abort a (replay (layByte a) G base) mem v xs r ys unfinishedNow at distinct-now (kin itxs d G xs r ys w apart) start u own
-        (λ h. ap undoRecords (lookup-none (gone (live .0) (all-unfilter isRunning itxs (all-unfilter (isUnfinished (finished G [])) (running itxs) h)) (all-unfilter isCommitting itxs (live .1))))))
+        (λ h. ap undoRecords (lookup-none
+        (gone (live .0) (all-unfilter isRunning itxs (all-unfilter (isUnfinished (finished G [])) (running itxs) h))
+        (all-unfilter isCommitting itxs (live .1))))))
       where
         -- an id that is not finished, and neither committing nor left among the running ones, is not in the image
-        gone : has (r .id) (finished G []) ≡ false → {txs : List Tx} → All (λ t. not (t .committing) ≡ true → isUnfinished (finished G []) t ≡ true → t .id ≢ r .id) txs
+        gone : has (r .id) (finished G []) ≡ false → {txs : List Tx}
+            → All (λ t. not (t .committing) ≡ true → isUnfinished (finished G []) t ≡ true → t .id ≢ r .id) txs
             → All (λ t. t .committing ≡ true → t .id ≢ r .id) txs → All (λ t. t .id ≢ r .id) txs
         gone n nil nil = nil
         gone n (cons {x = t} h hs) (cons k ks) = cons (λ i. go i (t .committing) refl) (gone n hs ks)

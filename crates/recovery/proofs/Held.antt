@@ -42,8 +42,10 @@ apart-oldest : (a : ℕ) (w : Write) {us : List Write} → seen a w ≢ none →
 apart-oldest a w s nil = refl
 apart-oldest a w s (cons {x = u} h hs) = rw (apart-byte a u w h s) (apart-oldest a w s hs)
 
-pub unheld : (i : ℕ) (w : Write) (txs : List Tx) (a : ℕ) → heldByOther i w txs ≡ false → seen a w ≢ none → All (λ t. t .id ≢ i → oldest a (t .undo) ≡ none) (running txs)
-unheld i w txs a h s = all-passing isRunning (all-map (λ t e run n. go t n run (and-cases (not (eqb i (t .id))) (not (t .committing) && over t) e)) (none-any byOther txs h))
+pub unheld : (i : ℕ) (w : Write) (txs : List Tx) (a : ℕ) → heldByOther i w txs ≡ false → seen a w ≢ none
+    → All (λ t. t .id ≢ i → oldest a (t .undo) ≡ none) (running txs)
+unheld i w txs a h s = all-passing isRunning
+    (all-map (λ t e run n. go t n run (and-cases (not (eqb i (t .id))) (not (t .committing) && over t) e)) (none-any byOther txs h))
   where
     over : Tx → Bool
     over t = any (λ u. overlap u w) (t .undo)
@@ -51,6 +53,7 @@ unheld i w txs a h s = all-passing isRunning (all-map (λ t e run n. go t n run 
     byOther : Tx → Bool
     byOther t = not (eqb i (t .id)) && (not (t .committing) && over t)
 
-    go : (t : Tx) → t .id ≢ i → not (t .committing) ≡ true → (not (eqb i (t .id)) ≡ false) ⊎ ((not (t .committing) && over t) ≡ false) → oldest a (t .undo) ≡ none
+    go : (t : Tx) → t .id ≢ i → not (t .committing) ≡ true → (not (eqb i (t .id)) ≡ false) ⊎ ((not (t .committing) && over t) ≡ false)
+        → oldest a (t .undo) ≡ none
     go t n run (inl e) = absurd (clash (ap not (ne-eqb i (t .id) (λ q. n (sym q)))) e)
     go t n run (inr e) = apart-oldest a w s (none-any (λ u. overlap u w) (t .undo) (rw run at e))

@@ -14,7 +14,8 @@ use Rattle.recovery.specs.Lists.{All, nil, cons, orElse}
 use Rattle.recovery.specs.Transaction.{Tx, running, committing}
 use Rattle.recovery.specs.Replay.{redoAll, replay, layBytes}
 use Rattle.recovery.specs.Restart.{aborts}
-use Rattle.recovery.specs.Ledger.{OpenTx, Commit, Entry, commit, abort, Ledger, entrySize, fittingEntries, committedIn, writesOf, others, addWrite, latest}
+use Rattle.recovery.specs.Ledger.{OpenTx, Commit, Entry, commit, abort, Ledger, entrySize, fittingEntries, committedIn, writesOf, others, addWrite}
+use Rattle.recovery.specs.Ledger.{latest}
 use Rattle.recovery.specs.Machine.{Disk, Live, withWrite}
 use Rattle.recovery.specs.Claim.{commits, layCommits}
 use Rattle.recovery.proofs.Bool.{eqb-same, some-none}
@@ -94,7 +95,8 @@ module _ (r : Tx) where
   add-none w nil = refl
   add-none w (cons {x} n ns) = rw (ne-eqb (r .id) (x .id) (λ e. n (sym e))) (ap (λ (l : List OpenTx). openOf x ∷ l) (add-none w ns))
 
-  pub add-one : (u w : Write) (xs ys : List Tx) → All (λ t. t .id ≢ r .id) (xs ++ ys) → map (addWrite (r .id) w) (opens (xs ++ r ∷ ys)) ≡ opens (xs ++ withWrite u w r ∷ ys)
+  pub add-one : (u w : Write) (xs ys : List Tx) → All (λ t. t .id ≢ r .id) (xs ++ ys)
+      → map (addWrite (r .id) w) (opens (xs ++ r ∷ ys)) ≡ opens (xs ++ withWrite u w r ∷ ys)
   add-one u w [] ys h = rw (eqb-same (r .id)) (ap (λ (l : List OpenTx). openOf (withWrite u w r) ∷ l) (add-none w h))
   add-one u w (x ∷ xs) ys (cons n ns) = rw (ne-eqb (r .id) (x .id) (λ e. n (sym e))) (ap (λ (l : List OpenTx). openOf x ∷ l) (add-one u w xs ys ns))
 
@@ -141,9 +143,11 @@ HasLatest cs t = (b : Commit) × (latest (t .id) cs ≡ some b) × (b .csn ≡ t
 abbrev pub Settles : Tx → List Commit → List Commit → Type 0
 Settles t durable queued = (c : Commit) × (latest (t .id) (durable ++ queued) ≡ some c) × (c .id ≡ t .id) × (c .csn ≡ t .csn) × List·Memᴰ c durable
 
-pub settles : (n : ℕ) (t : Tx) (durable queued : List Commit) → HasLatest (durable ++ queued) t → t .csn ≤ n → All (λ c. n < c .csn) queued → Settles t durable queued
+pub settles : (n : ℕ) (t : Tx) (durable queued : List Commit) → HasLatest (durable ++ queued) t → t .csn ≤ n → All (λ c. n < c .csn) queued
+    → Settles t durable queued
 settles n t durable queued h low high =
-    let m : List·Memᴰ (h .0) durable × (h .0 .id ≡ t .id) = latest-in (t .id) durable (h .0) (latest-low (t .id) n durable queued (h .0) (h .1) (omega (arith, h .2)) high) in
+    let m : List·Memᴰ (h .0) durable × (h .0 .id ≡ t .id) =
+    latest-in (t .id) durable (h .0) (latest-low (t .id) n durable queued (h .0) (h .1) (omega (arith, h .2)) high) in
     (h .0, h .1, m .1, h .2, m .0)
 
 -- Agreement with the store that is up.

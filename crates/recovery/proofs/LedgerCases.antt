@@ -4,7 +4,8 @@ use mathlib.Core.List.{List, [], _∷_, map}
 use Prim.Native.Nat.{ℕ}
 use Rattle.recovery.specs.Group.{Write}
 use Rattle.recovery.specs.Lists.{All, nil, cons}
-use Rattle.recovery.specs.Ledger.{Commit, Ledger, Event, unchanged, begun, wrote, precommitted, rolledBack, flushed, settled, restarted, cut, noLedger, enter}
+use Rattle.recovery.specs.Ledger.{Commit, Ledger, Event, unchanged, begun, wrote, precommitted, rolledBack, flushed, settled, restarted, cut, noLedger}
+use Rattle.recovery.specs.Ledger.{enter}
 
 -- what the ledger is fed, and the commit numbers of the durable, the assigned and the settled ones then
 pub record Row : Type 0 where
@@ -33,19 +34,37 @@ rows =
     ∷ record { events = restarted 0 ∷ begun 1 ∷ precommitted 1 1 ∷ cut unchanged ∷ []; durable = []; assigned = 1 ∷ []; settled = [] }
     ∷ record { events = restarted 0 ∷ begun 1 ∷ precommitted 1 1 ∷ cut unchanged ∷ restarted 0 ∷ []; durable = []; assigned = []; settled = [] }
     -- an abort entry of 4 and a commit of 8: 11 stores are not enough for both
-    ∷ record { events = restarted 0 ∷ begun 1 ∷ begun 2 ∷ rolledBack 1 ∷ precommitted 2 1 ∷ flushed 2 12 ∷ []; durable = 1 ∷ []; assigned = 1 ∷ []; settled = [] }
-    ∷ record { events = restarted 0 ∷ begun 1 ∷ begun 2 ∷ rolledBack 1 ∷ precommitted 2 1 ∷ cut (flushed 2 11) ∷ []; durable = []; assigned = 1 ∷ []; settled = [] }
+    ∷ record {
+      events = restarted 0 ∷ begun 1 ∷ begun 2 ∷ rolledBack 1 ∷ precommitted 2 1 ∷ flushed 2 12 ∷ [];
+      durable = 1 ∷ [];
+      assigned = 1 ∷ [];
+      settled = [];
+    }
+    ∷ record {
+      events = restarted 0 ∷ begun 1 ∷ begun 2 ∷ rolledBack 1 ∷ precommitted 2 1 ∷ cut (flushed 2 11) ∷ [];
+      durable = [];
+      assigned = 1 ∷ [];
+      settled = [];
+    }
     -- so are the abort entries that restart queues
     ∷ record { events = restarted 2 ∷ begun 1 ∷ precommitted 1 1 ∷ flushed 3 16 ∷ []; durable = 1 ∷ []; assigned = 1 ∷ []; settled = [] }
     ∷ record { events = restarted 2 ∷ begun 1 ∷ precommitted 1 1 ∷ cut (flushed 3 15) ∷ []; durable = []; assigned = 1 ∷ []; settled = [] }
     -- settle takes the latest of the id
-    ∷ record { events = restarted 0 ∷ begun 1 ∷ precommitted 1 1 ∷ flushed 1 8 ∷ restarted 0 ∷ begun 1 ∷ precommitted 1 2 ∷ flushed 1 8 ∷ settled 1 ∷ []; durable = 1 ∷ 2 ∷ []; assigned = 1 ∷ 2 ∷ []; settled = 2 ∷ [] }
+    ∷ record {
+      events = restarted 0 ∷ begun 1 ∷ precommitted 1 1 ∷ flushed 1 8 ∷ restarted 0 ∷ begun 1 ∷ precommitted 1 2 ∷ flushed 1 8 ∷ settled 1 ∷ [];
+      durable = 1 ∷ 2 ∷ [];
+      assigned = 1 ∷ 2 ∷ [];
+      settled = 2 ∷ [];
+    }
     ∷ []
 
 abbrev Right : Row → Type 0
-Right r = (csns (feed (r .events) noLedger .durable) ≡ r .durable) × (csns (feed (r .events) noLedger .assigned) ≡ r .assigned) × (csns (feed (r .events) noLedger .settled) ≡ r .settled)
+Right r = (csns (feed (r .events) noLedger .durable) ≡ r .durable) × (csns (feed (r .events) noLedger .assigned) ≡ r .assigned)
+    × (csns (feed (r .events) noLedger .settled) ≡ r .settled)
 
 pub ledger-cases : All Right rows
 unfolding rows
 ledger-cases =
-    cons (refl, refl, refl) (cons (refl, refl, refl) (cons (refl, refl, refl) (cons (refl, refl, refl) (cons (refl, refl, refl) (cons (refl, refl, refl) (cons (refl, refl, refl) (cons (refl, refl, refl) (cons (refl, refl, refl) nil))))))))
+    cons (refl, refl, refl) (cons (refl, refl, refl)
+    (cons (refl, refl, refl) (cons (refl, refl, refl)
+    (cons (refl, refl, refl) (cons (refl, refl, refl) (cons (refl, refl, refl) (cons (refl, refl, refl) (cons (refl, refl, refl) nil))))))))

@@ -75,7 +75,8 @@ module _ {A : Type 0} where
   filter-append p [] ys = refl
   filter-append p (x ∷ xs) ys = go (p x) (filter-append p xs ys)
     where
-      go : (b : Bool) → filter p (xs ++ ys) ≡ filter p xs ++ filter p ys → cond b (x ∷ filter p (xs ++ ys)) (filter p (xs ++ ys)) ≡ cond b (x ∷ filter p xs) (filter p xs) ++ filter p ys
+      go : (b : Bool) → filter p (xs ++ ys) ≡ filter p xs ++ filter p ys
+          → cond b (x ∷ filter p (xs ++ ys)) (filter p (xs ++ ys)) ≡ cond b (x ∷ filter p xs) (filter p xs) ++ filter p ys
       go true e = ap (λ (l : List A). x ∷ l) e
       go false e = e
 
@@ -107,7 +108,8 @@ module _ {A : Type 0} where
   all-unfilter p [] h = nil
   all-unfilter {q} p (x ∷ xs) h = go (p x) refl h (λ k. all-unfilter p xs k)
     where
-      go : (b : Bool) → p x ≡ b → All q (cond b (x ∷ filter p xs) (filter p xs)) → (All q (filter p xs) → All (λ y. p y ≡ true → q y) xs) → All (λ y. p y ≡ true → q y) (x ∷ xs)
+      go : (b : Bool) → p x ≡ b → All q (cond b (x ∷ filter p xs) (filter p xs)) → (All q (filter p xs) → All (λ y. p y ≡ true → q y) xs)
+          → All (λ y. p y ≡ true → q y) (x ∷ xs)
       go true e (cons k ks) f = cons (λ _. k) (f ks)
       go false e k f = cons (λ e′. absurd (clash e′ e)) (f k)
 
@@ -167,7 +169,8 @@ pub filter-map : {A : Type 0} (p : A → Bool) (f : A → A) → ((x : A) → p 
 filter-map p f e [] = refl
 filter-map {A = A} p f e (x ∷ xs) = rw (e x) (go (p x) (filter-map p f e xs))
   where
-    go : (b : Bool) → filter p (map f xs) ≡ map f (filter p xs) → cond b (f x ∷ filter p (map f xs)) (filter p (map f xs)) ≡ map f (cond b (x ∷ filter p xs) (filter p xs))
+    go : (b : Bool) → filter p (map f xs) ≡ map f (filter p xs)
+        → cond b (f x ∷ filter p (map f xs)) (filter p (map f xs)) ≡ map f (cond b (x ∷ filter p xs) (filter p xs))
     go true ih = ap (λ (l : List A). f x ∷ l) ih
     go false ih = ih
 

@@ -52,7 +52,8 @@ module _ (a x mem : ℕ) where
   put-off (t ∷ xs) r ys q (passes k h) = passes k (put-off xs r ys q h)
   put-off (t ∷ xs) r ys q (holds o n k) = holds o n (all-more xs r ys q k)
 
-  put-on : (xs : List Tx) (r : Tx) (ys : List Tx) → oldest a (r .undo) ≡ some x → newest a (r .redo) ≡ some mem → All (Quiet a) (xs ++ ys) → RunningAt a x mem (xs ++ r ∷ ys)
+  put-on : (xs : List Tx) (r : Tx) (ys : List Tx) → oldest a (r .undo) ≡ some x → newest a (r .redo) ≡ some mem → All (Quiet a) (xs ++ ys)
+      → RunningAt a x mem (xs ++ r ∷ ys)
   put-on [] r ys o n q = holds o n q
   put-on (t ∷ xs) r ys o n (cons q qs) = passes q (put-on xs r ys o n qs)
 
@@ -99,7 +100,8 @@ precommit-byte a x mem xs r ys h = go (side a x mem xs r ys h)
     go (on o n q) = (rw n (quiet-running a mem mem refl q), rw (o, n) both)
 
 -- abort: the byte goes back
-pub abort-byte : (a x mem : ℕ) (xs : List Tx) (r : Tx) (ys : List Tx) → RunningAt a x mem (xs ++ r ∷ ys) → RunningAt a x (undoAll (layByte a) (r .undo) mem) (xs ++ ys)
+pub abort-byte : (a x mem : ℕ) (xs : List Tx) (r : Tx) (ys : List Tx) → RunningAt a x mem (xs ++ r ∷ ys)
+    → RunningAt a x (undoAll (layByte a) (r .undo) mem) (xs ++ ys)
 abort-byte a x mem xs r ys h = rw (undo-oldest a (r .undo) mem) (go (side a x mem xs r ys h))
   where
     go : Side a x mem r (xs ++ ys) → RunningAt a x (act (oldest a (r .undo)) mem) (xs ++ ys)

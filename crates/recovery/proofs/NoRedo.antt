@@ -36,7 +36,8 @@ erased-insert t [] = refl
 erased-insert t (u ∷ txs) = go (leb (u .csn) (t .csn)) (erased-insert t txs)
   where
     go : (b : Bool) → insertDesc (withoutRedo t) (erased txs) ≡ erased (insertDesc t txs)
-        → cond b (withoutRedo t ∷ withoutRedo u ∷ erased txs) (withoutRedo u ∷ insertDesc (withoutRedo t) (erased txs)) ≡ erased (cond b (t ∷ u ∷ txs) (u ∷ insertDesc t txs))
+        → cond b (withoutRedo t ∷ withoutRedo u ∷ erased txs) (withoutRedo u ∷ insertDesc (withoutRedo t) (erased txs))
+        ≡ erased (cond b (t ∷ u ∷ txs) (u ∷ insertDesc t txs))
     go true e = refl
     go false e = ap (λ (l : List Tx). withoutRedo u ∷ l) e
 
@@ -51,13 +52,15 @@ erased-order txs n =
     (sym (map-append withoutRedo (running txs) (sortDesc (above n (committing txs)))))
 
 pub erased-undone : (txs : List Tx) (d : ℕ) (gs : List Group) → undone (erased txs) d gs ≡ erased (undone txs d gs)
-erased-undone txs d gs = ap (λ (l : List Tx). unfinished (finished gs []) l) (erased-order txs (lastCsn d gs)) ∙ erased-unfinished (finished gs []) (undoOrder txs (lastCsn d gs))
+erased-undone txs d gs = ap (λ (l : List Tx). unfinished (finished gs []) l) (erased-order txs (lastCsn d gs))
+    ∙ erased-unfinished (finished gs []) (undoOrder txs (lastCsn d gs))
 
 erased-undoOf : (i : ℕ) (txs : List Tx) → undoOf i (erased txs) ≡ undoOf i txs
 erased-undoOf i [] = refl
 erased-undoOf i (t ∷ txs) = go (eqb i (t .id)) (erased-undoOf i txs)
   where
-    go : (b : Bool) → undoOf i (erased txs) ≡ undoOf i txs → undoRecords (cond b (some (withoutRedo t)) (lookup i (erased txs))) ≡ undoRecords (cond b (some t) (lookup i txs))
+    go : (b : Bool) → undoOf i (erased txs) ≡ undoOf i txs
+        → undoRecords (cond b (some (withoutRedo t)) (lookup i (erased txs))) ≡ undoRecords (cond b (some t) (lookup i txs))
     go true e = refl
     go false e = e
 

@@ -22,11 +22,6 @@ consecutive-append consecutive-nil k = k
 consecutive-append (consecutive-abort c) k = consecutive-abort (consecutive-append c k)
 consecutive-append (consecutive-commit e c) k = consecutive-commit e (consecutive-append c k)
 
-pub consecutive-right : {n : ℕ} (gs : List Group) {hs : List Group} → Consecutive n (gs ++ hs) → Consecutive (lastCsn n gs) hs
-consecutive-right [] c = c
-consecutive-right (aborted i ∷ gs) (consecutive-abort c) = consecutive-right gs c
-consecutive-right (committed i m ws ∷ gs) (consecutive-commit e c) = consecutive-right gs c
-
 pub consecutive-tied : {n : ℕ} {T : List Group} {cs : List Tx} → Tied n T cs → Consecutive n T
 consecutive-tied tied-nil = consecutive-nil
 consecutive-tied (tied-abort t) = consecutive-abort (consecutive-tied t)
@@ -40,7 +35,8 @@ consecutive-numbered (consecutive-commit {gs} e c) = (e, subst (λ (m : ℕ). Nu
 pub consecutive-high : {n : ℕ} {gs : List Group} → Consecutive n gs → All (λ c. n < c .csn) (commits gs)
 consecutive-high consecutive-nil = nil
 consecutive-high (consecutive-abort c) = consecutive-high c
-consecutive-high (consecutive-commit {i} {m} {ws} e c) = cons {x = record { id = i; csn = m; writes = ws }} (omega arith) (all-map (λ b h. omega arith) (consecutive-high c))
+consecutive-high (consecutive-commit {i} {m} {ws} e c) =
+    cons {x = record { id = i; csn = m; writes = ws }} (omega arith) (all-map (λ b h. omega arith) (consecutive-high c))
 
 -- the log goes on from the starting number, and the image has the number on disk of its place
 pub record Numbers (o : Opening) (d : Disk) : Type 0 where
@@ -50,7 +46,3 @@ pub record Numbers (o : Opening) (d : Disk) : Type 0 where
 -- the last number on disk
 pub last-on-disk : (o : Opening) (d : Disk) → Numbers o d → lastCsn (o .csn) (d .before ++ d .after) ≡ lastCsn (d .image .csn) (d .after)
 last-on-disk o d n = lastCsn-append (o .csn) (d .before) (d .after) ∙ ap (λ (m : ℕ). lastCsn m (d .after)) (sym (n .image))
-
--- restart's reader, which starts with the image's number, accepts the groups after the image
-pub after-consecutive : (o : Opening) (d : Disk) → Numbers o d → Consecutive (d .image .csn) (d .after)
-after-consecutive o d n = subst (λ (m : ℕ). Consecutive m (d .after)) (sym (n .image)) (consecutive-right (d .before) (n .log))

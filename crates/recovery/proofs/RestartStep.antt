@@ -43,7 +43,8 @@ distinct-aborts : {us : List Tx} → DistinctIds us → Distinct groupId (aborts
 distinct-aborts empty = empty
 distinct-aborts (more h d) = more (all-mapped abortOf h) (distinct-aborts d)
 
-module _ (o : Opening) (d : Disk) (k : Ledger) (lastId : ℕ) (image-ids : All (λ t. t .id ≤ lastId) (d .image .txs)) (group-ids : All (λ g. groupId g ≤ lastId) (d .after)) (w : Down o d k) where
+module _ (o : Opening) (d : Disk) (k : Ledger) (lastId : ℕ) (image-ids : All (λ t. t .id ≤ lastId) (d .image .txs))
+    (group-ids : All (λ g. groupId g ≤ lastId) (d .after)) (w : Down o d k) where
   abbrev txs : List Tx
   txs = d .image .txs
 
@@ -69,7 +70,8 @@ module _ (o : Opening) (d : Disk) (k : Ledger) (lastId : ℕ) (image-ids : All (
   restart-standing : Standing d l []
   restart-standing =
       let undone-ids : All (λ t. t .id ≤ lastId) us = all-filter (isUnfinished (finished (d .after) [])) (order-all txs (lastCsn csn (d .after)) image-ids) in
-      let undone-distinct : DistinctIds us = distinct-filter (isUnfinished (finished (d .after) [])) (order-distinct txs (lastCsn csn (d .after)) (w .imageDistinct)) in
+      let undone-distinct : DistinctIds us =
+      distinct-filter (isUnfinished (finished (d .after) [])) (order-distinct txs (lastCsn csn (d .after)) (w .imageDistinct)) in
       record {
         imageDistinct = w .imageDistinct;
         imageIds = image-ids;
@@ -112,7 +114,12 @@ module _ (o : Opening) (d : Disk) (k : Ledger) (lastId : ℕ) (image-ids : All (
   restart-fits =
       prefix-append (Roomy o d) (d .after) (aborts us) (w .fits)
       (λ q. subst (λ (gs : List Group). Roomy o d (d .after ++ gs)) (sym (first-aborts q))
-      (rw (undone-after txs csn (d .after) (take q us) (drop q us) (w .imageDistinct) (split q), groupsSize-append (d .after) (aborts (take q us)), groupsSize-aborts (take q us))
+      (rw (
+        undone-after txs csn (d .after) (take q us) (drop q us) (w .imageDistinct) (split q),
+        groupsSize-append (d .after)
+            (aborts (take q us)),
+        groupsSize-aborts (take q us),
+      )
       (omega (arith, prefix-whole (Roomy o d) (d .after) (w .fits), ap length (split q) ∙ length-append (take q us) (drop q us)))))
 
   pub restart-keeps : Up o d (afterRestart d lastId) (enterRestarted (length (undoneBy d)) k)
@@ -129,7 +136,8 @@ module _ (o : Opening) (d : Disk) (k : Ledger) (lastId : ℕ) (image-ids : All (
     numbers = w .numbers;
     ledger = record {
       durable = w .durable;
-      assigned = w .durable ∙ sym (ap (λ (cs : List Commit). commits (d .before ++ d .after) ++ cs) (commits-aborts us) ∙ append-nil (commits (d .before ++ d .after)));
+      assigned = w .durable ∙ sym (ap (λ (cs : List Commit). commits (d .before ++ d .after) ++ cs) (commits-aborts us)
+          ∙ append-nil (commits (d .before ++ d .after)));
       queue = entries-aborts us;
       active = refl;
       settled = w .settled;

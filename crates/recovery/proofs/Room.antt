@@ -61,7 +61,8 @@ roomy-now o d G rs distinct w used =
 
 -- an image taken now, and the groups P of the tail after it: the late commits have groups of 8 bytes at least in the rest
 pub roomy-image : (o : Opening) (l : Live) (log P U : List Group) (cs : List Tx) → Fit (l .txs) (l .csn) (P ++ U) cs
-    → groupsSize log + groupsSize (P ++ U) + reserved (running (l .txs)) ≤ o .capacity → groupsSize log + groupsSize P + 4 * length (undone (l .txs) (l .csn) P) ≤ o .capacity
+    → groupsSize log + groupsSize (P ++ U) + reserved (running (l .txs)) ≤ o .capacity
+    → groupsSize log + groupsSize P + 4 * length (undone (l .txs) (l .csn) P) ≤ o .capacity
 roomy-image o l log P U cs fit used =
     let sized : 8 * length (late P cs) ≤ groupsSize U = late-size (tied-late P (fit .tied)) in
     rw (undone-late (l .txs) (l .csn) P U cs fit, length-append (running (l .txs)) (reverse (late P cs)), length-reverse (late P cs))

@@ -18,7 +18,8 @@ use Rattle.recovery.proofs.Numbers.{consecutive-tied, consecutive-high}
 use Rattle.recovery.proofs.Ledger.{Settles, settles, commits-entries}
 use Rattle.recovery.proofs.Invariant.{Standing, AtByte, Up}
 
-module _ (o : Opening) (d : Disk) (l : Live) (k : Ledger) (r : Tx) (listed : Listed r (l .txs)) (committed : r .committing ≡ true) (on-disk : r .csn ≤ l .csn) (u : Up o d l k) where
+module _ (o : Opening) (d : Disk) (l : Live) (k : Ledger) (r : Tx) (listed : Listed r (l .txs)) (committed : r .committing ≡ true)
+    (on-disk : r .csn ≤ l .csn) (u : Up o d l k) where
   found : Found (r .id) r (l .txs)
   found = find (r .id) r (l .txs) listed
 
@@ -26,7 +27,8 @@ module _ (o : Opening) (d : Disk) (l : Live) (k : Ledger) (r : Tx) (listed : Lis
   s = u .standing
 
   runnings : running (afterSettle r l .txs) ≡ running (l .txs)
-  runnings = ap running (found .removed) ∙ (running-append (found .before) (found .after) ∙ sym (ap running (found .whole) ∙ running-out (found .before) r (found .after) committed))
+  runnings = ap running (found .removed)
+      ∙ (running-append (found .before) (found .after) ∙ sym (ap running (found .whole) ∙ running-out (found .before) r (found .after) committed))
 
   abbrev cs : List Tx
   cs = committing (found .before)
@@ -44,7 +46,8 @@ module _ (o : Opening) (d : Disk) (l : Live) (k : Ledger) (r : Tx) (listed : Lis
   aboves : above (l .csn) (committing (afterSettle r l .txs)) ≡ above (l .csn) (committing (l .txs))
   aboves =
       ap (λ (ts : List Tx). above (l .csn) ts) committings′
-      ∙ (filter-append (isAbove (l .csn)) cs ds ∙ sym (ap (λ (ts : List Tx). above (l .csn) ts) committings ∙ filter-out (isAbove (l .csn)) cs r ds (le-ltb (l .csn) (r .csn) on-disk)))
+      ∙ (filter-append (isAbove (l .csn)) cs ds
+      ∙ sym (ap (λ (ts : List Tx). above (l .csn) ts) committings ∙ filter-out (isAbove (l .csn)) cs r ds (le-ltb (l .csn) (r .csn) on-disk)))
 
   settle-standing : Standing d (afterSettle r l) (u .late)
   settle-standing = record {
@@ -70,7 +73,8 @@ module _ (o : Opening) (d : Disk) (l : Live) (k : Ledger) (r : Tx) (listed : Lis
   settle-finds =
       let queued : committedIn (k .queue) ≡ commits (l .tail) = ap committedIn (u .ledger .queue) ∙ commits-entries (l .tail) in
       rw (u .ledger .durable, queued)
-      (settles (l .csn) r (commits (d .before ++ d .after)) (commits (l .tail)) (all-here cs r ds (rw committings at (u .ledger .latests))) on-disk (consecutive-high (consecutive-tied (s .fit .tied))))
+      (settles (l .csn) r (commits (d .before ++ d .after)) (commits (l .tail)) (all-here cs r ds (rw committings at (u .ledger .latests))) on-disk
+      (consecutive-high (consecutive-tied (s .fit .tied))))
 
   pub settle-keeps : Up o d (afterSettle r l) (enterSettled (r .id) k)
   settle-keeps =

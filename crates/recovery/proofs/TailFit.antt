@@ -54,7 +54,8 @@ tied-late (committed i n ws ∷ P) (tied-commit e f g t) = rw g (tied-late P t)
 
 -- one more group
 
-pub tied-one-commit : {d : ℕ} {T : List Group} {cs : List Tx} (i n : ℕ) (ws : List Write) (c : Tx) → Tied d T cs → c .id ≡ i → c .csn ≡ n → n ≡ suc (lastCsn d T)
+pub tied-one-commit : {d : ℕ} {T : List Group} {cs : List Tx} (i n : ℕ) (ws : List Write) (c : Tx) → Tied d T cs → c .id ≡ i → c .csn ≡ n
+    → n ≡ suc (lastCsn d T)
     → Tied d (T ++ (committed i n ws ∷ [])) (cs ++ (c ∷ []))
 tied-one-commit i n ws c tied-nil e f g = tied-commit e (f ∙ g) g tied-nil
 tied-one-commit i n ws c (tied-abort t) e f g = tied-abort (tied-one-commit i n ws c t e f g)
@@ -141,6 +142,7 @@ module _ (txs : List Tx) (d : ℕ) (P U : List Group) (cs : List Tx) (fit : Fit 
       let ls : List Tx = reverse (late P cs) in
       let one : (t : Tx) → Ungrouped P t → isUnfinished f t ≡ true = λ t h. ap not (unmarked [] h refl) in
       let kept-late : unfinished f ls ≡ ls =
-      filter-all (isUnfinished f) (all-reverse (all-map one (tied-ids (λ i. All (λ g. groupId g ≢ i) P) (tied-late P (fit .tied)) (distinct-apart P (fit .once))))) in
+      filter-all (isUnfinished f) (all-reverse
+      (all-map one (tied-ids (λ i. All (λ g. groupId g ≢ i) P) (tied-late P (fit .tied)) (distinct-apart P (fit .once))))) in
       let kept-running : unfinished f (running txs) ≡ running txs = filter-all (isUnfinished f) (all-map (λ t h. one t (all-left P U h)) (fit .free)) in
       ap (λ (l : List Tx). unfinished f (running txs ++ l)) sorted-late ∙ (filter-append (isUnfinished f) (running txs) ls ∙ rw (kept-late, kept-running))

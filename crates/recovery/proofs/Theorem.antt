@@ -12,13 +12,14 @@ use Rattle.recovery.specs.Lists.{nil}
 use Rattle.recovery.specs.Transaction.{Tx}
 use Rattle.recovery.specs.Restart.{undoOrder}
 use Rattle.recovery.specs.Ledger.{Event, Commit, Ledger, noLedger, committedIn, enter}
-use Rattle.recovery.specs.Machine.{Opening, Disk, Live, System, down, up, diskOf, openingDisk, Listed, Step, stays, begins, writes, precommits, rollsBack, flushes, flushIsCut, settles, checkpoints, checkpointIsCut, restarts, restartIsCut, Run, opened, next}
+use Rattle.recovery.specs.Machine.{Opening, Disk, Live, System, down, up, diskOf, openingDisk, Listed, Step, stays, begins, writes, precommits}
+use Rattle.recovery.specs.Machine.{rollsBack, flushes, flushIsCut, settles, checkpoints, checkpointIsCut, restarts, restartIsCut, Run, opened, next}
 use Rattle.recovery.specs.Claim.{layCommits, Claim}
 use Rattle.recovery.proofs.Lists.{prefix-whole}
 use Rattle.recovery.proofs.Distinct.{empty}
 use Rattle.recovery.proofs.Groups.{groupsSize-append, replay-append}
 use Rattle.recovery.proofs.Byte.{layByte, by-bytes}
-use Rattle.recovery.proofs.Numbers.{Consecutive, consecutive-nil, after-consecutive, consecutive-numbered}
+use Rattle.recovery.proofs.Numbers.{consecutive-nil, consecutive-numbered}
 use Rattle.recovery.proofs.Room.{Roomy}
 use Rattle.recovery.proofs.Ledger.{Settles, replay-commits}
 use Rattle.recovery.proofs.Invariant.{Down, Inv, ImageAt, baseAt, crash, down-emptied}
@@ -100,9 +101,6 @@ module _ (o : Opening) where
   theorem {s} {k} r = claimed (diskOf s) k (lasts s k (holds r))
 
   -- at a settle the latest of the id, durable or queued, is the transaction's own commit, and is durable
-  pub settled-found : (d : Disk) (l : Live) (k : Ledger) (r : Tx) → Run o (up d l) k → Listed r (l .txs) → r .committing ≡ true → r .csn ≤ l .csn → Settles r (k .durable) (committedIn (k .queue))
+  pub settled-found : (d : Disk) (l : Live) (k : Ledger) (r : Tx) → Run o (up d l) k → Listed r (l .txs) → r .committing ≡ true → r .csn ≤ l .csn
+      → Settles r (k .durable) (committedIn (k .queue))
   settled-found d l k r run listed committing on-disk = settle-finds o d l k r listed committing on-disk (holds run)
-
-  -- the reader of the next restart, which starts with the image's number, accepts the numbers of the groups after the image
-  pub groups-go-on : {s : System} {k : Ledger} → Run o s k → Consecutive (diskOf s .image .csn) (diskOf s .after)
-  groups-go-on {s} {k} r = after-consecutive o (diskOf s) (lasts s k (holds r) .numbers)

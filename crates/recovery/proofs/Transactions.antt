@@ -45,7 +45,15 @@ find i r (t ∷ ts) h = go (eqb i (t .id)) refl h (λ k. find i r ts k)
     go : (b : Bool) → eqb i (t .id) ≡ b → cond b (some t) (lookup i ts) ≡ some r → (lookup i ts ≡ some r → Found i r ts) → Found i r (t ∷ ts)
     go true e k f =
         let same : t ≡ r = cc in
-        record { before = []; after = ts; whole = ap (λ (u : Tx). u ∷ ts) same; named = ap (λ (u : Tx). u .id) (sym same) ∙ sym (eqb-true i (t .id) e); edited = λ g. rw e (ap (λ (u : Tx). g u ∷ ts) same); removed = rw e }
+        record {
+          before = [];
+          after = ts;
+          whole = ap (λ (u : Tx). u ∷ ts) same;
+          named = ap (λ (u : Tx). u .id) (sym same)
+              ∙ sym (eqb-true i (t .id) e);
+          edited = λ g. rw e (ap (λ (u : Tx). g u ∷ ts) same);
+          removed = rw e;
+        }
     go false e k f =
         let c : Found i r ts = f k in
         record {
@@ -109,4 +117,5 @@ module _ {txs : List Tx} (r : Tx) (run : r .committing ≡ false) (f : Found (r 
   found-running = ap running (f .whole) ∙ running-in (f .before) r (f .after) run
 
   pub found-apart : DistinctIds txs → All (λ t. t .id ≢ r .id) (running (f .before) ++ running (f .after))
-  found-apart d = subst (λ (ts : List Tx). All (λ t. t .id ≢ r .id) ts) (running-append (f .before) (f .after)) (all-filter isRunning (distinct-others (f .before) r (f .after) (rw (f .whole) at d)))
+  found-apart d = subst (λ (ts : List Tx). All (λ t. t .id ≢ r .id) ts) (running-append (f .before) (f .after))
+      (all-filter isRunning (distinct-others (f .before) r (f .after) (rw (f .whole) at d)))

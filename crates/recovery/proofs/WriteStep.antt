@@ -66,7 +66,8 @@ touch a m w others ha hw q = go (whereabouts a (w .addr) (oldBytes w m .bytes) (
     old-length : length (take (length (w .bytes)) (drop (w .addr) m)) ≡ length (w .bytes)
     old-length = length-take-le (length (w .bytes)) (drop (w .addr) m) (rw (length-drop (w .addr) m) (omega arith))
 
-    old : (j : ℕ) → a ≡ w .addr + j → j < length (take (length (w .bytes)) (drop (w .addr) m)) → getD (take (length (w .bytes)) (drop (w .addr) m)) j 0 ≡ getD m a 0
+    old : (j : ℕ) → a ≡ w .addr + j → j < length (take (length (w .bytes)) (drop (w .addr) m))
+        → getD (take (length (w .bytes)) (drop (w .addr) m)) j 0 ≡ getD m a 0
     old j e l = getD-take (length (w .bytes)) (drop (w .addr) m) j 0 (rw old-length at l) ∙ (getD-drop (w .addr) m j 0 ∙ ap (λ (i : ℕ). getD m i 0) (sym e))
 
     new : (s : Option ℕ) → seen a w ≡ s → getD (layBytes w m) a 0 ≡ act s (getD m a 0)
@@ -102,7 +103,8 @@ module _ (o : Opening) (d : Disk) (l : Live) (k : Ledger) (r : Tx) (w : Write) (
   runnings′ = ap running txs′ ∙ running-in (f .before) r′ (f .after) run
 
   committings : committing (afterWrite r w l .txs) ≡ committing (l .txs)
-  committings = ap committing txs′ ∙ (committing-out (f .before) r′ (f .after) run ∙ sym (ap committing (f .whole) ∙ committing-out (f .before) r (f .after) run))
+  committings = ap committing txs′
+      ∙ (committing-out (f .before) r′ (f .after) run ∙ sym (ap committing (f .whole) ∙ committing-out (f .before) r (f .after) run))
 
   abbrev s : Standing d l (u .late)
   s = u .standing
@@ -133,7 +135,8 @@ module _ (o : Opening) (d : Disk) (l : Live) (k : Ledger) (r : Tx) (w : Write) (
     csns = rw committings (s .csns);
   }
 
-  quiet : (a : ℕ) → heldByOther (r .id) w (l .txs) ≡ false → RunningAt a (replay (layByte a) (d .after ++ l .tail) (baseAt o (d .before) a)) (getD (l .memory) a 0) (xs ++ r ∷ ys)
+  quiet : (a : ℕ) → heldByOther (r .id) w (l .txs) ≡ false
+      → RunningAt a (replay (layByte a) (d .after ++ l .tail) (baseAt o (d .before) a)) (getD (l .memory) a 0) (xs ++ r ∷ ys)
       → seen a w ≢ none → All (Quiet a) (xs ++ ys)
   quiet a free live touched =
       all-map (λ t p. p .0 (p .1 .0 (p .1 .1)))
@@ -160,14 +163,16 @@ module _ (o : Opening) (d : Disk) (l : Live) (k : Ledger) (r : Tx) (w : Write) (
         };
     room = record {
       fits = u .room .fits;
-      used = rw (runnings′, reserved-append xs (r′ ∷ ys), redoSize-append (r .redo) (w ∷ [])) (omega (arith, ap reserved runnings ∙ reserved-append xs (r ∷ ys)));
+      used = rw (runnings′, reserved-append xs (r′ ∷ ys), redoSize-append (r .redo) (w ∷ []))
+          (omega (arith, ap reserved runnings ∙ reserved-append xs (r ∷ ys)));
     };
     numbers = u .numbers;
     ledger = record {
       durable = u .ledger .durable;
       assigned = u .ledger .assigned;
       queue = u .ledger .queue;
-      active = ap (λ (ss : List OpenTx). map (addWrite (r .id) w) ss) (u .ledger .active ∙ ap opens runnings) ∙ (add-one r old w xs ys apart ∙ ap opens (sym runnings′));
+      active = ap (λ (ss : List OpenTx). map (addWrite (r .id) w) ss) (u .ledger .active ∙ ap opens runnings)
+          ∙ (add-one r old w xs ys apart ∙ ap opens (sym runnings′));
       settled = u .ledger .settled;
       latests = rw committings (u .ledger .latests);
     };

@@ -3,6 +3,7 @@ use Prim.Native.Nat.{ℕ, suc, _+_, _*_, _≤_}
 use mathlib.Core.Path.{_≡_}
 use mathlib.Core.List.{List, [], _∷_, _++_, List·Memᴰ}
 use lib.ListN.{length}
+use Rattle.layout.specs.{abortLen}
 use Rattle.recovery.specs.Group.{Group, committed, aborted, groupsSize}
 use Rattle.recovery.specs.Lists.{All}
 use Rattle.recovery.specs.Replay.{redoAll, layBytes}
@@ -37,4 +38,4 @@ pub record Claim (o : Opening) (d : Disk) (k : Ledger) : Type 0 where
   -- each settled one is among them
   pub settled : All (λ c. List·Memᴰ c (k .durable)) (k .settled)
   -- the restart isn't refused: number 5 finds room for its abort records
-  pub fits : groupsSize (d .before ++ d .after) + 4 * length (undoneBy d) ≤ o .capacity
+  pub fits : groupsSize (d .before ++ d .after) + abortLen * length (undoneBy d) ≤ o .capacity

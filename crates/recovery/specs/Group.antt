@@ -4,6 +4,7 @@ use mathlib.Core.Bool.{cond}
 use mathlib.Core.List.{List, [], _∷_}
 use lib.ListN.{length}
 use lib.Dec.{leb}
+use Rattle.layout.specs.{redoLen, commitLen, abortLen}
 
 -- bytes and the address in memory of the first of them: new bytes in a redo record, old bytes in an undo record
 pub record Write : Type 0 where
@@ -18,12 +19,12 @@ pub data Group : Type 0 where
 -- the bytes that redo records take in the log: 7 + length each
 abbrev pub redoSize : List Write → ℕ
 redoSize [] = 0
-redoSize (w ∷ ws) = 7 + length (w .bytes) + redoSize ws
+redoSize (w ∷ ws) = redoLen + length (w .bytes) + redoSize ws
 
 -- the bytes that a group takes: a commit record has 8, an abort record 4
 abbrev pub groupSize : Group → ℕ
-groupSize (committed id csn ws) = redoSize ws + 8
-groupSize (aborted id) = 4
+groupSize (committed id csn ws) = redoSize ws + commitLen
+groupSize (aborted id) = abortLen
 
 abbrev pub groupsSize : List Group → ℕ
 groupsSize [] = 0

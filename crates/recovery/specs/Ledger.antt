@@ -5,6 +5,7 @@ use mathlib.Core.List.{List, [], _∷_, _++_, map}
 use mathlib.Core.Option.{Option, none, some}
 use lib.ListN.{length, take, drop, replicate}
 use lib.Dec.{eqb, leb}
+use Rattle.layout.specs.{commitLen, abortLen}
 use Rattle.recovery.specs.Group.{Write, redoSize}
 use Rattle.recovery.specs.Lists.{filter, orElse}
 
@@ -37,8 +38,8 @@ abbrev pub noLedger : Ledger
 noLedger = record { active = []; queue = []; durable = []; assigned = []; settled = [] }
 
 abbrev pub entrySize : Entry → ℕ
-entrySize (commit c) = redoSize (c .writes) + 8
-entrySize abort = 4
+entrySize (commit c) = redoSize (c .writes) + commitLen
+entrySize abort = abortLen
 
 -- the first entries, as many as have sizes that, summed from the front, stay within n
 abbrev pub fittingEntries : ℕ → List Entry → List Entry
@@ -100,7 +101,13 @@ enterWrote i w l = withActive (map (addWrite i w) (l .active)) l
 abbrev pub enterPrecommitted : ℕ → ℕ → Ledger → Ledger
 enterPrecommitted i n l =
     let c : Commit = record { id = i; csn = n; writes = writesOf i (l .active) } in
-    record { active = others i (l .active); queue = l .queue ++ (commit c ∷ []); durable = l .durable; assigned = l .assigned ++ (c ∷ []); settled = l .settled }
+    record {
+      active = others i (l .active);
+      queue = l .queue ++ (commit c ∷ []);
+      durable = l .durable;
+      assigned = l .assigned ++ (c ∷ []);
+      settled = l .settled;
+    }
 
 -- Abort: the write set goes; an abort entry goes last in the queue.
 abbrev pub enterRolledBack : ℕ → Ledger → Ledger
@@ -120,7 +127,13 @@ enterFlushed k allowed l = leave (fittingEntries allowed (take k (l .queue))) l
 -- Settle: the latest of that id, durable or queued, is settled for good.
 abbrev pub enterSettled : ℕ → Ledger → Ledger
 enterSettled i l =
-    record { active = l .active; queue = l .queue; durable = l .durable; assigned = l .assigned; settled = l .settled ++ toList (latest i (l .durable ++ committedIn (l .queue))) }
+    record {
+      active = l .active;
+      queue = l .queue;
+      durable = l .durable;
+      assigned = l .assigned;
+      settled = l .settled ++ toList (latest i (l .durable ++ committedIn (l .queue)));
+    }
 
 -- Restart, done: open transactions and queue are emptied; an abort entry is queued for each transaction undone. The durable ones
 -- are those assigned.

@@ -5,6 +5,7 @@ use mathlib.Core.Bool.{true, false}
 use mathlib.Core.List.{List, [], _∷_, _++_, map}
 use mathlib.Core.Option.{some}
 use lib.ListN.{length, take, drop, replicate, length-replicate}
+use Rattle.layout.specs.{redoLen, commitLen}
 use Rattle.recovery.specs.Group.{Write, Group, committed, aborted, groupsSize, lastCsn, fitting}
 use Rattle.recovery.specs.Lists.{All}
 use Rattle.recovery.specs.Transaction.{Tx, running, lookup, edit, remove, heldByOther, reserved}
@@ -85,7 +86,13 @@ withWrite old new t = record { id = t .id; committing = t .committing; csn = t .
 
 abbrev pub afterWrite : Tx → Write → Live → Live
 afterWrite r w l =
-    record { txs = edit (r .id) (withWrite (oldBytes w (l .memory)) w) (l .txs); memory = layBytes w (l .memory); tail = l .tail; csn = l .csn; lastId = l .lastId }
+    record {
+      txs = edit (r .id) (withWrite (oldBytes w (l .memory)) w) (l .txs);
+      memory = layBytes w (l .memory);
+      tail = l .tail;
+      csn = l .csn;
+      lastId = l .lastId;
+    }
 
 -- Precommit of r: assigns the next commit number, appends the group to the tail, marks the transaction committing. Its redo list
 -- is emptied, its undo list stays.
@@ -95,12 +102,24 @@ inCommit n t = record { id = t .id; committing = true; csn = n; undo = t .undo; 
 abbrev pub afterPrecommit : Tx → Live → Live
 afterPrecommit r l =
     let n : ℕ = suc (lastAssigned l) in
-    record { txs = edit (r .id) (inCommit n) (l .txs); memory = l .memory; tail = l .tail ++ (committed (r .id) n (r .redo) ∷ []); csn = l .csn; lastId = l .lastId }
+    record {
+      txs = edit (r .id) (inCommit n) (l .txs);
+      memory = l .memory;
+      tail = l .tail ++ (committed (r .id) n (r .redo) ∷ []);
+      csn = l .csn;
+      lastId = l .lastId;
+    }
 
 -- Abort of r: undoes newest first, appends the abort record, drops the transaction.
 abbrev pub afterAbort : Tx → Live → Live
 afterAbort r l =
-    record { txs = remove (r .id) (l .txs); memory = undoAll layBytes (r .undo) (l .memory); tail = l .tail ++ (aborted (r .id) ∷ []); csn = l .csn; lastId = l .lastId }
+    record {
+      txs = remove (r .id) (l .txs);
+      memory = undoAll layBytes (r .undo) (l .memory);
+      tail = l .tail ++ (aborted (r .id) ∷ []);
+      csn = l .csn;
+      lastId = l .lastId;
+    }
 
 -- groups of the tail stored at the log's end
 abbrev pub storing : List Group → Disk → Disk
@@ -139,10 +158,11 @@ module _ (o : Opening) where
     -- a refused call, a read or its sister
     stays : (s : System) → Step s unchanged s
     -- number 13
-    begins : (d : Disk) (l : Live) → roomUsed d l + 8 ≤ o .capacity → Step (up d l) (begun (suc (l .lastId))) (up d (afterBegin l))
+    begins : (d : Disk) (l : Live) → roomUsed d l + commitLen ≤ o .capacity → Step (up d l) (begun (suc (l .lastId))) (up d (afterBegin l))
     -- numbers 6, 7, 8, 9 and 13
     writes : (d : Disk) (l : Live) (r : Tx) (w : Write) → Listed r (l .txs) → r .committing ≡ false → w .addr + length (w .bytes) ≤ o .size
-        → heldByOther (r .id) w (l .txs) ≡ false → roomUsed d l + (7 + length (w .bytes)) ≤ o .capacity → Step (up d l) (wrote (r .id) w) (up d (afterWrite r w l))
+        → heldByOther (r .id) w (l .txs) ≡ false → roomUsed d l + (redoLen + length (w .bytes)) ≤ o .capacity
+        → Step (up d l) (wrote (r .id) w) (up d (afterWrite r w l))
     -- numbers 6 and 7
     precommits : (d : Disk) (l : Live) (r : Tx) → Listed r (l .txs) → r .committing ≡ false
         → Step (up d l) (precommitted (r .id) (suc (lastAssigned l))) (up d (afterPrecommit r l))
@@ -153,7 +173,8 @@ module _ (o : Opening) where
     flushIsCut : (d : Disk) (l : Live) (k allowed : ℕ) → allowed < groupsSize (take k (l .tail))
         → Step (up d l) (cut (flushed k allowed)) (down (storing (fitting allowed (take k (l .tail))) d))
     -- numbers 6 and 14
-    settles : (d : Disk) (l : Live) (r : Tx) → Listed r (l .txs) → r .committing ≡ true → r .csn ≤ l .csn → Step (up d l) (settled (r .id)) (up d (afterSettle r l))
+    settles : (d : Disk) (l : Live) (r : Tx) → Listed r (l .txs) → r .committing ≡ true → r .csn ≤ l .csn
+        → Step (up d l) (settled (r .id)) (up d (afterSettle r l))
     -- until its last store, the pointer byte, a checkpoint leaves the old image in use
     checkpoints : (d : Disk) (l : Live) → Step (up d l) unchanged (up (afterCheckpoint d l) l)
     checkpointIsCut : (d : Disk) (l : Live) → Step (up d l) (cut unchanged) (down d)

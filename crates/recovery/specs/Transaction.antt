@@ -5,6 +5,7 @@ use mathlib.Core.List.{List, [], _∷_}
 use mathlib.Core.Option.{Option, none, some}
 use lib.ListN.{length}
 use lib.Dec.{eqb, ltb}
+use Rattle.layout.specs.{commitLen}
 use Rattle.recovery.specs.Group.{Write, redoSize}
 use Rattle.recovery.specs.Lists.{any, filter}
 
@@ -47,4 +48,4 @@ heldByOther i w txs = any (λ t. not (eqb i (t .id)) && (not (t .committing) && 
 -- the log room that running transactions hold: for each its redo bytes + 8
 abbrev pub reserved : List Tx → ℕ
 reserved [] = 0
-reserved (t ∷ ts) = redoSize (t .redo) + 8 + reserved ts
+reserved (t ∷ ts) = redoSize (t .redo) + commitLen + reserved ts

@@ -15,7 +15,7 @@ use Rattle.restart.specs.declared.forward.Pass.{Pass}
 use Rattle.restart.specs.declared.forward.Slot.{Slot}
 use Rattle.restart.specs.declared.forward.Slot.the-variants.{At}
 use Rattle.restart.specs.declared.undo.Best.{Best}
-use Rattle.restart.specs.Slots.{txAt}
+use Rattle.restart.specs.Slots.{transactionAt}
 use Rattle.restart.specs.Forward.{marked, undoLogged, past}
 use Rattle.restart.specs.Undo.{isRunning, isLost}
 use Rattle.restart.specs.Turns.{betterOf}
@@ -27,7 +27,7 @@ module _ (slot : Slot) (i : ℕ) (at : slot ≡ At i) where
   pub marked-miss : (found : List ℕ) (code : ℕ) → (getD found i 0 ≡ 0 → ⊥) → marked found code slot ≡ found
   marked-miss found code e = rw at (simp (ne-eqb _ _ e))
 
-  pub undone-hit : (image : Image) (found m : List ℕ) → getD found i 0 ≡ 0 → undoLogged image found slot m ≡ undoAll layBytes (txAt image i .undo) m
+  pub undone-hit : (image : Image) (found m : List ℕ) → getD found i 0 ≡ 0 → undoLogged image found slot m ≡ undoAll layBytes (transactionAt image i .undo) m
   undone-hit image found m e = rw at (simp (eq-eqb _ _ e))
 
   pub undone-miss : (image : Image) (found m : List ℕ) → (getD found i 0 ≡ 0 → ⊥) → undoLogged image found slot m ≡ m

@@ -20,8 +20,9 @@ use Rattle.image.specs.Rules.{keepsRules}
 use Rattle.image.proofs.Rules.{image-count}
 use Rattle.restart.specs.declared.forward.Slot.{Slot}
 use Rattle.restart.specs.declared.forward.Slot.the-variants.{At, Nowhere}
-use Rattle.restart.specs.Slots.{txAt, txsOf, hasId, imageSlot}
-use Rattle.restart.specs.Forward.{Went, codeOf, marked, undoLogged, past, onGroup, goOver}
+use Rattle.image.specs.Content.{transactionsIn}
+use Rattle.restart.specs.Slots.{transactionAt, hasIdAt, imageSlot}
+use Rattle.restart.specs.Forward.{Went, codeOf, marked, undoLogged, past, afterGroup, goOver}
 use Rattle.restart.proofs.SlotLaws.{first-at, first-none}
 use Rattle.restart.proofs.Rules.{same-slot, lookup-at, lookup-nowhere}
 
@@ -45,7 +46,7 @@ pub counted : (image : Image) (gs : List Group) (w : Went) → Counted image gs 
 unfolding past
 counted image [] w = record { end = omega arith; csn = refl; last = omega arith }
 counted image (g ∷ gs) w =
-    let r = counted image gs (onGroup image g w) in
+    let r = counted image gs (afterGroup image g w) in
     let e = r .end in
     let l = r .last in
     record { end = omega arith; csn = r .csn; last = omega arith }
@@ -82,11 +83,11 @@ unused-kept image found code id i h = go (imageSlot image id) refl
   where
     go : (x : Slot) → imageSlot image id ≡ x → getD (marked found code x) i 0 ≡ getD found i 0
     go Nowhere q = refl
-    go (At k) q = marked-other found code k i (λ e. omega (arith, first-at (hasId image id) (image .count) k q .0))
+    go (At k) q = marked-other found code k i (λ e. omega (arith, first-at (hasIdAt image id) (image .count) k q .0))
 
 module _ (image : Image) (ok : keepsRules image ≡ true) where
   marked-at : (found : List ℕ) (code id i : ℕ) → length found ≡ 8 → i < image .count
-      → getD (marked found code (imageSlot image id)) i 0 ≡ cond (eqb (txAt image i .id) id) (orCode (getD found i 0) code) (getD found i 0)
+      → getD (marked found code (imageSlot image id)) i 0 ≡ cond (eqb (transactionAt image i .id) id) (orCode (getD found i 0) code) (getD found i 0)
   marked-at found code id i l h = go (imageSlot image id) refl
     where
       hit : (k : ℕ) → k < 8 → (b : Bool) → getD (cond b (set found k code) found) k 0 ≡ cond b code (getD found k 0)
@@ -94,23 +95,23 @@ module _ (image : Image) (ok : keepsRules image ≡ true) where
       hit k u false = refl
 
       at : (k : ℕ) → imageSlot image id ≡ At k → (b : Bool) → eqb i k ≡ b
-          → getD (marked found code (At k)) i 0 ≡ cond (eqb (txAt image i .id) id) (orCode (getD found i 0) code) (getD found i 0)
+          → getD (marked found code (At k)) i 0 ≡ cond (eqb (transactionAt image i .id) id) (orCode (getD found i 0) code) (getD found i 0)
       at k q true e =
           let s : i ≡ k = eqb-true i k e in
-          let f = first-at (hasId image id) (image .count) k q in
+          let f = first-at (hasIdAt image id) (image .count) k q in
           rw (s, f .1) (hit k (omega (arith, f .0, image-count image ok)) (eqb (getD found k 0) 0))
       at k q false e =
           let n = eqb-false i k e in
-          let f = first-at (hasId image id) (image .count) k q in
+          let f = first-at (hasIdAt image id) (image .count) k q in
           rw (ne-eqb _ id (λ z. same-slot image ok i k h (f .0) (z ∙ sym (eqb-true _ id (f .1))) n)) (marked-other found code k i n)
 
       go : (x : Slot) → imageSlot image id ≡ x
-          → getD (marked found code x) i 0 ≡ cond (eqb (txAt image i .id) id) (orCode (getD found i 0) code) (getD found i 0)
-      go Nowhere q = rw (first-none (hasId image id) (image .count) q i h)
+          → getD (marked found code x) i 0 ≡ cond (eqb (transactionAt image i .id) id) (orCode (getD found i 0) code) (getD found i 0)
+      go Nowhere q = rw (first-none (hasIdAt image id) (image .count) q i h)
       go (At k) q = at k q (eqb i k) refl
 
   pub codes-from : (gs : List Group) (w : Went) (i : ℕ) → length (w .pass .found) ≡ 8 → i < image .count
-      → getD (goOver image gs w .pass .found) i 0 ≡ orCode (getD (w .pass .found) i 0) (firstCode (txAt image i .id) gs)
+      → getD (goOver image gs w .pass .found) i 0 ≡ orCode (getD (w .pass .found) i 0) (firstCode (transactionAt image i .id) gs)
   unfolding past
   codes-from [] w i l h = go (getD (w .pass .found) i 0) (eqb (getD (w .pass .found) i 0) 0) refl
     where
@@ -118,13 +119,14 @@ module _ (image : Image) (ok : keepsRules image ≡ true) where
       go x true e = eqb-true x 0 e
       go x false e = refl
   codes-from (g ∷ gs) w i l h =
-      let v = onGroup image g w in
+      let v = afterGroup image g w in
       codes-from gs v i (marked-length (w .pass .found) (codeOf g) (imageSlot image (groupId g)) ∙ l) h
-      ∙ ap (λ (x : ℕ). orCode x (firstCode (txAt image i .id) gs)) (marked-at (w .pass .found) (codeOf g) (groupId g) i l h)
-      ∙ go (eqb (txAt image i .id) (groupId g)) (getD (w .pass .found) i 0) (eqb (getD (w .pass .found) i 0) 0) refl g
+      ∙ ap (λ (x : ℕ). orCode x (firstCode (transactionAt image i .id) gs)) (marked-at (w .pass .found) (codeOf g) (groupId g) i l h)
+      ∙ go (eqb (transactionAt image i .id) (groupId g)) (getD (w .pass .found) i 0) (eqb (getD (w .pass .found) i 0) 0) refl g
     where
       go : (b : Bool) (x : ℕ) (c : Bool) → eqb x 0 ≡ c → (g : Group)
-          → orCode (cond b (cond c (codeOf g) x) x) (firstCode (txAt image i .id) gs) ≡ cond c (cond b (codeOf g) (firstCode (txAt image i .id) gs)) x
+          → orCode (cond b (cond c (codeOf g) x) x) (firstCode (transactionAt image i .id) gs)
+          ≡ cond c (cond b (codeOf g) (firstCode (transactionAt image i .id) gs)) x
       go true x true e (committed id n ws) = refl
       go true x true e (aborted id) = refl
       go true x false e g = rw e
@@ -134,20 +136,20 @@ module _ (image : Image) (ok : keepsRules image ≡ true) where
   -- ---- the codes and the ids that are finished
 
   abbrev pub Marks : List ℕ → List ℕ → Type 0
-  Marks found f = (i : ℕ) → i < image .count → has (txAt image i .id) f ≡ not (eqb (getD found i 0) 0)
+  Marks found f = (i : ℕ) → i < image .count → has (transactionAt image i .id) f ≡ not (eqb (getD found i 0) 0)
 
   mark-group : (found f : List ℕ) (code id : ℕ) → (code ≡ 0 → ⊥) → length found ≡ 8 → Marks found f → Marks (marked found code (imageSlot image id)) (id ∷ f)
   mark-group found f code id nz l r i h =
-      rw (marked-at found code id i l h) (go (eqb (txAt image i .id) id) (getD found i 0) (eqb (getD found i 0) 0) refl (r i h))
+      rw (marked-at found code id i l h) (go (eqb (transactionAt image i .id) id) (getD found i 0) (eqb (getD found i 0) 0) refl (r i h))
     where
-      go : (b : Bool) (x : ℕ) (c : Bool) → eqb x 0 ≡ c → has (txAt image i .id) f ≡ not (eqb x 0)
-          → (b || has (txAt image i .id) f) ≡ not (eqb (cond b (cond c code x) x) 0)
+      go : (b : Bool) (x : ℕ) (c : Bool) → eqb x 0 ≡ c → has (transactionAt image i .id) f ≡ not (eqb x 0)
+          → (b || has (transactionAt image i .id) f) ≡ not (eqb (cond b (cond c code x) x) 0)
       go true x true e q = rw (ne-eqb code 0 nz)
       go true x false e q = rw e
       go false x c e q = q
 
   abort-group : (found f m : List ℕ) (id : ℕ) → Marks found f
-      → undoLogged image found (imageSlot image id) m ≡ cond (has id f) m (undoAll layBytes (undoOf id (txsOf image)) m)
+      → undoLogged image found (imageSlot image id) m ≡ cond (has id f) m (undoAll layBytes (undoOf id (transactionsIn image)) m)
   abort-group found f m id r = go (imageSlot image id) refl
     where
       same : (b : Bool) → m ≡ cond b m m
@@ -158,19 +160,19 @@ module _ (image : Image) (ok : keepsRules image ≡ true) where
       flip true u = refl
       flip false u = refl
 
-      go : (x : Slot) → imageSlot image id ≡ x → undoLogged image found x m ≡ cond (has id f) m (undoAll layBytes (undoOf id (txsOf image)) m)
+      go : (x : Slot) → imageSlot image id ≡ x → undoLogged image found x m ≡ cond (has id f) m (undoAll layBytes (undoOf id (transactionsIn image)) m)
       go Nowhere q = same (has id f) ∙ ap (λ (t : Option Tx). cond (has id f) m (undoAll layBytes (undoRecords t) m)) (sym (lookup-nowhere image ok id q))
       go (At k) q =
-          let p = first-at (hasId image id) (image .count) k q in
+          let p = first-at (hasIdAt image id) (image .count) k q in
           let e : has id f ≡ not (eqb (getD found k 0) 0) = ap (λ (x : ℕ). has x f) (sym (eqb-true _ id (p .1))) ∙ r k (p .0) in
-          flip (eqb (getD found k 0) 0) (undoAll layBytes (txAt image k .undo) m)
-          ∙ ap (λ (b : Bool). cond b m (undoAll layBytes (txAt image k .undo) m)) (sym e)
+          flip (eqb (getD found k 0) 0) (undoAll layBytes (transactionAt image k .undo) m)
+          ∙ ap (λ (b : Bool). cond b m (undoAll layBytes (transactionAt image k .undo) m)) (sym e)
           ∙ ap (λ (t : Option Tx). cond (has id f) m (undoAll layBytes (undoRecords t) m)) (sym (lookup-at image ok id k q))
 
   -- ---- the pass is recovery's
 
   pub record Seen (gs : List Group) (w : Went) (f : List ℕ) : Type 0 where
-    pub memory : goOver image gs w .memory ≡ forward layBytes (txsOf image) gs f (w .memory)
+    pub memory : goOver image gs w .memory ≡ forward layBytes (transactionsIn image) gs f (w .memory)
     pub marks : Marks (goOver image gs w .pass .found) (finished gs f)
 
   pub seen : (gs : List Group) (w : Went) (f : List ℕ) → length (w .pass .found) ≡ 8 → Marks (w .pass .found) f → Seen gs w f
@@ -178,20 +180,21 @@ module _ (image : Image) (ok : keepsRules image ≡ true) where
   seen [] w f l r = record { memory = refl; marks = r }
   seen (committed id n ws ∷ gs) w f l r =
       let s =
-      seen gs (onGroup image (committed id n ws) w) (id ∷ f) (marked-length (w .pass .found) 1 (imageSlot image id) ∙ l)
+      seen gs (afterGroup image (committed id n ws) w) (id ∷ f) (marked-length (w .pass .found) 1 (imageSlot image id) ∙ l)
       (mark-group (w .pass .found) f 1 id (λ z. omega arith) l r) in
       record { memory = s .memory; marks = s .marks }
   seen (aborted id ∷ gs) w f l r =
       let s =
-      seen gs (onGroup image (aborted id) w) (id ∷ f) (marked-length (w .pass .found) 2 (imageSlot image id) ∙ l)
+      seen gs (afterGroup image (aborted id) w) (id ∷ f) (marked-length (w .pass .found) 2 (imageSlot image id) ∙ l)
       (mark-group (w .pass .found) f 2 id (λ z. omega arith) l r) in
       record {
-        memory = s .memory ∙ ap (forward layBytes (txsOf image) gs (id ∷ f)) (abort-group (w .pass .found) f (w .memory) id r);
+        memory = s .memory ∙ ap (forward layBytes (transactionsIn image) gs (id ∷ f)) (abort-group (w .pass .found) f (w .memory) id r);
         marks = s .marks;
       }
 
 -- the codes of slots that are not used
-pub unused-codes : (image : Image) (gs : List Group) (w : Went) (i : ℕ) → image .count ≤ i → getD (goOver image gs w .pass .found) i 0 ≡ getD (w .pass .found) i 0
+pub unused-codes : (image : Image) (gs : List Group) (w : Went) (i : ℕ) → image .count ≤ i
+    → getD (goOver image gs w .pass .found) i 0 ≡ getD (w .pass .found) i 0
 unfolding past
 unused-codes image [] w i h = refl
-unused-codes image (g ∷ gs) w i h = unused-codes image gs (onGroup image g w) i h ∙ unused-kept image (w .pass .found) (codeOf g) (groupId g) i h
+unused-codes image (g ∷ gs) w i h = unused-codes image gs (afterGroup image g w) i h ∙ unused-kept image (w .pass .found) (codeOf g) (groupId g) i h

@@ -24,7 +24,8 @@ use Rattle.image.specs.declared.Image.{Image}
 use Rattle.image.specs.Rules.{keepsRules}
 use Rattle.image.proofs.Rules.{image-count, ruled-at}
 use Rattle.restart.specs.declared.forward.Pass.{Pass}
-use Rattle.restart.specs.Slots.{txAt, txsOf, filterBelow}
+use Rattle.image.specs.Content.{transactionsIn}
+use Rattle.restart.specs.Slots.{transactionAt, filterBelow}
 use Rattle.restart.specs.Forward.{startOf, groupsOf, forwardOf}
 use Rattle.restart.specs.Undo.{isRunning, isLost, runningAt, lostAt, lostBy, runningOf, lostOf, undoneOf}
 use Rattle.restart.specs.Restart.{recoverOf}
@@ -44,7 +45,7 @@ zero-at (suc k) (suc i) = zero-at k i
 
 -- what step 4 undoes, by recovery
 abbrev pub undoneBy : Image → List ℕ → List Tx
-undoneBy image log = undone (txsOf image) (image .ondisk .0) (groupsOf image log)
+undoneBy image log = undone (transactionsIn image) (image .ondisk .0) (groupsOf image log)
 
 filter-few : (p : Tx → Bool) (ts : List Tx) → length (filter p ts) ≤ length ts
 filter-few p [] = omega arith
@@ -67,7 +68,7 @@ both-kinds (t ∷ ts) = go (t .committing) (both-kinds ts)
 pub undone-few : (image : Image) (log : List ℕ) → length (undoneBy image log) ≤ image .count
 unfolding undoOrder
 undone-few image log =
-    let txs = txsOf image in
+    let txs = transactionsIn image in
     let n = lastCsn (image .ondisk .0) (groupsOf image log) in
     let late = above n (committing txs) in
     omega (
@@ -77,7 +78,7 @@ undone-few image log =
       sort-length late,
       filter-few (λ t. ltb n (t .csn)) (committing txs),
       both-kinds txs,
-      ap length (txs-up image) ∙ length-up (txAt image) (image .count) 0,
+      ap length (txs-up image) ∙ length-up (transactionAt image) (image .count) 0,
     )
 
 module _ (image : Image) (ok : keepsRules image ≡ true) where
@@ -90,12 +91,13 @@ module _ (image : Image) (ok : keepsRules image ≡ true) where
     abbrev runs : Tx → Bool
     runs t = not (t .committing) && open? t
 
-    running-is : filterBelow (runningAt image found) (txAt image) (image .count) ≡ unfinished f (running (txsOf image))
+    running-is : filterBelow (runningAt image found) (transactionAt image) (image .count) ≡ unfinished f (running (transactionsIn image))
     unfolding isRunning
     running-is =
-        filter-up (runningAt image found) runs (txAt image) (image .count) (λ j h. one (eqb (getD found j 0) 0) (txAt image j .committing) _ _ (marks j h) (ruled-at image ok j h .kind))
+        filter-up (runningAt image found) runs (transactionAt image) (image .count)
+        (λ j h. one (eqb (getD found j 0) 0) (transactionAt image j .committing) _ _ (marks j h) (ruled-at image ok j h .kind))
         ∙ ap (filter runs) (sym (txs-up image))
-        ∙ sym (filter-filter open? (λ t. not (t .committing)) runs (λ t. refl) (txsOf image))
+        ∙ sym (filter-filter open? (λ t. not (t .committing)) runs (λ t. refl) (transactionsIn image))
       where
         one : (a b x y : Bool) → x ≡ not a → y ≡ not b → (a && y) ≡ (not b && not x)
         one true true x y p q = q
@@ -110,14 +112,15 @@ module _ (image : Image) (ok : keepsRules image ≡ true) where
       abbrev lost : Tx → Bool
       lost t = high t && open? t
 
-      lost-is : lostBy image found n ≡ unfinished f (above n (committing (txsOf image)))
+      lost-is : lostBy image found n ≡ unfinished f (above n (committing (transactionsIn image)))
       unfolding isLost
       lost-is =
-          filter-up (lostAt image found n) lost (txAt image) (image .count) (λ j h. one (eqb (getD found j 0) 0) (txAt image j .committing) (ltb n (txAt image j .csn)) _ (marks j h))
+          filter-up (lostAt image found n) lost (transactionAt image) (image .count)
+          (λ j h. one (eqb (getD found j 0) 0) (transactionAt image j .committing) (ltb n (transactionAt image j .csn)) _ (marks j h))
           ∙ ap (filter lost) (sym (txs-up image))
           ∙ sym
-          (ap (filter open?) (filter-filter (λ t. ltb n (t .csn)) (λ t. t .committing) high (λ t. refl) (txsOf image))
-          ∙ filter-filter open? high lost (λ t. refl) (txsOf image))
+          (ap (filter open?) (filter-filter (λ t. ltb n (t .csn)) (λ t. t .committing) high (λ t. refl) (transactionsIn image))
+          ∙ filter-filter open? high lost (λ t. refl) (transactionsIn image))
         where
           one : (a b l x : Bool) → x ≡ not a → (a && b && l) ≡ (b && l && not x)
           one true true true x p = rw p
@@ -127,13 +130,13 @@ module _ (image : Image) (ok : keepsRules image ≡ true) where
           one false true false x p = refl
           one false false l x p = refl
 
-  undone-by : (p : Pass) (f : List ℕ) → Marks image ok (p .found) f → undoneOf image p ≡ unfinished f (undoOrder (txsOf image) (p .csn .0))
+  undone-by : (p : Pass) (f : List ℕ) → Marks image ok (p .found) f → undoneOf image p ≡ unfinished f (undoOrder (transactionsIn image) (p .csn .0))
   unfolding runningOf lostOf undoOrder
   undone-by p f marks =
-      let late = above (p .csn .0) (committing (txsOf image)) in
+      let late = above (p .csn .0) (committing (transactionsIn image)) in
       ap₂ (λ (xs ys : List Tx). xs ++ ys) (running-is (p .found) f marks)
       (ap sortDesc (lost-is (p .found) f marks (p .csn .0)) ∙ sym (filter-sort (λ t. not (has (t .id) f)) late))
-      ∙ sym (filter-append (λ t. not (has (t .id) f)) (running (txsOf image)) (sortDesc late))
+      ∙ sym (filter-append (λ t. not (has (t .id) f)) (running (transactionsIn image)) (sortDesc late))
 
   -- ---- the whole
 
@@ -146,10 +149,11 @@ module _ (image : Image) (ok : keepsRules image ≡ true) where
     unfolding forwardOf
     undone-is =
         undone-by (forwardOf image log m .pass) (finished (groupsOf image log) []) (passed .marks)
-        ∙ ap (λ (n : ℕ). unfinished (finished (groupsOf image log) []) (undoOrder (txsOf image) n)) (counted image (groupsOf image log) (startOf image m) .csn)
+        ∙ ap (λ (n : ℕ). unfinished (finished (groupsOf image log) []) (undoOrder (transactionsIn image) n))
+        (counted image (groupsOf image log) (startOf image m) .csn)
 
     module _ (tail : List ℕ) where
-      pub memory-is : recoverOf image log m tail .memory ≡ recover layBytes (txsOf image) (image .ondisk .0) (groupsOf image log) m
+      pub memory-is : recoverOf image log m tail .memory ≡ recover layBytes (transactionsIn image) (image .ondisk .0) (groupsOf image log) m
       unfolding recoverOf forwardOf
       memory-is = ap₂ (λ (ts : List Tx) (x : List ℕ). undoEach layBytes ts x) undone-is (passed .memory)
 
@@ -171,19 +175,21 @@ module _ (image : Image) (ok : keepsRules image ≡ true) where
       last-is = counted image (groupsOf image log) (startOf image m) .last
 
       -- it is at least each id in the image and in the groups read
-      pub last-above-image : All (λ t. t .id ≤ recoverOf image log m tail .answer .last .0) (txsOf image)
+      pub last-above-image : All (λ t. t .id ≤ recoverOf image log m tail .answer .last .0) (transactionsIn image)
       last-above-image =
-          rw txs-up (all-up (txAt image) (image .count) 0 (λ j a b. let g = ruled-at image ok j (omega arith) .given in let l = last-is in omega arith))
+          rw txs-up (all-up (transactionAt image) (image .count) 0
+          (λ j a b. let g = ruled-at image ok j (omega arith) .given in let l = last-is in omega arith))
 
       pub last-above-groups : All (λ g. groupId g ≤ recoverOf image log m tail .answer .last .0) (groupsOf image log)
       last-above-groups = let l = last-is in all-map (λ g h. omega arith) (ids-below (groupsOf image log))
 
       -- the codes: the first group of the transaction's id decides; 0 in slots that are not used
-      pub code-is : (i : ℕ) → i < image .count → getD (recoverOf image log m tail .answer .found) i 0 ≡ firstCode (txAt image i .id) (groupsOf image log)
+      pub code-is : (i : ℕ) → i < image .count
+          → getD (recoverOf image log m tail .answer .found) i 0 ≡ firstCode (transactionAt image i .id) (groupsOf image log)
       unfolding recoverOf forwardOf
       code-is i h =
           codes-from image ok (groupsOf image log) (startOf image m) i refl h
-          ∙ ap (λ (x : ℕ). cond (eqb x 0) (firstCode (txAt image i .id) (groupsOf image log)) x) (zero-at 8 i)
+          ∙ ap (λ (x : ℕ). cond (eqb x 0) (firstCode (transactionAt image i .id) (groupsOf image log)) x) (zero-at 8 i)
 
       pub code-unused : (i : ℕ) → image .count ≤ i → getD (recoverOf image log m tail .answer .found) i 0 ≡ 0
       unfolding recoverOf forwardOf
@@ -213,7 +219,9 @@ module _ (image : Image) (ok : keepsRules image ≡ true) where
     -- it is read back as exactly those groups, after any commit number
     pub tail-read : (prev : ℕ) → readLog prev (recoverOf image log m (zeros 16384) .tail) ≡ aborts (undoneBy image log)
     tail-read prev =
-        let named : All (λ t. 1 ≤ t .id) (txsOf image) = rw txs-up (all-up (txAt image) (image .count) 0 (λ j a b. ruled-at image ok j (omega arith) .named)) in
+        let named : All (λ t. 1 ≤ t .id) (transactionsIn image) =
+        rw txs-up (all-up (transactionAt image) (image .count) 0 (λ j a b. ruled-at image ok j (omega arith) .named)) in
         ap (readLog prev) tail-is
         ∙ log-padded prev (aborts (undoneBy image log)) (16384 - 4 * length (undoneBy image log))
-        (aborts-well prev (all-filter (λ t. not (has (t .id) (finished (groupsOf image log) []))) (order-all (txsOf image) (lastCsn (image .ondisk .0) (groupsOf image log)) named)))
+        (aborts-well prev (all-filter (λ t. not (has (t .id) (finished (groupsOf image log) [])))
+        (order-all (transactionsIn image) (lastCsn (image .ondisk .0) (groupsOf image log)) named)))

@@ -19,7 +19,8 @@ use Rattle.image.specs.Slots.{outlineAt}
 use Rattle.image.specs.Rules.{keepsRules}
 use Rattle.image.proofs.Rules.{image-count, image-distinct, undo-at, distinct-at}
 use Rattle.restart.specs.declared.forward.Slot.the-variants.{At, Nowhere}
-use Rattle.restart.specs.Slots.{txAt, txsOf, hasId, imageSlot}
+use Rattle.image.specs.Content.{transactionsIn}
+use Rattle.restart.specs.Slots.{transactionAt, hasIdAt, imageSlot}
 use Rattle.restart.specs.Turns.{Undoable}
 use Rattle.restart.proofs.SlotLaws.{first-at, first-none, txs-up}
 
@@ -28,35 +29,40 @@ module _ (image : Image) (ok : keepsRules image ≡ true) where
   undoable = record { few = image-count image ok; ranged = undo-at image ok }
 
   -- no id stands in two slots
-  apart : (a b : ℕ) → a < b → b < image .count → txAt image a .id ≡ txAt image b .id → ⊥
+  apart : (a b : ℕ) → a < b → b < image .count → transactionAt image a .id ≡ transactionAt image b .id → ⊥
   apart a b l u =
-      eqb-false _ _ (or-left (eqb (txAt image a .id) (txAt image b .id)) _ (distinct-at (outlineAt (image .txs)) (image .count) 0 (image-distinct image ok) a b (omega arith) l (omega arith)))
+      eqb-false _ _ (or-left (eqb (transactionAt image a .id) (transactionAt image b .id)) _
+      (distinct-at (outlineAt (image .txs)) (image .count) 0 (image-distinct image ok) a b (omega arith) l (omega arith)))
 
   -- a slot by its id
-  pub same-slot : (i j : ℕ) → i < image .count → j < image .count → txAt image i .id ≡ txAt image j .id → (i ≡ j → ⊥) → ⊥
+  pub same-slot : (i j : ℕ) → i < image .count → j < image .count → transactionAt image i .id ≡ transactionAt image j .id → (i ≡ j → ⊥) → ⊥
   same-slot i j h k e n = go (leb i j) refl
     where
       go : (b : Bool) → leb i j ≡ b → ⊥
       go true q = let l = leb-true i j q in apart i j (omega (arith, n)) k e
       go false q = apart j i (omega (arith, leb-false i j q)) h (sym e)
 
-  pub distinct-ids : DistinctIds (txsOf image)
+  pub distinct-ids : DistinctIds (transactionsIn image)
   distinct-ids = rw txs-up (go (image .count) 0 (λ a b h l u. apart a b l (omega arith)))
     where
-      go : (k i : ℕ) → ((a b : ℕ) → i ≤ a → a < b → b < i + k → txAt image a .id ≡ txAt image b .id → ⊥) → DistinctIds (upFrom (txAt image) k i)
+      go : (k i : ℕ) → ((a b : ℕ) → i ≤ a → a < b → b < i + k → transactionAt image a .id ≡ transactionAt image b .id → ⊥)
+          → DistinctIds (upFrom (transactionAt image) k i)
       go zero i h = empty
       go (suc k) i h =
-          more (all-up (txAt image) k (suc i) (λ j l u e. h i j (omega arith) (omega arith) (omega arith) (sym e)))
+          more (all-up (transactionAt image) k (suc i) (λ j l u e. h i j (omega arith) (omega arith) (omega arith) (sym e)))
           (go k (suc i) (λ a b l m u. h a b (omega arith) m (omega arith)))
 
   -- the list has under an id what the slot has
-  pub lookup-at : (id k : ℕ) → imageSlot image id ≡ At k → lookup id (txsOf image) ≡ some (txAt image k)
+  pub lookup-at : (id k : ℕ) → imageSlot image id ≡ At k → lookup id (transactionsIn image) ≡ some (transactionAt image k)
   lookup-at id k q =
-      let f = first-at (hasId image id) (image .count) k q in
-      let own : All (λ t. lookup (t .id) (txsOf image) ≡ some t) (upFrom (txAt image) (image .count) 0) =
-      subst (λ (ts : List Transaction). All (λ t. lookup (t .id) (txsOf image) ≡ some t) ts) (txs-up image) (lookup-own distinct-ids) in
-      subst (λ (x : ℕ). lookup x (txsOf image) ≡ some (txAt image k)) (eqb-true _ id (f .1)) (all-at (txAt image) (image .count) 0 own k (omega arith) (omega (arith, f .0)))
+      let f = first-at (hasIdAt image id) (image .count) k q in
+      let own : All (λ t. lookup (t .id) (transactionsIn image) ≡ some t) (upFrom (transactionAt image) (image .count) 0) =
+      subst (λ (ts : List Transaction). All (λ t. lookup (t .id) (transactionsIn image) ≡ some t) ts) (txs-up image) (lookup-own distinct-ids) in
+      subst (λ (x : ℕ). lookup x (transactionsIn image) ≡ some (transactionAt image k)) (eqb-true _ id (f .1))
+      (all-at (transactionAt image) (image .count) 0 own k (omega arith) (omega (arith, f .0)))
 
-  pub lookup-nowhere : (id : ℕ) → imageSlot image id ≡ Nowhere → lookup id (txsOf image) ≡ none
+  pub lookup-nowhere : (id : ℕ) → imageSlot image id ≡ Nowhere → lookup id (transactionsIn image) ≡ none
   lookup-nowhere id q =
-      lookup-none {i = id} {txs = txsOf image} (rw txs-up (all-up (txAt image) (image .count) 0 (λ j a b. eqb-false _ id (first-none (hasId image id) (image .count) q j (omega arith)))))
+      lookup-none {i = id} {txs = transactionsIn image}
+      (rw txs-up (all-up (transactionAt image) (image .count) 0
+      (λ j a b. eqb-false _ id (first-none (hasIdAt image id) (image .count) q j (omega arith)))))

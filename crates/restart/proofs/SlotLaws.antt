@@ -21,7 +21,8 @@ use Rattle.image.specs.declared.Image.{Image}
 use Rattle.image.specs.Slots.{slotAt}
 use Rattle.restart.specs.declared.forward.Slot.{Slot}
 use Rattle.restart.specs.declared.forward.Slot.the-variants.{At, Nowhere}
-use Rattle.restart.specs.Slots.{txAt, txsOf, orAt, firstBelow, hasId, imageSlot, oneIf, filterBelow}
+use Rattle.image.specs.Content.{transactionsIn}
+use Rattle.restart.specs.Slots.{transactionAt, orAt, firstBelow, hasIdAt, imageSlot, oneIf, filterBelow}
 use Rattle.restart.specs.Turns.{Below}
 
 module _ (p : ℕ → Bool) (i : ℕ) where
@@ -48,7 +49,7 @@ first-at p (suc n) i e = go (first-at p n i) (firstBelow p n) refl (p n) refl e
 -- where an id stands is a slot of the image
 pub slot-below : (image : Image) (id n : ℕ) (x : Slot) → image .count ≤ n → x ≡ imageSlot image id → Below n x
 slot-below image id n Nowhere h e = tt {0}
-slot-below image id n (At i) h e = omega (arith, first-at (hasId image id) (image .count) i (sym e) .0)
+slot-below image id n (At i) h e = omega (arith, first-at (hasIdAt image id) (image .count) i (sym e) .0)
 
 -- where none was found, none passes it
 pub first-none : (p : ℕ → Bool) (n : ℕ) → firstBelow p n ≡ Nowhere → (i : ℕ) → i < n → p i ≡ false
@@ -91,9 +92,9 @@ module _ {A : Type 0} where
       ∙ sym (ap (filter q) (up-snoc f n 0 ∙ ap (λ (j : ℕ). upFrom f n 0 ++ (f j ∷ [])) (zero-add n)) ∙ filter-append q (upFrom f n 0) (f n ∷ []))
 
 -- the image's transactions by slot
-pub txs-up : (image : Image) → txsOf image ≡ upFrom (txAt image) (image .count) 0
+pub txs-up : (image : Image) → transactionsIn image ≡ upFrom (transactionAt image) (image .count) 0
 txs-up image = go (image .count) 0
   where
-    go : (k i : ℕ) → map viewOf (upFrom (slotAt (image .txs)) k i) ≡ upFrom (txAt image) k i
+    go : (k i : ℕ) → map viewOf (upFrom (slotAt (image .txs)) k i) ≡ upFrom (transactionAt image) k i
     go zero i = refl
-    go (suc k) i = ap (λ (ts : List Transaction). txAt image i ∷ ts) (go k (suc i))
+    go (suc k) i = ap (λ (ts : List Transaction). transactionAt image i ∷ ts) (go k (suc i))

@@ -18,7 +18,7 @@ use Rattle.log.proofs.Basics.{clash}
 use Rattle.log.proofs.StoreLaws.{sets-append}
 use Rattle.image.specs.declared.Image.{Image}
 use Rattle.restart.specs.declared.forward.Pass.{Pass}
-use Rattle.restart.specs.Slots.{txAt, oneIf}
+use Rattle.restart.specs.Slots.{transactionAt, oneIf}
 use Rattle.restart.specs.Forward.{Went, wentBy, forwardOf}
 use Rattle.restart.specs.Undo.{runningAt, lostAt, lostBy, runningOf, lostOf}
 use Rattle.restart.specs.Restart.{Outcome, outcome, recoverOf}
@@ -70,20 +70,22 @@ one-some false t m tail m₁ t₁ n e p q = clash (cc)
 -- there is room for as many abort records as the image has transactions
 pub running-few : (image : Image) (p : Pass) → length (runningOf image p) ≤ image .count
 unfolding runningOf
-running-few image p = filter-length (runningAt image (p .found)) (txAt image) (image .count)
+running-few image p = filter-length (runningAt image (p .found)) (transactionAt image) (image .count)
 
 pub lost-few : (image : Image) (found : List ℕ) (n : ℕ) → length (sortDesc (lostBy image found n)) ≤ image .count
-lost-few image found n = omega (arith, sort-length (lostBy image found n), filter-length (lostAt image found n) (txAt image) (image .count))
+lost-few image found n = omega (arith, sort-length (lostBy image found n), filter-length (lostAt image found n) (transactionAt image) (image .count))
 
 -- both parts of step 4 after the pass
-module _ (image : Image) (log m tail : List ℕ) (p : Pass) (m₁ : List ℕ) (passed : p ≡ forwardOf image log m .pass) (forwarded : m₁ ≡ forwardOf image log m .memory) where
+module _ (image : Image) (log m tail : List ℕ) (p : Pass) (m₁ : List ℕ) (passed : p ≡ forwardOf image log m .pass)
+    (forwarded : m₁ ≡ forwardOf image log m .memory) where
   pub restart-case : (n k : ℕ) (m₂ t₂ m₃ t₃ : List ℕ) → Undid (runningOf image p) m₁ tail 0 m₂ t₂ n → Undid (lostOf image p) m₂ t₂ n m₃ t₃ k
       → (record { end = p .end; csn = p .csn; last = p .last; undone = k; found = p .found } ≡ recoverOf image log m tail .answer)
       × ((m₃ ≡ recoverOf image log m tail .memory) × (t₃ ≡ recoverOf image log m tail .tail))
   unfolding recoverOf
   restart-case n k m₂ t₂ m₃ t₃ a b =
       let v = undid-more (runningOf image p) (lostOf image p) m₁ tail 0 m₂ t₂ n m₃ t₃ k a b in
-      let e : outcome image (wentBy m₁ p) tail ≡ outcome image (forwardOf image log m) tail = ap (λ (w : Went). outcome image w tail) (ap₂ wentBy forwarded passed) in (
+      let e : outcome image (wentBy m₁ p) tail ≡ outcome image (forwardOf image log m) tail =
+      ap (λ (w : Went). outcome image w tail) (ap₂ wentBy forwarded passed) in (
         ap (λ (x : ℕ). record { end = p .end; csn = p .csn; last = p .last; undone = x; found = p .found }) (v .count ∙ zero-add _)
             ∙ ap (λ (o : Outcome). o .answer) e,
         (v .memory ∙ ap (λ (o : Outcome). o .memory) e, v .tail ∙ ap (λ (o : Outcome). o .tail) e),

@@ -4,6 +4,7 @@ use mathlib.Core.Bool.{cond}
 use mathlib.Core.List.{List, [], _∷_}
 use lib.ListN.{getD, set, replicate}
 use lib.Dec.{eqb}
+use Rattle.layout.specs.{maxTxs}
 use Rattle.recovery.specs.Group.{Group, committed, aborted, groupSize, csnAfter}
 use Rattle.recovery.specs.Replay.{redoAll, undoAll, layBytes}
 use Rattle.recovery.specs.Restart.{groupId}
@@ -12,7 +13,7 @@ use Rattle.image.specs.declared.Image.{Image}
 use Rattle.restart.specs.declared.forward.Pass.{Pass}
 use Rattle.restart.specs.declared.forward.Slot.{Slot}
 use Rattle.restart.specs.declared.forward.Slot.the-variants.{At, Nowhere}
-use Rattle.restart.specs.Slots.{txAt, imageSlot}
+use Rattle.restart.specs.Slots.{transactionAt, imageSlot}
 
 -- memory, and what the pass has found
 pub record Went : Type 0 where
@@ -35,7 +36,7 @@ marked found code (At i) = cond (eqb (getD found i 0) 0) (set found i code) foun
 -- "if the id is in the image and unfinished, undo it .. else nothing"
 abbrev pub undoLogged : Image → List ℕ → Slot → List ℕ → List ℕ
 undoLogged image found Nowhere m = m
-undoLogged image found (At i) m = cond (eqb (getD found i 0) 0) (undoAll layBytes (txAt image i .undo) m) m
+undoLogged image found (At i) m = cond (eqb (getD found i 0) 0) (undoAll layBytes (transactionAt image i .undo) m) m
 
 -- "Commit: do its redo records .. Abort: if the id is in the image and unfinished, undo it"
 abbrev pub memoryAfter : Image → Group → Went → List ℕ
@@ -50,17 +51,17 @@ past p slot id csn code end =
 abbrev pub passAfter : Image → Group → Pass → Pass
 passAfter image g p = past p (imageSlot image (groupId g)) (groupId g) (csnAfter (p .csn .0) g) (codeOf g) (p .end + groupSize g)
 
-abbrev pub onGroup : Image → Group → Went → Went
-onGroup image g w = wentBy (memoryAfter image g w) (passAfter image g (w .pass))
+abbrev pub afterGroup : Image → Group → Went → Went
+afterGroup image g w = wentBy (memoryAfter image g w) (passAfter image g (w .pass))
 
 -- "Go forward over the groups"
 abbrev pub goOver : Image → List Group → Went → Went
 goOver image [] w = w
-goOver image (g ∷ gs) w = goOver image gs (onGroup image g w)
+goOver image (g ∷ gs) w = goOver image gs (afterGroup image g w)
 
 -- the image's number on disk "is the last found until a commit is read"
 abbrev pub startOf : Image → List ℕ → Went
-startOf image m = wentBy m (record { end = 0; csn = image .ondisk; last = image .lastid; found = replicate 8 0 })
+startOf image m = wentBy m (record { end = 0; csn = image .ondisk; last = image .lastid; found = replicate maxTxs 0 })
 
 -- "Find where the log ends, handing on the log from the image's place, with the image's number on disk as previous number": the groups read
 abbrev pub groupsOf : Image → List ℕ → List Group

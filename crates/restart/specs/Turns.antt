@@ -6,6 +6,7 @@ use mathlib.Core.List.{List, [], _∷_}
 use mathlib.Core.Option.{Option, none, some}
 use mathlib.Core.Path.{_≡_}
 use lib.ListN.{length, getD, drop}
+use Rattle.layout.specs.{redoLen, maxTxs}
 use Rattle.recovery.specs.Group.{Write, Group}
 use Rattle.recovery.specs.Replay.{layBytes}
 use Rattle.log.specs.declared.Csn.{Csn}
@@ -20,12 +21,12 @@ use Rattle.image.specs.Slots.{slotAt}
 use Rattle.restart.specs.declared.forward.Slot.{Slot}
 use Rattle.restart.specs.declared.forward.Slot.the-variants.{At, Nowhere}
 use Rattle.restart.specs.declared.undo.Best.{Best}
-use Rattle.restart.specs.Forward.{Went, onGroup}
+use Rattle.restart.specs.Forward.{Went, afterGroup}
 use Rattle.restart.specs.Undo.{isLost}
 
 -- of the image rules, what undoing rests on
 pub record Undoable (image : Image) : Type 0 where
-  pub few : image .count ≤ 8
+  pub few : image .count ≤ maxTxs
   pub ranged : (i : ℕ) → i < image .count → recordsOk (rangesOf (slotAt (image .txs) i .undo)) ≡ true
 
 -- a slot, if it is one, lies below n
@@ -44,13 +45,13 @@ layFront (some (abort id)) m = m
 
 abbrev pub frontSize : Option Record → ℕ
 frontSize none = 0
-frontSize (some (redo id w)) = 7 + length (w .bytes)
+frontSize (some (redo id w)) = redoLen + length (w .bytes)
 frontSize (some (commit id n)) = 0
 frontSize (some (abort id)) = 0
 
 abbrev pub onRecord : (ℕ → List ℕ → List Write) → ℕ → List ℕ → Option Record → List Write
 onRecord rest u s none = []
-onRecord rest u s (some (redo id w)) = w ∷ rest u (drop (7 + length (w .bytes)) s)
+onRecord rest u s (some (redo id w)) = w ∷ rest u (drop (redoLen + length (w .bytes)) s)
 onRecord rest u s (some (commit id n)) = []
 onRecord rest u s (some (abort id)) = []
 
@@ -67,10 +68,10 @@ frontWrites s = whole redoStep [] 0 s
 -- the group at the end reached, if one stands there
 abbrev pub onFound : Image → Option Group → Went → Went
 onFound image none w = w
-onFound image (some g) w = onGroup image g w
+onFound image (some g) w = afterGroup image g w
 
-unfoldable pub stepOf : Image → List ℕ → Went → Went
-stepOf image log w = onFound image (readGroup (w .pass .csn .0) (drop (w .pass .end) log)) w
+unfoldable pub groupStep : Image → List ℕ → Went → Went
+groupStep image log w = onFound image (readGroup (w .pass .csn .0) (drop (w .pass .end) log)) w
 
 -- the better of b and a transaction, which stands in slot i
 unfoldable pub betterOf : Tx → ℕ → Best → ℕ → Best

@@ -4,21 +4,22 @@ use mathlib.Core.Bool.{Bool, _&&_}
 use mathlib.Core.List.{List, _++_}
 use lib.ListN.{getD}
 use lib.Dec.{eqb, ltb}
+use Rattle.layout.specs.{statusRunning, statusCommitting}
 use Rattle.recovery.specs.Transaction.{Tx as Transaction}
 use Rattle.recovery.specs.Restart.{sortDesc}
 use Rattle.transaction.specs.declared.Tx.{Tx}
 use Rattle.image.specs.declared.Image.{Image}
 use Rattle.image.specs.Slots.{slotAt}
 use Rattle.restart.specs.declared.forward.Pass.{Pass}
-use Rattle.restart.specs.Slots.{txAt, filterBelow}
+use Rattle.restart.specs.Slots.{transactionAt, filterBelow}
 
 -- a transaction with that code is unfinished and running
 unfoldable pub isRunning : ℕ → Tx → Bool
-isRunning code t = eqb code 0 && eqb (t .status) 1
+isRunning code t = eqb code 0 && eqb (t .status) statusRunning
 
 -- it is unfinished and committing, and its number exceeds n
 unfoldable pub isLost : ℕ → ℕ → Tx → Bool
-isLost n code t = eqb code 0 && eqb (t .status) 2 && ltb n (t .csn .0)
+isLost n code t = eqb code 0 && eqb (t .status) statusCommitting && ltb n (t .csn .0)
 
 abbrev pub runningAt : Image → List ℕ → ℕ → Bool
 runningAt image found i = isRunning (getD found i 0) (slotAt (image .txs) i)
@@ -28,11 +29,11 @@ lostAt image found n i = isLost n (getD found i 0) (slotAt (image .txs) i)
 
 -- "the unfinished running ones in image order"
 unfoldable pub runningOf : Image → Pass → List Transaction
-runningOf image p = filterBelow (runningAt image (p .found)) (txAt image) (image .count)
+runningOf image p = filterBelow (runningAt image (p .found)) (transactionAt image) (image .count)
 
 -- "the unfinished committing ones whose number exceeds the last commit number found"
 abbrev pub lostBy : Image → List ℕ → ℕ → List Transaction
-lostBy image found n = filterBelow (lostAt image found n) (txAt image) (image .count)
+lostBy image found n = filterBelow (lostAt image found n) (transactionAt image) (image .count)
 
 -- "highest number first"
 unfoldable pub lostOf : Image → Pass → List Transaction

@@ -1,5 +1,7 @@
 // Steps 2 and 3: once over the log. A group is applied when it is found whole.
 use image::Image;
+use layout::MAX_TXS;
+use layout::REDO_LEN;
 use log::Csn;
 use log::TxId;
 use log::group::GroupEnd;
@@ -10,29 +12,30 @@ use log::stores::copy;
 ghost use mathlib.Core.Path.{_≡_};
 ghost use Prim.Native.Nat.{_≤_, max};
 ghost use lib.ListN.{length};
+ghost use Rattle.layout.specs.{memoryLen, maxTxs};
 ghost use Rattle.recovery.specs.Replay.{redoAll, layBytes};
 ghost use Rattle.log.specs.Record.{readRecord};
 ghost use Rattle.restart.specs.Slots.{imageSlot};
 ghost use Rattle.restart.specs.Forward.{wentBy, undoLogged, past, forwardOf};
-ghost use Rattle.restart.specs.Turns.{Undoable, Below, layFront, frontSize, frontWrites, stepOf};
+ghost use Rattle.restart.specs.Turns.{Undoable, Below, layFront, frontSize, frontWrites, groupStep};
 
 // What the pass has found: the end that it reached, the last commit number, the highest id, and for each transaction of the image a code by
 // the first group of its id: 0 none, 1 a commit, 2 an abort. A transaction with a code is finished.
-pub struct Pass {
-    pub end: usize,
-    pub csn: Csn,
-    pub last: TxId,
-    pub found: [u8; 8],
+pub(crate) struct Pass {
+    pub(crate) end: usize,
+    pub(crate) csn: Csn,
+    pub(crate) last: TxId,
+    pub(crate) found: [u8; MAX_TXS],
 }
 
 // The slot of a transaction in the image.
-pub enum Slot {
+pub(crate) enum Slot {
     At(usize),
     Nowhere,
 }
 
 fn find(image: Image, id: TxId) -> Slot
-    requires { ⌜ image .count ≤ 8 ⌝ }
+    requires { ⌜ image .count ≤ maxTxs ⌝ }
     ensures { λ r. ⌜ r ≡ imageSlot image (id .0) ⌝ }
 {
     let n = image.count as usize;
@@ -57,7 +60,7 @@ fn larger(a: TxId, b: TxId) -> TxId
 
 // Does the redo record at the front of s and returns its size; 0 if none stands there.
 fn redo_one(memory: &mut [u8], s: &[u8]) -> usize
-    requires { ⌜ length (now memory) ≡ 4096 ⌝ }
+    requires { ⌜ length (now memory) ≡ memoryLen ⌝ }
     ensures { λ r. ⌜ r ≡ frontSize (readRecord (now (s .entry))) ⌝ }
     ensures { λ _. ⌜ now (memory .exit) ≡ layFront (readRecord (now (s .entry))) (now (memory .entry)) ⌝ }
 {
@@ -67,7 +70,7 @@ fn redo_one(memory: &mut [u8], s: &[u8]) -> usize
             let at = addr as usize;
             let n = len as usize;
             copy(memory, at, &s[6..6 + n]);
-            return 7 + n;
+            return REDO_LEN + n;
         }
         Head::Commit { id: _, csn: _ } => {
             return 0;
@@ -83,7 +86,7 @@ fn redo_one(memory: &mut [u8], s: &[u8]) -> usize
 
 // Does the redo records at the front of s, in order.
 fn redo_all(memory: &mut [u8], s: &[u8])
-    requires { ⌜ length (now memory) ≡ 4096 ⌝ }
+    requires { ⌜ length (now memory) ≡ memoryLen ⌝ }
     ensures { λ _. ⌜ now (memory .exit) ≡ redoAll layBytes (frontWrites (now (s .entry))) (now (memory .entry)) ⌝ }
 {
     let mut at: usize = 0;
@@ -97,9 +100,9 @@ fn redo_all(memory: &mut [u8], s: &[u8])
 }
 
 // An abort of the transaction in this slot: it is undone if it is unfinished.
-fn undo_logged(image: Image, found: [u8; 8], slot: Slot, memory: &mut [u8])
+fn undo_logged(image: Image, found: [u8; MAX_TXS], slot: Slot, memory: &mut [u8])
     requires { ⌜ Undoable image × Below (image .count) slot ⌝ }
-    requires { ⌜ length (now memory) ≡ 4096 ⌝ }
+    requires { ⌜ length (now memory) ≡ memoryLen ⌝ }
     ensures { λ _. ⌜ now (memory .exit) ≡ undoLogged image found slot (now (memory .entry)) ⌝ }
 {
     let Slot::At(i) = slot else {
@@ -115,7 +118,7 @@ fn undo_logged(image: Image, found: [u8; 8], slot: Slot, memory: &mut [u8])
 
 // Past a group of the id in this slot, with that code and that commit number after it, to where it ends.
 fn pass_group(mut p: Pass, slot: Slot, id: TxId, csn: Csn, code: u8, end: usize) -> Pass
-    requires { ⌜ Below 8 slot ⌝ }
+    requires { ⌜ Below maxTxs slot ⌝ }
     ensures { λ r. ⌜ r ≡ past p slot (id .0) (csn .0) code end ⌝ }
 {
     let before = p.last;
@@ -136,10 +139,10 @@ fn pass_group(mut p: Pass, slot: Slot, id: TxId, csn: Csn, code: u8, end: usize)
 // Applies the group at the end that p has reached, if one stands there.
 fn step(image: Image, p: Pass, log: &[u8], memory: &mut [u8]) -> Pass
     requires { ⌜ Undoable image ⌝ }
-    requires { ⌜ length (now memory) ≡ 4096 ⌝ }
+    requires { ⌜ length (now memory) ≡ memoryLen ⌝ }
     requires { ⌜ p .end ≤ length (now log) ⌝ }
-    ensures { λ r. ⌜ r ≡ stepOf image (now (log .entry)) (wentBy (now (memory .entry)) p) .pass ⌝ }
-    ensures { λ _. ⌜ now (memory .exit) ≡ stepOf image (now (log .entry)) (wentBy (now (memory .entry)) p) .memory ⌝ }
+    ensures { λ r. ⌜ r ≡ groupStep image (now (log .entry)) (wentBy (now (memory .entry)) p) .pass ⌝ }
+    ensures { λ _. ⌜ now (memory .exit) ≡ groupStep image (now (log .entry)) (wentBy (now (memory .entry)) p) .memory ⌝ }
 {
     let at = p.end;
     let csn = p.csn;
@@ -162,9 +165,9 @@ fn step(image: Image, p: Pass, log: &[u8], memory: &mut [u8]) -> Pass
     }
 }
 
-pub fn forward(image: Image, log: &[u8], memory: &mut [u8]) -> Pass
+pub(crate) fn forward(image: Image, log: &[u8], memory: &mut [u8]) -> Pass
     requires { ⌜ Undoable image ⌝ }
-    requires { ⌜ length (now memory) ≡ 4096 ⌝ }
+    requires { ⌜ length (now memory) ≡ memoryLen ⌝ }
     ensures { λ r. ⌜ r ≡ forwardOf image (now (log .entry)) (now (memory .entry)) .pass ⌝ }
     ensures { λ _. ⌜ now (memory .exit) ≡ forwardOf image (now (log .entry)) (now (memory .entry)) .memory ⌝ }
 {
@@ -174,7 +177,7 @@ pub fn forward(image: Image, log: &[u8], memory: &mut [u8]) -> Pass
         end: 0,
         csn: csn,
         last: last,
-        found: [0; 8],
+        found: [0; MAX_TXS],
     };
     loop {
         let at = p.end;

@@ -6,11 +6,13 @@ use crate::forward::forward;
 use crate::undo::undo_lost;
 use crate::undo::undo_running;
 use image::Image;
+use layout::MAX_TXS;
 use log::Csn;
 use log::TxId;
 ghost use mathlib.Core.Path.{_≡_};
 ghost use mathlib.Core.Bool.{true};
 ghost use lib.ListN.{length};
+ghost use Rattle.layout.specs.{memoryLen, tailLen};
 ghost use Rattle.image.specs.Rules.{keepsRules};
 ghost use Rattle.restart.specs.Restart.{recoverOf};
 
@@ -21,14 +23,14 @@ pub struct Recovered {
     pub csn: Csn,
     pub last: TxId,
     pub undone: usize,
-    pub found: [u8; 8],
+    pub found: [u8; MAX_TXS],
 }
 
 // log is the log from the image's log end on; memory comes in as the image's, and tail as zeros.
 pub fn recover(image: Image, log: &[u8], memory: &mut [u8], tail: &mut [u8]) -> Recovered
     requires { ⌜ keepsRules image ≡ true ⌝ }
-    requires { ⌜ length (now memory) ≡ 4096 ⌝ }
-    requires { ⌜ length (now tail) ≡ 16384 ⌝ }
+    requires { ⌜ length (now memory) ≡ memoryLen ⌝ }
+    requires { ⌜ length (now tail) ≡ tailLen ⌝ }
     ensures { λ r. ⌜ r ≡ recoverOf image (now (log .entry)) (now (memory .entry)) (now (tail .entry)) .answer ⌝ }
     ensures { λ _. ⌜ now (memory .exit) ≡ recoverOf image (now (log .entry)) (now (memory .entry)) (now (tail .entry)) .memory ⌝ }
     ensures { λ _. ⌜ now (tail .exit) ≡ recoverOf image (now (log .entry)) (now (memory .entry)) (now (tail .entry)) .tail ⌝ }

@@ -2,6 +2,10 @@
 use crate::forward::Pass;
 use crate::forward::Slot;
 use image::Image;
+use layout::ABORT_LEN;
+use layout::COMMITTING;
+use layout::MAX_TXS;
+use layout::RUNNING;
 use log::Csn;
 use log::record::put_abort;
 use transaction::Tx;
@@ -10,6 +14,7 @@ ghost use mathlib.Core.Bool.{true};
 ghost use Prim.Native.Nat.{_+_, _*_, _≤_};
 ghost use lib.ListN.{length};
 ghost use lib.Seq.{sets};
+ghost use Rattle.layout.specs.{memoryLen, tailLen, abortLen, maxTxs};
 ghost use Rattle.recovery.specs.Replay.{undoEach, layBytes};
 ghost use Rattle.recovery.specs.Restart.{aborts};
 ghost use Rattle.log.specs.Log.{encodeLog};
@@ -20,26 +25,26 @@ ghost use Rattle.restart.specs.Undo.{isRunning, runningOf, lostOf};
 ghost use Rattle.restart.specs.Turns.{Undoable, betterOf, bestOf};
 
 // The committing transaction with the highest number so far, and that number.
-pub struct Best {
-    pub at: Slot,
-    pub top: Csn,
+struct Best {
+    at: Slot,
+    top: Csn,
 }
 
 // Undoes t, if it is wanted, with its abort record as the n-th of the tail; returns how many the tail then has.
 fn undo_one(t: Tx, wanted: bool, memory: &mut [u8], tail: &mut [u8], n: usize) -> usize
     requires { ⌜ recordsOk (rangesOf (t .undo)) ≡ true ⌝ }
-    requires { ⌜ length (now memory) ≡ 4096 ⌝ }
-    requires { ⌜ n * 4 + 4 ≤ length (now tail) ⌝ }
+    requires { ⌜ length (now memory) ≡ memoryLen ⌝ }
+    requires { ⌜ n * abortLen + abortLen ≤ length (now tail) ⌝ }
     ensures { λ r. ⌜ r ≡ n + length (oneIf wanted (viewOf t)) ⌝ }
     ensures { λ _. ⌜ now (memory .exit) ≡ undoEach layBytes (oneIf wanted (viewOf t)) (now (memory .entry)) ⌝ }
-    ensures { λ _. ⌜ now (tail .exit) ≡ sets (now (tail .entry)) (n * 4) (encodeLog (aborts (oneIf wanted (viewOf t)))) ⌝ }
+    ensures { λ _. ⌜ now (tail .exit) ≡ sets (now (tail .entry)) (n * abortLen) (encodeLog (aborts (oneIf wanted (viewOf t)))) ⌝ }
 {
     if !wanted {
         return n;
     }
     let undo = t.undo;
     undo.lay_back(memory);
-    put_abort(tail, n * 4, t.id);
+    put_abort(tail, n * ABORT_LEN, t.id);
     n + 1
 }
 
@@ -49,14 +54,14 @@ fn is_running(t: Tx, code: u8) -> bool
     if code != 0 {
         return false;
     }
-    t.status == 1
+    t.status == RUNNING
 }
 
 // The unfinished running ones, in image order.
-pub fn undo_running(image: Image, p: Pass, memory: &mut [u8], tail: &mut [u8]) -> usize
+pub(crate) fn undo_running(image: Image, p: Pass, memory: &mut [u8], tail: &mut [u8]) -> usize
     requires { ⌜ Undoable image ⌝ }
-    requires { ⌜ length (now memory) ≡ 4096 ⌝ }
-    requires { ⌜ length (now tail) ≡ 16384 ⌝ }
+    requires { ⌜ length (now memory) ≡ memoryLen ⌝ }
+    requires { ⌜ length (now tail) ≡ tailLen ⌝ }
     ensures { λ r. ⌜ r ≡ length (runningOf image p) ⌝ }
     ensures { λ _. ⌜ now (memory .exit) ≡ undoEach layBytes (runningOf image p) (now (memory .entry)) ⌝ }
     ensures { λ _. ⌜ now (tail .exit) ≡ sets (now (tail .entry)) 0 (encodeLog (aborts (runningOf image p))) ⌝ }
@@ -81,7 +86,7 @@ fn better(t: Tx, code: u8, b: Best, i: usize) -> Best
     if code != 0 {
         return b;
     }
-    if t.status != 2 {
+    if t.status != COMMITTING {
         return b;
     }
     let csn = t.csn;
@@ -95,8 +100,8 @@ fn better(t: Tx, code: u8, b: Best, i: usize) -> Best
 }
 
 // The unfinished committing one with the highest number above the last one found.
-fn highest(image: Image, found: [u8; 8], last: Csn) -> Best
-    requires { ⌜ image .count ≤ 8 ⌝ }
+fn highest(image: Image, found: [u8; MAX_TXS], last: Csn) -> Best
+    requires { ⌜ image .count ≤ maxTxs ⌝ }
     ensures { λ r. ⌜ r ≡ bestOf image found last (image .count) ⌝ }
 {
     let m = image.count as usize;
@@ -114,13 +119,19 @@ fn highest(image: Image, found: [u8; 8], last: Csn) -> Best
 }
 
 // The unfinished committing ones whose number exceeds the last found, highest number first, after the n abort records that the tail has.
-pub fn undo_lost(image: Image, p: Pass, memory: &mut [u8], tail: &mut [u8], n: usize) -> usize
+pub(crate) fn undo_lost(
+    image: Image,
+    p: Pass,
+    memory: &mut [u8],
+    tail: &mut [u8],
+    n: usize,
+) -> usize
     requires { ⌜ Undoable image ⌝ }
-    requires { ⌜ length (now memory) ≡ 4096 ⌝ }
-    requires { ⌜ (length (now tail) ≡ 16384) × (n ≤ 8) ⌝ }
+    requires { ⌜ length (now memory) ≡ memoryLen ⌝ }
+    requires { ⌜ (length (now tail) ≡ tailLen) × (n ≤ maxTxs) ⌝ }
     ensures { λ r. ⌜ r ≡ n + length (lostOf image p) ⌝ }
     ensures { λ _. ⌜ now (memory .exit) ≡ undoEach layBytes (lostOf image p) (now (memory .entry)) ⌝ }
-    ensures { λ _. ⌜ now (tail .exit) ≡ sets (now (tail .entry)) (n * 4) (encodeLog (aborts (lostOf image p))) ⌝ }
+    ensures { λ _. ⌜ now (tail .exit) ≡ sets (now (tail .entry)) (n * abortLen) (encodeLog (aborts (lostOf image p))) ⌝ }
 {
     let last = p.csn;
     let mut found = p.found;

@@ -12,7 +12,7 @@ use Rattle.recovery.specs.Group.{committed, aborted}
 use Rattle.recovery.specs.Lists.{any}
 use Rattle.recovery.specs.Replay.{undoAll, layBytes}
 use Rattle.log.specs.declared.TxId.{TxId}
-use Rattle.transaction.specs.declared.Records.{Records}
+use Rattle.transaction.specs.declared.records.Records.{Records}
 use Rattle.transaction.specs.Lists.{sumOf}
 use Rattle.transaction.specs.View.{Range, rangeAt, rangesOf, writesOf}
 use Rattle.transaction.specs.Rules.{recordsOk, heldAgainst, rangesSize, roomOf}

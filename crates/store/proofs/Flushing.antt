@@ -73,7 +73,7 @@ module _ (s : State) (d m t : List ℕ) (k allowed : ℕ) where
   flush-refused = stored-refused s d m t (flushPlan s m t k) allowed
 
   -- read is what was read of the first groups
-  module _ (z : diskNumber s d m t ≡ 0) (read : LogEnd) (e : read ≡ logEndOf 0 (s .ondisk .0) (firstGroups s t k)) where
+  module _ (z : diskNumber s d m t ≡ 0) (read : LogEnd) (e : read ≡ logEndOf (s .ondisk .0) (firstGroups s t k)) where
     size : read .end ≡ firstSize s t k
     size = omega (arith, ap (λ (x : LogEnd). x .end) e)
 

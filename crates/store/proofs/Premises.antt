@@ -11,7 +11,7 @@ use Rattle.recovery.specs.Group.{Write, groupsSize}
 use Rattle.recovery.specs.Lists.{any}
 use Rattle.recovery.specs.Transaction.{Tx as Transaction, running, overlap, heldByOther, reserved}
 use Rattle.log.specs.Flat.{writeAt}
-use Rattle.transaction.specs.declared.Records.{Records}
+use Rattle.transaction.specs.declared.records.Records.{Records}
 use Rattle.transaction.specs.Lists.{upFrom, sumOf}
 use Rattle.transaction.specs.View.{rangeAt, rangesOf, writesOf}
 use Rattle.transaction.specs.Rules.{recordsOk, redoOk, meets, heldAgainst, roomOf}

@@ -20,7 +20,7 @@ use Rattle.log.specs.Flat.{writesFrom}
 use Rattle.log.specs.Group.{wellFormedBody, wellFormedGroup}
 use Rattle.log.specs.Log.{readLog}
 use Rattle.log.proofs.Basics.{and-left, and-right}
-use Rattle.transaction.specs.declared.Records.{Records}
+use Rattle.transaction.specs.declared.records.Records.{Records}
 use Rattle.transaction.specs.declared.Tx.{Tx}
 use Rattle.transaction.specs.Lists.{upFrom}
 use Rattle.transaction.specs.Flat.{emptyRecords}

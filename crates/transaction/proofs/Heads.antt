@@ -22,7 +22,8 @@ module _ (last assigned id status csn : ℕ) where
       let k = go (eqb status 1) refl (and-right (leb id last) _ r) in
       record { named = leb-true 1 id (and-left (leb 1 id) _ e); given = leb-true id last (and-left (leb id last) _ r); numbered = k .0; kind = k .1 }
     where
-      go : (b : Bool) → eqb status 1 ≡ b → cond b (eqb csn 0) (eqb status 2 && (leb 1 csn && leb csn assigned)) ≡ true → (csn ≤ assigned) × (b ≡ not (eqb status 2))
+      go : (b : Bool) → eqb status 1 ≡ b → cond b (eqb csn 0) (eqb status 2 && (leb 1 csn && leb csn assigned)) ≡ true
+          → (csn ≤ assigned) × (b ≡ not (eqb status 2))
       go true q h = let s : status ≡ 1 = eqb-true status 1 q in (omega (arith, eqb-true csn 0 h), rw s)
       go false q h = (leb-true csn assigned (and-right (leb 1 csn) _ (and-right (eqb status 2) _ h)), rw (and-left (eqb status 2) _ h))
 

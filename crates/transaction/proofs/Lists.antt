@@ -76,4 +76,5 @@ module _ {A : Type 0} (f : ℕ → A) where
 pub any-same : {A B : Type 0} (p : A → Bool) (q : B → Bool) (f : ℕ → A) (g : ℕ → B) (k i : ℕ) → ((x : ℕ) → i ≤ x → x < i + k → p (f x) ≡ q (g x))
     → any p (upFrom f k i) ≡ any q (upFrom g k i)
 any-same p q f g zero i h = refl
-any-same p q f g (suc k) i h = ap₂ (λ (a b : Bool). a || b) (h i (omega arith) (omega arith)) (any-same p q f g k (suc i) (λ x a b. h x (omega arith) (omega arith)))
+any-same p q f g (suc k) i h = ap₂ (λ (a b : Bool). a || b) (h i (omega arith) (omega arith))
+    (any-same p q f g k (suc i) (λ x a b. h x (omega arith) (omega arith)))

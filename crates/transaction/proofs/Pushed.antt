@@ -14,7 +14,7 @@ use Rattle.log.specs.Record.{inRange}
 use Rattle.log.specs.Flat.{writeAt}
 use Rattle.log.proofs.Basics.{and-left, and-right}
 use Rattle.log.proofs.RoundTrip.{drop-take}
-use Rattle.transaction.specs.declared.Records.{Records}
+use Rattle.transaction.specs.declared.records.Records.{Records}
 use Rattle.transaction.specs.Lists.{upFrom, every}
 use Rattle.transaction.specs.Flat.{emptyRecords}
 use Rattle.transaction.specs.View.{Range, range, rangeAt, rangesOf, writesOf}
@@ -85,7 +85,8 @@ module _ (r : Records) (a : ℕ) (bs : List ℕ) (z : Sized r) (c : r .count < 1
   pushed-ranges =
       ap (λ (k : ℕ). upFrom (rangeAt (pushed r a bs)) k 0) (pushed-count r a bs)
       ∙ up-snoc (rangeAt (pushed r a bs)) (r .count) 0
-      ∙ ap₂ (λ (rs : List Range) (q : Range). rs ++ (q ∷ [])) (up-same (rangeAt (pushed r a bs)) (rangeAt r) (r .count) 0 (λ j p q. range-kept j (omega arith))) range-new
+      ∙ ap₂ (λ (rs : List Range) (q : Range). rs ++ (q ∷ []))
+      (up-same (rangeAt (pushed r a bs)) (rangeAt r) (r .count) 0 (λ j p q. range-kept j (omega arith))) range-new
 
   module _ (l : length bs ≤ 32) (short : (j : ℕ) → j < r .count → getD (r .len) j 0 ≤ 32) where
     abbrev seen : Records → ℕ → Write
@@ -95,7 +96,8 @@ module _ (r : Records) (a : ℕ) (bs : List ℕ) (z : Sized r) (c : r .count < 1
     unfolding pushed
     write-kept j h =
         let x : getD (set (r .addr) (r .count) a) j 0 ≡ getD (r .addr) j 0 = getD-set-other (r .addr) (r .count) j a 0 (λ e. omega (arith, e)) in
-        let y : getD (set (r .len) (r .count) (length bs)) j 0 ≡ getD (r .len) j 0 = getD-set-other (r .len) (r .count) j (length bs) 0 (λ e. omega (arith, e)) in
+        let y : getD (set (r .len) (r .count) (length bs)) j 0 ≡ getD (r .len) j 0 =
+        getD-set-other (r .len) (r .count) j (length bs) 0 (λ e. omega (arith, e)) in
         let w = sets-before (r .bytes) bs (j * 32) (getD (r .len) j 0) (r .count * 32) (omega (arith, short j h)) in
         rw (x, y) (ap (λ (ds : List ℕ). record { addr = getD (r .addr) j 0; bytes = ds }) w)
 
@@ -110,7 +112,8 @@ module _ (r : Records) (a : ℕ) (bs : List ℕ) (z : Sized r) (c : r .count < 1
         writes-up (pushed r a bs .addr) (pushed r a bs .len) (pushed r a bs .bytes) (pushed r a bs .count) 0
         ∙ ap (λ (k : ℕ). upFrom (seen (pushed r a bs)) k 0) (pushed-count r a bs)
         ∙ up-snoc (seen (pushed r a bs)) (r .count) 0
-        ∙ ap₂ (λ (ws : List Write) (w : Write). ws ++ (w ∷ [])) (up-same (seen (pushed r a bs)) (seen r) (r .count) 0 (λ j p q. write-kept j (omega arith))) write-new
+        ∙ ap₂ (λ (ws : List Write) (w : Write). ws ++ (w ∷ []))
+        (up-same (seen (pushed r a bs)) (seen r) (r .count) 0 (λ j p q. write-kept j (omega arith))) write-new
         ∙ ap (λ (ws : List Write). ws ++ (record { addr = a; bytes = bs } ∷ [])) (sym (writes-up (r .addr) (r .len) (r .bytes) (r .count) 0))
 
 -- ---- the rules of one more range

@@ -9,7 +9,7 @@ use lib.Dec.{leb, eqb}
 use borrow.Author.Tests.{leb-true, le-leb, lt-leb, eqb-true}
 use Rattle.log.specs.Record.{inRange}
 use Rattle.log.proofs.Basics.{and-left, and-right}
-use Rattle.transaction.specs.declared.Records.{Records}
+use Rattle.transaction.specs.declared.records.Records.{Records}
 use Rattle.transaction.specs.Lists.{upFrom, every}
 use Rattle.transaction.specs.View.{Range, range, rangeAt, rangesOf}
 use Rattle.transaction.specs.Rules.{rangeOk, recordsOk, rangesSize, sameRange, sameRanges}
@@ -18,8 +18,12 @@ use Rattle.transaction.proofs.Lists.{length-up, up-turn, every-at}
 -- what the range rule says of a length and an address
 pub in-range : (a n : ℕ) → inRange a n ≡ true → (1 ≤ n) × (n ≤ 32) × (a + n ≤ 4096)
 in-range a n e =
-    let f = and-left (leb 1 n && leb n 32) (leb (a + n) 4096) e in
-    (leb-true 1 n (and-left (leb 1 n) (leb n 32) f), leb-true n 32 (and-right (leb 1 n) (leb n 32) f), leb-true (a + n) 4096 (and-right (leb 1 n && leb n 32) _ e))
+    let f = and-left (leb 1 n && leb n 32) (leb (a + n) 4096) e in (
+      leb-true 1 n (and-left (leb 1 n) (leb n 32) f),
+      leb-true n 32 (and-right (leb 1 n) (leb n 32) f),
+      leb-true (a + n) 4096
+          (and-right (leb 1 n && leb n 32) _ e),
+    )
 
 module _ (r : Records) where
   pub few : r .count ≤ 16 → recordsOk (rangesOf r) ≡ every rangeOk (rangesOf r)

@@ -8,7 +8,7 @@ use lib.Seq.{length-take-le}
 use Rattle.recovery.specs.Group.{Write, redoSize}
 use Rattle.recovery.specs.Replay.{undoAll, layBytes}
 use Rattle.log.specs.Flat.{writeAt, writesFrom}
-use Rattle.transaction.specs.declared.Records.{Records}
+use Rattle.transaction.specs.declared.records.Records.{Records}
 use Rattle.transaction.specs.Lists.{upFrom}
 use Rattle.transaction.specs.View.{rangeAt, rangesOf, writesOf}
 use Rattle.transaction.specs.Rules.{rangesSize}

@@ -1,11 +1,13 @@
 -- The values of the flat arrays: all zero, and what the logic reads past the end of an array of transactions.
+use Prim.Native.Nat.{_*_}
 use mathlib.Core.List.{[]}
 use lib.ListN.{replicate}
-use Rattle.transaction.specs.declared.Records.{Records}
+use Rattle.layout.specs.{maxRecords, maxWrite}
+use Rattle.transaction.specs.declared.records.Records.{Records}
 use Rattle.transaction.specs.declared.Tx.{Tx}
 
 unfoldable pub emptyRecords : Records
-emptyRecords = record { count = 0; addr = replicate 16 0; len = replicate 16 0; bytes = replicate 512 0 }
+emptyRecords = record { count = 0; addr = replicate maxRecords 0; len = replicate maxRecords 0; bytes = replicate (maxRecords * maxWrite) 0 }
 
 -- what an unused slot holds
 unfoldable pub emptyTx : Tx

@@ -4,6 +4,7 @@ use mathlib.Core.Bool.{Bool, true, false, cond, not, _&&_, _||_}
 use mathlib.Core.List.{List, [], _∷_}
 use lib.ListN.{length}
 use lib.Dec.{eqb, leb, ltb}
+use Rattle.layout.specs.{redoLen, commitLen, maxRecords, statusRunning, statusCommitting}
 use Rattle.recovery.specs.Lists.{any}
 use Rattle.log.specs.Record.{inRange}
 use Rattle.transaction.specs.declared.Tx.{Tx}
@@ -17,12 +18,12 @@ rangeOk (range a n) = inRange a n
 
 -- "at most 16 undo records each, their ranges as for redo"
 abbrev pub recordsOk : List Range → Bool
-recordsOk rs = leb (length rs) 16 && every rangeOk rs
+recordsOk rs = leb (length rs) maxRecords && every rangeOk rs
 
 -- "ids .. from 1 to the last given; status 1 or 2; a running one's number is 0, a committing one's from 1 to the last assigned"
 unfoldable pub headOk : ℕ → ℕ → ℕ → ℕ → ℕ → Bool
 headOk last assigned id status csn =
-    leb 1 id && (leb id last && cond (eqb status 1) (eqb csn 0) (eqb status 2 && (leb 1 csn && leb csn assigned)))
+    leb 1 id && (leb id last && cond (eqb status statusRunning) (eqb csn 0) (eqb status statusCommitting && (leb 1 csn && leb csn assigned)))
 
 abbrev pub outlineOk : ℕ → ℕ → Outline → Bool
 outlineOk last assigned (outline id status csn undo) = headOk last assigned id status csn && recordsOk undo
@@ -44,7 +45,7 @@ sameRanges (r ∷ rs) (q ∷ qs) = sameRange r q && sameRanges rs qs
 
 -- not "a running transaction whose redo records differ from its undo records in count or ranges"
 abbrev pub redoOk : Tx → Bool
-redoOk t = not (eqb (t .status) 1) || sameRanges (rangesOf (t .undo)) (rangesOf (t .redo))
+redoOk t = not (eqb (t .status) statusRunning) || sameRanges (rangesOf (t .undo)) (rangesOf (t .redo))
 
 -- ---- held bytes
 
@@ -54,17 +55,17 @@ meets a n (range b m) = ltb b (a + n) && ltb a (b + m)
 
 -- "A byte is held while a running transaction has an undo record over it": one of the n from a on, against the transaction of this id
 unfoldable pub heldAgainst : ℕ → ℕ → ℕ → Tx → Bool
-heldAgainst id a n t = not (eqb id (t .id .0)) && (eqb (t .status) 1 && any (meets a n) (rangesOf (t .undo)))
+heldAgainst id a n t = not (eqb id (t .id .0)) && (eqb (t .status) statusRunning && any (meets a n) (rangesOf (t .undo)))
 
 -- ---- log room
 
 -- a redo record's bytes
 abbrev pub rangeSize : Range → ℕ
-rangeSize (range a n) = 7 + n
+rangeSize (range a n) = redoLen + n
 
 abbrev pub rangesSize : List Range → ℕ
 rangesSize rs = sumOf rangeSize rs
 
 -- "for each running transaction its redo bytes + 8"
 abbrev pub roomOf : Tx → ℕ
-roomOf t = cond (eqb (t .status) 1) (rangesSize (rangesOf (t .redo)) + 8) 0
+roomOf t = cond (eqb (t .status) statusRunning) (rangesSize (rangesOf (t .redo)) + commitLen) 0

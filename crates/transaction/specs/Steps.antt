@@ -3,9 +3,10 @@ use Prim.Native.Nat.{ℕ, _+_, _*_}
 use mathlib.Core.List.{List}
 use lib.ListN.{length, set}
 use lib.Seq.{sets}
+use Rattle.layout.specs.{maxWrite, statusRunning, statusCommitting}
 use Rattle.log.specs.declared.TxId.{TxId}
 use Rattle.log.specs.declared.Csn.{Csn}
-use Rattle.transaction.specs.declared.Records.{Records}
+use Rattle.transaction.specs.declared.records.Records.{Records}
 use Rattle.transaction.specs.declared.Tx.{Tx}
 use Rattle.transaction.specs.Flat.{emptyRecords}
 
@@ -16,11 +17,11 @@ pushed r a bs =
       count = r .count + 1;
       addr = set (r .addr) (r .count) a;
       len = set (r .len) (r .count) (length bs);
-      bytes = sets (r .bytes) (r .count * 32) bs;
+      bytes = sets (r .bytes) (r .count * maxWrite) bs;
     }
 
 unfoldable pub freshTx : TxId → Tx
-freshTx id = record { id = id; status = 1; csn = record { 0 = 0 }; undo = emptyRecords; redo = emptyRecords }
+freshTx id = record { id = id; status = statusRunning; csn = record { 0 = 0 }; undo = emptyRecords; redo = emptyRecords }
 
 -- Write: "adds an undo record with the old bytes and a redo record"
 unfoldable pub written : Tx → ℕ → List ℕ → List ℕ → Tx
@@ -28,4 +29,4 @@ written t a old new = record { id = t .id; status = t .status; csn = t .csn; und
 
 -- Precommit: "marks the transaction committing. Its redo list is emptied, its undo list stays"
 unfoldable pub precommitted : Tx → Csn → Tx
-precommitted t n = record { id = t .id; status = 2; csn = n; undo = t .undo; redo = emptyRecords }
+precommitted t n = record { id = t .id; status = statusCommitting; csn = n; undo = t .undo; redo = emptyRecords }

@@ -3,10 +3,11 @@ use Prim.Native.Nat.{ℕ}
 use mathlib.Core.List.{List}
 use lib.ListN.{getD}
 use lib.Dec.{eqb}
+use Rattle.layout.specs.{statusCommitting}
 use Rattle.recovery.specs.Group.{Write}
 use Rattle.recovery.specs.Transaction.{Tx as Transaction}
 use Rattle.log.specs.Flat.{writesFrom}
-use Rattle.transaction.specs.declared.Records.{Records}
+use Rattle.transaction.specs.declared.records.Records.{Records}
 use Rattle.transaction.specs.declared.Tx.{Tx}
 use Rattle.transaction.specs.Lists.{upFrom}
 
@@ -33,4 +34,4 @@ outlineOf t = outline (t .id .0) (t .status) (t .csn .0) (rangesOf (t .undo))
 -- the transaction as recovery has it
 abbrev pub viewOf : Tx → Transaction
 viewOf t =
-    record { id = t .id .0; committing = eqb (t .status) 2; csn = t .csn .0; undo = writesOf (t .undo); redo = writesOf (t .redo) }
+    record { id = t .id .0; committing = eqb (t .status) statusCommitting; csn = t .csn .0; undo = writesOf (t .undo); redo = writesOf (t .redo) }

@@ -36,10 +36,13 @@ same-length-2 c = search needs
 
 returns : tie.Need-returns
 returns c =
-    let a = c .before .before .before .before .before .before .before .before .before .before .before .before .before .before .before .before .before .before .before .before .before .before .before .before .args in
-    let f = c .before .before .before .before .before .before .before .before .before .before .before .before .before .before .before .before .before .before .before .forward in
-    let r = c .before .before .before .before .before .before .before .before .before .before .before .before .before .before .undo-running in
-    let u = c .before .before .before .before .before .before .before .undo-lost in
+    let lost = c .before .before .before .before .before .before .before in
+    let running = lost .before .before .before .before .before .before .before in
+    let passed = running .before .before .before .before .before in
+    let a = passed .before .before .before .before .before .args in
+    let f = passed .forward in
+    let r = running .undo-running in
+    let u = lost .undo-lost in
     restart-case (a .image) (a .log .now) (a .memory .now) (a .tail .now) (f .result) _ (f .ensures .0) (f .ensures .1) _ _ _ _ _ _
     (record { count = r .ensures .0 ∙ sym (zero-add _); memory = r .ensures .1 .0; tail = r .ensures .1 .1 })
     (record { count = u .ensures .0; memory = u .ensures .1 .0; tail = u .ensures .1 .1 })

@@ -53,12 +53,14 @@ later c =
     let keys = c .before .before .before .before .keys-of in
     sym
     (c .alike-from .ensures
-    ∙ by-keys (t .txs) (keys .result) (keys .ensures) (slotAt (t .txs) i .id .0) (slotAt (t .txs) i .csn .0) (t .count - (i + 1)) (i + 1) (omega (arith, c .before .before .before .before .before .before .pre, c .before .before .loop-test .taken)))
+    ∙ by-keys (t .txs) (keys .result) (keys .ensures) (slotAt (t .txs) i .id .0) (slotAt (t .txs) i .csn .0) (t .count - (i + 1)) (i + 1)
+    (omega (arith, c .before .before .before .before .before .before .pre, c .before .before .loop-test .taken)))
 
 returns : tie.Need-returns Inv-loop μ-loop
 returns c =
     let t = c .before .before .before .before .before .before .before .args .t1 in
-    sym (c .before .before .before .before .loop .inv .1 ∙ distinct-hit (t .txs) _ _ (c .before .before .before .loop-test .taken) (later (c .before) ∙ c .if1 .taken))
+    sym (c .before .before .before .before .loop .inv .1
+    ∙ distinct-hit (t .txs) _ _ (c .before .before .before .loop-test .taken) (later (c .before) ∙ c .if1 .taken))
 
 add-i : tie.Need-add-i Inv-loop μ-loop
 add-i c = search needs
@@ -68,8 +70,11 @@ loop-less c = search needs
 
 loop-again : tie.Need-loop-again Inv-loop μ-loop
 loop-again c =
-    let t = c .before .before .before .before .before .before .before .args .t1 in
-    (omega arith, c .before .before .before .before .loop .inv .1 ∙ distinct-miss (t .txs) _ _ (c .before .before .before .loop-test .taken) (later (c .before) ∙ c .if1 .left))
+    let t = c .before .before .before .before .before .before .before .args .t1 in (
+      omega arith,
+      c .before .before .before .before .loop .inv .1
+          ∙ distinct-miss (t .txs) _ _ (c .before .before .before .loop-test .taken) (later (c .before) ∙ c .if1 .left),
+    )
 
 returns-2 : tie.Need-returns-2 Inv-loop μ-loop
 returns-2 c =

@@ -41,7 +41,8 @@ returns c =
     let a = c .before .before .before .before .before .before .before .args in
     let l = c .before .before .before .before .loop in
     let p : Outline → Bool = outlineOk (a .t1 .lastid .0) (a .t1 .assigned .0) in
-    sym (l .inv .1 ∙ every-bad (outlineAt (a .t1 .txs)) _ _ (c .before .before .before .loop-test .taken) p (sym (c .before .image-ok .ensures) ∙ not-true _ (c .if1 .taken)))
+    sym (l .inv .1 ∙ every-bad (outlineAt (a .t1 .txs)) _ _ (c .before .before .before .loop-test .taken) p
+    (sym (c .before .image-ok .ensures) ∙ not-true _ (c .if1 .taken)))
 
 add-i : tie.Need-add-i Inv-loop μ-loop
 add-i c = search needs
@@ -53,14 +54,18 @@ loop-again : tie.Need-loop-again Inv-loop μ-loop
 loop-again c =
     let a = c .before .before .before .before .before .before .before .args in
     let l = c .before .before .before .before .loop in
-    let p : Outline → Bool = outlineOk (a .t1 .lastid .0) (a .t1 .assigned .0) in
-    (omega arith, l .inv .1 ∙ every-good (outlineAt (a .t1 .txs)) _ _ (c .before .before .before .loop-test .taken) p (sym (c .before .image-ok .ensures) ∙ not-false _ (c .if1 .left)))
+    let p : Outline → Bool = outlineOk (a .t1 .lastid .0) (a .t1 .assigned .0) in (
+      omega arith,
+      l .inv .1 ∙ every-good (outlineAt (a .t1 .txs)) _ _ (c .before .before .before .loop-test .taken) p
+          (sym (c .before .image-ok .ensures) ∙ not-false _ (c .if1 .left)),
+    )
 
 returns-2 : tie.Need-returns-2 Inv-loop μ-loop
 returns-2 c =
     let a = c .before .before .before .before .args in
     let l = c .before .loop in
-    sym (l .inv .1 ∙ ap (every (outlineOk (a .t1 .lastid .0) (a .t1 .assigned .0))) (up-done (outlineAt (a .t1 .txs)) (a .t1 .count) (l .i) (c .loop-test .left)))
+    sym (l .inv .1 ∙ ap (every (outlineOk (a .t1 .lastid .0) (a .t1 .assigned .0)))
+    (up-done (outlineAt (a .t1 .txs)) (a .t1 .count) (l .i) (c .loop-test .left)))
 
 pub each-ok-spec : {M : Type 1} → statement M
 each-ok-spec =

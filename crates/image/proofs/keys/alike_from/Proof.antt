@@ -20,23 +20,25 @@ abbrev μ-loop : tie.MeasureT-loop
 loop-holds : tie.Need-loop-holds Inv-loop μ-loop
 loop-holds c = (omega arith, refl)
 
-mul-t10 : tie.Need-mul-t10 Inv-loop μ-loop
-mul-t10 c = search needs
+mul-alike : tie.Need-mul-alike Inv-loop μ-loop
+mul-alike c = search needs
 
-element-copy-out-t13 : tie.Need-element-copy-out-t13 Inv-loop μ-loop
-element-copy-out-t13 c = search needs
+element-copy-out-alike : tie.Need-element-copy-out-alike Inv-loop μ-loop
+element-copy-out-alike c = search needs
 
-mul-t15 : tie.Need-mul-t15 Inv-loop μ-loop
-mul-t15 c = search needs
+mul-alike-2 : tie.Need-mul-alike-2 Inv-loop μ-loop
+mul-alike-2 c = search needs
 
-element-copy-out-t18 : tie.Need-element-copy-out-t18 Inv-loop μ-loop
-element-copy-out-t18 c = search needs
+element-copy-out-alike-2 : tie.Need-element-copy-out-alike-2 Inv-loop μ-loop
+element-copy-out-alike-2 c = search needs
 
 alike-requires : tie.Need-alike-requires Inv-loop μ-loop
 alike-requires c κs = search needs
 
 returns : tie.Need-returns Inv-loop μ-loop
-returns c = sym (c .before .before .before .before .before .loop .inv .1 ∙ any-hit (keyAt (c .before .before .before .before .before .before .args .t1)) _ _ (c .before .before .before .before .loop-test .taken) (alike _ _) (sym (c .before .alike .ensures) ∙ c .if1 .taken))
+returns c = sym (c .before .before .before .before .before .loop .inv .1
+    ∙ any-hit (keyAt (c .before .before .before .before .before .before .args .t1)) _ _ (c .before .before .before .before .loop-test .taken) (alike _ _)
+    (sym (c .before .alike .ensures) ∙ c .if1 .taken))
 
 add-j : tie.Need-add-j Inv-loop μ-loop
 add-j c = search needs
@@ -45,12 +47,18 @@ loop-less : tie.Need-loop-less Inv-loop μ-loop
 loop-less c = search needs
 
 loop-again : tie.Need-loop-again Inv-loop μ-loop
-loop-again c = (omega arith, c .before .before .before .before .before .loop .inv .1 ∙ any-miss (keyAt (c .before .before .before .before .before .before .args .t1)) _ _ (c .before .before .before .before .loop-test .taken) (alike _ _) (sym (c .before .alike .ensures) ∙ c .if1 .left))
+loop-again c = (
+  omega arith,
+  c .before .before .before .before .before .loop .inv .1
+      ∙ any-miss (keyAt (c .before .before .before .before .before .before .args .t1)) _ _ (c .before .before .before .before .loop-test .taken) (alike _ _)
+      (sym (c .before .alike .ensures) ∙ c .if1 .left),
+)
 
 returns-2 : tie.Need-returns-2 Inv-loop μ-loop
 returns-2 c =
     let args = c .before .before .args in
-    sym (c .before .loop .inv .1 ∙ ap (any (alike (args .id .0) (args .csn .0))) (up-done (keyAt (args .t1)) (args .n) (c .before .loop .j) (c .loop-test .left)))
+    sym (c .before .loop .inv .1 ∙ ap (any (alike (args .id .0) (args .csn .0)))
+    (up-done (keyAt (args .t1)) (args .n) (c .before .loop .j) (c .loop-test .left)))
 
 pub alike-from-spec : {M : Type 1} → statement M
 alike-from-spec =
@@ -59,10 +67,10 @@ alike-from-spec =
     Inv-loop
     μ-loop
     loop-holds
-    mul-t10
-    element-copy-out-t13
-    mul-t15
-    element-copy-out-t18
+    mul-alike
+    element-copy-out-alike
+    mul-alike-2
+    element-copy-out-alike-2
     alike-requires
     returns
     add-j

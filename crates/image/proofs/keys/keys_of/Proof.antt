@@ -1,49 +1,48 @@
 use borrow.Author.Needs.{needs}
 use Prim.Native.Nat.{_-_, _≤_}
 use native.Mathlib.Omega.{arith}
-use mathlib.Core.Path.{_≡_, refl}
-use lib.ListN.{length, length-set}
-use Rattle.image.specs.Keys.{KeysBelow}
-use Rattle.image.proofs.KeyLaws.{keys-more}
+use mathlib.Core.Path.{_≡_, refl, ap₂}
+use mathlib.Core.List.{List}
+use Rattle.log.specs.declared.TxId.{TxId}
+use Rattle.log.specs.declared.Csn.{Csn}
+use Rattle.image.specs.Keys.{idAt, csnAt, keysOf}
+use Rattle.image.proofs.KeyLaws.{Filled, filled-more, filled-all}
 use Rattle.image.proofs.keys.keys_of.Statement.{statement}
 use Rattle.image.proofs.keys.keys_of.Tie as tie
 
 abbrev Inv-loop : tie.InvT-loop
 Inv-loop txs keys₀ i₀ keys i =
-    (i ≤ 8)
-    × (length (keys .ids) ≡ 8)
-    × (length (keys .csns) ≡ 8)
-    × KeysBelow i txs (keys .ids) (keys .csns)
+    (i ≤ 8) × Filled (idAt txs) (record { 0 = 0 }) i (keys .ids) × Filled (csnAt txs) (record { 0 = 0 }) i (keys .csns)
 
 abbrev μ-loop : tie.MeasureT-loop
 μ-loop txs keys₀ i₀ keys i = 8 - i
 
 loop-holds : tie.Need-loop-holds Inv-loop μ-loop
-loop-holds c = (omega arith, refl, refl, λ k h. absurd (omega (arith, h)))
+loop-holds c = (omega arith, (refl, λ k h. absurd (omega (arith, h))), (refl, λ k h. absurd (omega (arith, h))))
 
-mul-keys : tie.Need-mul-keys Inv-loop μ-loop
-mul-keys c = search needs
+mul-t10 : tie.Need-mul-t10 Inv-loop μ-loop
+mul-t10 c = search needs
 
-element-copy-out-keys : tie.Need-element-copy-out-keys Inv-loop μ-loop
-element-copy-out-keys c = search needs
+element-copy-out-t13 : tie.Need-element-copy-out-t13 Inv-loop μ-loop
+element-copy-out-t13 c = search needs
 
-mul-keys-2 : tie.Need-mul-keys-2 Inv-loop μ-loop
-mul-keys-2 c = search needs
+mul-t15 : tie.Need-mul-t15 Inv-loop μ-loop
+mul-t15 c = search needs
 
-element-write-keys : tie.Need-element-write-keys Inv-loop μ-loop
-element-write-keys c = search needs
+element-set-from-keys : tie.Need-element-set-from-keys Inv-loop μ-loop
+element-set-from-keys c = search needs
 
-mul-keys-3 : tie.Need-mul-keys-3 Inv-loop μ-loop
-mul-keys-3 c = search needs
+mul-t10-2 : tie.Need-mul-t10-2 Inv-loop μ-loop
+mul-t10-2 c = search needs
 
-element-copy-out-keys-2 : tie.Need-element-copy-out-keys-2 Inv-loop μ-loop
-element-copy-out-keys-2 c = search needs
+element-copy-out-t20 : tie.Need-element-copy-out-t20 Inv-loop μ-loop
+element-copy-out-t20 c = search needs
 
-mul-keys-4 : tie.Need-mul-keys-4 Inv-loop μ-loop
-mul-keys-4 c = search needs
+mul-t15-2 : tie.Need-mul-t15-2 Inv-loop μ-loop
+mul-t15-2 c = search needs
 
-element-write-keys-2 : tie.Need-element-write-keys-2 Inv-loop μ-loop
-element-write-keys-2 c = search needs
+element-set-from-keys-2 : tie.Need-element-set-from-keys-2 Inv-loop μ-loop
+element-set-from-keys-2 c = search needs
 
 add-i : tie.Need-add-i Inv-loop μ-loop
 add-i c = search needs
@@ -53,15 +52,23 @@ loop-less c = search needs
 
 loop-again : tie.Need-loop-again Inv-loop μ-loop
 loop-again c =
-    let v = c .before .loop .inv in (
+    let txs = c .before .before .args .t1 in
+    let at = c .before .loop in
+    let b = c .loop-test .taken in (
       omega arith,
-      simp length-set (v .1),
-      simp length-set (v .2),
-      keys-more (c .before .before .args .t1) (c .before .loop .keys .ids) (c .before .loop .keys .csns) (c .before .loop .i) (omega (arith, v .1)) (omega (arith, v .2)) (v .3),
+      filled-more (idAt txs) (record { 0 = 0 }) (at .i) (at .keys .ids) b (at .inv .1),
+      filled-more (csnAt txs) (record { 0 = 0 }) (at .i) (at .keys .csns) b (at .inv .2),
     )
 
 returns : tie.Need-returns Inv-loop μ-loop
-returns c = λ k h. c .before .loop .inv .3 k (omega (arith, h, c .loop-test .left))
+unfolding keysOf
+returns c =
+    let txs = c .before .before .args .t1 in
+    let at = c .before .loop in
+    let e : at .i ≡ 8 = omega (arith, at .inv .0, c .loop-test .left) in
+    ap₂ (λ (ids : List TxId) (csns : List Csn). record { ids = ids; csns = csns })
+    (filled-all (idAt txs) (record { 0 = 0 }) (at .keys .ids) (rw e at (at .inv .1)))
+    (filled-all (csnAt txs) (record { 0 = 0 }) (at .keys .csns) (rw e at (at .inv .2)))
 
 pub keys-of-spec : {M : Type 1} → statement M
 keys-of-spec =
@@ -70,14 +77,14 @@ keys-of-spec =
     Inv-loop
     μ-loop
     loop-holds
-    mul-keys
-    element-copy-out-keys
-    mul-keys-2
-    element-write-keys
-    mul-keys-3
-    element-copy-out-keys-2
-    mul-keys-4
-    element-write-keys-2
+    mul-t10
+    element-copy-out-t13
+    mul-t15
+    element-set-from-keys
+    mul-t10-2
+    element-copy-out-t20
+    mul-t15-2
+    element-set-from-keys-2
     add-i
     loop-less
     loop-again

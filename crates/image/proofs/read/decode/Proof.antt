@@ -1,13 +1,13 @@
 use Prim.Native.Nat.{ℕ}
+use native.Mathlib.Omega.{arith}
 use mathlib.Core.Bool.{true}
 use mathlib.Core.List.{List}
 use mathlib.Core.Option.{some}
 use mathlib.Core.Path.{_≡_, sym, ap, ap₂, _∙_}
-use lib.ListN.{getD, drop, replicate}
+use lib.ListN.{getD, drop}
 use borrow.Author.Tests.{not-true, not-false}
 use Rattle.log.specs.Number.{be16, be32}
 use Rattle.log.proofs.Basics.{from}
-use Rattle.transaction.specs.Flat.{emptyTx}
 use Rattle.image.specs.declared.Image.{Image}
 use Rattle.image.specs.Rules.{keepsRules}
 use Rattle.image.specs.Content.{Content, contentOk}
@@ -29,6 +29,9 @@ returns c =
 
 shared-slice-read-n : tie.Need-shared-slice-read-n
 shared-slice-read-n c = search needs
+
+cast-if2 : tie.Need-cast-if2
+cast-if2 c = omega (arith, c .shared-slice-known2 .given 12)
 
 not-decoded-requires-2 : tie.Need-not-decoded-requires-2
 not-decoded-requires-2 c κs = search needs
@@ -56,10 +59,10 @@ read-txs-requires c κs = search needs
 -- the transactions that were read behind the memory
 read-at : (c : tie.After-read-txs)
     → let s = c .before .before .before .before .before .before .args .s .now in
-    c .read-txs .result ≡ txsRead (replicate 8 emptyTx) 0 (readTxs (getD s 12 0) (drop 4109 s))
+    c .read-txs .result ≡ txsRead (readTxs (getD s 12 0) (drop 4109 s))
 read-at c =
     let s = c .before .before .before .before .before .before .args .s .now in
-    c .read-txs .ensures ∙ ap (λ (l : List ℕ). txsRead (replicate 8 emptyTx) 0 (readTxs (getD s 12 0) l)) (from s 4109)
+    c .read-txs .ensures ∙ ap (λ (l : List ℕ). txsRead (readTxs (getD s 12 0) l)) (from s 4109)
 
 not-decoded-requires-3 : tie.Need-not-decoded-requires-3
 not-decoded-requires-3 c κs = search needs
@@ -69,7 +72,8 @@ returns-3 c =
     let s = c .before .before .before .before .before .before .before .before .args .s .now in
     let x = c .before .before .read-txs .result in
     c .not-decoded3 .ensures
-    ∙ sym (decode-none s (content-none s (c .before .before .before .before .before .before .if1 .left) (c .before .before .before .before .if2 .left) x (read-at (c .before .before)) (not-true _ (c .before .if3 .taken))))
+    ∙ sym (decode-none s (content-none s (c .before .before .before .before .before .before .if1 .left) (c .before .before .before .before .if2 .left) x
+    (read-at (c .before .before)) (not-true _ (c .before .if3 .taken))))
 
 be16-requires : tie.Need-be16-requires
 be16-requires c κs = search needs
@@ -89,23 +93,31 @@ ok-requires c κs = search needs
 -- the image that the code makes, of the numbers that it read
 abbrev made : tie.After-txs → Image
 made c =
-    imageWith (c .before .before .before .before .be16 .result) (c .before .before .before .be32 .result) (c .before .before .be322 .result) (c .before .be162 .result) (getD (c .before .before .before .before .before .before .before .before .before .before .before .before .args .s .now) 12 0)
+    imageWith (c .before .before .before .before .be16 .result) (c .before .before .before .be32 .result) (c .before .before .be322 .result)
+    (c .before .be162 .result) (getD
+    (c .before .before .before .before .before .before .before .before .before .before .before .before .args .s .now) 12 0)
     (c .before .before .before .before .before .before .read-txs .result .txs)
 
-made-here : (c : tie.After-txs) → made c ≡ imageHere (c .before .before .before .before .before .before .before .before .before .before .before .before .args .s .now) (c .before .before .before .before .before .before .read-txs .result .txs)
+made-here : (c : tie.After-txs)
+    → made c ≡ imageHere (c .before .before .before .before .before .before .before .before .before .before .before .before .args .s .now)
+    (c .before .before .before .before .before .before .read-txs .result .txs)
 made-here c =
     let s = c .before .before .before .before .before .before .before .before .before .before .before .before .args .s .now in
     let n = getD s 12 0 in
     let txs = c .before .before .before .before .before .before .read-txs .result .txs in
-    ap₂ (λ (e d : ℕ). imageWith e d (c .before .before .be322 .result) (c .before .be162 .result) n txs) (c .before .before .before .before .be16 .ensures) (c .before .before .before .be32 .ensures)
+    ap₂ (λ (e d : ℕ). imageWith e d (c .before .before .be322 .result) (c .before .be162 .result) n txs)
+    (c .before .before .before .before .be16 .ensures) (c .before .before .before .be32 .ensures)
     ∙ ap₂ (λ (a l : ℕ). imageWith (be16 s 0) (be32 s 2) a l n txs) (c .before .before .be322 .ensures) (c .before .be162 .ensures)
 
 -- the content that was read, its layout, and what the rules say of it
 found : (c : tie.After-ok)
-    → (x : Content) × (readContent (c .before .before .before .before .before .before .before .before .before .before .before .before .before .args .s .now) ≡ some x) × (made (c .before) ≡ packed x) × (c .ok .result ≡ contentOk x)
+    → let s = c .before .before .before .before .before .before .before .before .before .before .before .before .before .args .s .now in
+    (x : Content) × (readContent s ≡ some x) × (made (c .before) ≡ packed x) × (c .ok .result ≡ contentOk x)
 found c =
     let h = made-here (c .before) in
-    let w = content-some (c .before .before .before .before .before .before .before .before .before .before .before .before .before .args .s .now) (c .before .before .before .before .before .before .before .before .before .before .before .if1 .left) (c .before .before .before .before .before .before .before .before .before .if2 .left) (c .before .before .before .before .before .before .before .read-txs .result) (read-at (c .before .before .before .before .before .before .before)) (not-false _ (c .before .before .before .before .before .before .if3 .left)) in
+    let read = c .before .before .before .before .before .before .before in
+    let w = content-some (read .before .before .before .before .before .before .args .s .now) (read .before .before .before .before .if1 .left)
+    (read .before .before .if2 .left) (read .read-txs .result) (read-at read) (not-false _ (c .before .before .before .before .before .before .if3 .left)) in
     (w .0, w .1, h ∙ w .2, c .ok .ensures ∙ ap keepsRules h ∙ w .3)
 
 not-decoded-requires-4 : tie.Need-not-decoded-requires-4
@@ -114,13 +126,16 @@ not-decoded-requires-4 c κs = search needs
 returns-4 : tie.Need-returns-4
 returns-4 c =
     let w = found (c .before .before) in
-    c .not-decoded4 .ensures ∙ sym (decode-bad (c .before .before .before .before .before .before .before .before .before .before .before .before .before .before .before .args .s .now) (w .0) (w .1) (sym (w .3) ∙ not-true _ (c .before .if4 .taken)))
+    c .not-decoded4 .ensures ∙ sym (decode-bad
+    (c .before .before .before .before .before .before .before .before .before .before .before .before .before .before .before .args .s .now) (w .0)
+    (w .1) (sym (w .3) ∙ not-true _ (c .before .if4 .taken)))
 
 returns-5 : tie.Need-returns-5
 returns-5 c =
     let w = found (c .before) in
     ap (λ (i : Image). record { ok = true; image = i }) (w .2)
-    ∙ sym (decode-good (c .before .before .before .before .before .before .before .before .before .before .before .before .before .before .args .s .now) (w .0) (w .1) (sym (w .3) ∙ not-false _ (c .if4 .left)))
+    ∙ sym (decode-good (c .before .before .before .before .before .before .before .before .before .before .before .before .before .before .args .s .now)
+    (w .0) (w .1) (sym (w .3) ∙ not-false _ (c .if4 .left)))
 
 pub decode-spec : {M : Type 1} → statement M
 decode-spec =
@@ -129,6 +144,7 @@ decode-spec =
     not-decoded-requires
     returns
     shared-slice-read-n
+    cast-if2
     not-decoded-requires-2
     returns-2
     sub-read-txs

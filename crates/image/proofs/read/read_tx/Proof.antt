@@ -31,12 +31,16 @@ returns c = c .no-tx .ensures ∙ sym (ap txRead (tx-short (c .before .before .b
 shared-slice-read-n : tie.Need-shared-slice-read-n
 shared-slice-read-n c = search needs
 
+cast-n : tie.Need-cast-n
+cast-n c = omega (arith, c .shared-slice-known2 .given 7)
+
 no-tx-requires-2 : tie.Need-no-tx-requires-2
 no-tx-requires-2 c κs = search needs
 
 returns-2 : tie.Need-returns-2
 returns-2 c =
-    c .no-tx2 .ensures ∙ sym (ap txRead (tx-many (c .before .before .before .before .before .args .s .now) (c .before .before .before .if1 .left) (c .before .if2 .taken)))
+    c .no-tx2 .ensures ∙ sym (ap txRead
+    (tx-many (c .before .before .before .before .before .args .s .now) (c .before .before .before .if1 .left) (c .before .if2 .taken)))
 
 sub-read-undos : tie.Need-sub-read-undos
 sub-read-undos c = search needs
@@ -47,33 +51,31 @@ part-read-undos-start c = search needs
 part-read-undos-end : tie.Need-part-read-undos-end
 part-read-undos-end c = search needs
 
-cast-read-undos : tie.Need-cast-read-undos
-cast-read-undos c = search needs
-
 read-undos-requires : tie.Need-read-undos-requires
 read-undos-requires c κs = search needs
 
 -- the records that were read behind the head
 read-at : (c : tie.After-read-undos)
     → let s = c .before .before .before .before .before .before .args .s .now in
-    c .read-undos .result ≡ undosRead 0 emptyRecords (readUndos (getD s 7 0) (drop 8 s))
+    c .read-undos .result ≡ undosRead (readUndos (getD s 7 0) (drop 8 s))
 read-at c =
     let s = c .before .before .before .before .before .before .args .s .now in
-    c .read-undos .ensures ∙ ap (λ (l : List ℕ). undosRead 0 emptyRecords (readUndos (getD s 7 0) l)) (from s 8)
+    c .read-undos .ensures ∙ ap (λ (l : List ℕ). undosRead (readUndos (getD s 7 0) l)) (from s 8)
 
 -- what the head says, if the records are there or not
 head-read : (c : tie.After-read-undos)
     → let s = c .before .before .before .before .before .before .args .s .now in
     readTx s ≡ savedIf (be16 s 0) (getD s 2 0) (be32 s 3) (readUndos (getD s 7 0) (drop 8 s))
-head-read c = tx-undos (c .before .before .before .before .before .before .args .s .now) (c .before .before .before .before .if1 .left) (c .before .before .if2 .left)
+head-read c = tx-undos (c .before .before .before .before .before .before .args .s .now) (c .before .before .before .before .if1 .left)
+    (c .before .before .if2 .left)
 
 found : (c : tie.Else3)
     → let s = c .before .before .before .before .before .before .before .before .args .s .now in
     let x = c .before .before .read-undos .result in
-    (us : List Write) × (readUndos (getD s 7 0) (drop 8 s) ≡ some us) × (x .undo ≡ pushedAll emptyRecords us) × (x .size ≡ 0 + undosSize us)
+    (us : List Write) × (readUndos (getD s 7 0) (drop 8 s) ≡ some us) × (x .undo ≡ pushedAll emptyRecords us) × (x .size ≡ undosSize us)
 found c =
     let s = c .before .before .before .before .before .before .before .before .args .s .now in
-    undos-some 0 emptyRecords (readUndos (getD s 7 0) (drop 8 s)) (c .before .before .read-undos .result) (read-at (c .before .before)) (not-false _ (c .if3 .left))
+    undos-some (readUndos (getD s 7 0) (drop 8 s)) (c .before .before .read-undos .result) (read-at (c .before .before)) (not-false _ (c .if3 .left))
 
 no-tx-requires-3 : tie.Need-no-tx-requires-3
 no-tx-requires-3 c κs = search needs
@@ -81,7 +83,8 @@ no-tx-requires-3 c κs = search needs
 returns-3 : tie.Need-returns-3
 returns-3 c =
     let s = c .before .before .before .before .before .before .before .before .before .args .s .now in
-    let y = undos-none 0 emptyRecords (readUndos (getD s 7 0) (drop 8 s)) (c .before .before .before .read-undos .result) (read-at (c .before .before .before)) (not-true _ (c .before .if3 .taken)) in
+    let y = undos-none (readUndos (getD s 7 0) (drop 8 s)) (c .before .before .before .read-undos .result) (read-at (c .before .before .before))
+    (not-true _ (c .before .if3 .taken)) in
     c .no-tx3 .ensures ∙ sym (ap txRead (head-read (c .before .before .before) ∙ ap (savedIf (be16 s 0) (getD s 2 0) (be32 s 3)) y))
 
 be16-requires : tie.Need-be16-requires
@@ -96,8 +99,8 @@ shared-slice-read-loaded c = search needs
 loaded-requires : tie.Need-loaded-requires
 loaded-requires c κs = search needs
 
-add-t15 : tie.Need-add-t15
-add-t15 c =
+add-t8 : tie.Need-add-t8
+add-t8 c =
     let s = c .before .before .before .before .before .before .before .before .before .before .before .before .before .before .args .s .now in
     let w = found (c .before .before .before .before .before .before) in
     let i = undos-inv (getD s 7 0) (drop 8 s) (w .0) (w .1) in
@@ -125,12 +128,12 @@ read-tx-spec =
     no-tx-requires
     returns
     shared-slice-read-n
+    cast-n
     no-tx-requires-2
     returns-2
     sub-read-undos
     part-read-undos-start
     part-read-undos-end
-    cast-read-undos
     read-undos-requires
     no-tx-requires-3
     returns-3
@@ -138,5 +141,5 @@ read-tx-spec =
     be32-requires
     shared-slice-read-loaded
     loaded-requires
-    add-t15
+    add-t8
     returns-4)

@@ -6,10 +6,9 @@ use lib.ListN.{length, drop, replicate}
 use borrow.Author.Tests.{not-true, not-false}
 use Rattle.log.proofs.Basics.{from}
 use Rattle.transaction.specs.declared.Tx.{Tx}
-use Rattle.transaction.specs.Flat.{emptyTx}
 use Rattle.image.specs.Reading.{readTx, readTxs}
 use Rattle.image.specs.Decode.{txRead, txsRead}
-use Rattle.image.proofs.TxReadings.{txs-stop, txs-within, txs-go}
+use Rattle.image.proofs.TxReadings.{txsFrom, txs-start, txs-stop, txs-within, txs-go}
 use borrow.Author.Needs.{needs}
 use Rattle.image.proofs.read.read_txs.Statement.{statement}
 use Rattle.image.proofs.read.read_txs.Tie as tie
@@ -18,7 +17,7 @@ abbrev Inv-loop : tie.InvT-loop
 Inv-loop s n txs₀ at₀ k₀ txs at k =
     (k ≤ n)
     × (at ≤ length s)
-    × (txsRead (replicate 8 emptyTx) 0 (readTxs n s) ≡ txsRead txs k (readTxs (n - k) (drop at s)))
+    × (txsRead (readTxs n s) ≡ txsFrom txs k (readTxs (n - k) (drop at s)))
 
 abbrev μ-loop : tie.MeasureT-loop
 μ-loop s n txs₀ at₀ k₀ txs at k = n - k
@@ -32,7 +31,7 @@ loop-holds c =
     let z : a .n ≡ a .n - 0 = omega arith in (
       omega arith,
       omega arith,
-      ap₂ (λ (t : Tx) (m : ℕ). txsRead (replicate 8 t) 0 (readTxs m (a .s .now))) (sym (c .empty .ensures)) z,
+      txs-start (readTxs (a .n) (a .s .now)) ∙ ap₂ (λ (t : Tx) (m : ℕ). txsFrom (replicate 8 t) 0 (readTxs m (a .s .now))) (sym (c .empty .ensures)) z,
     )
 
 sub-read-tx : tie.Need-sub-read-tx Inv-loop μ-loop
@@ -48,13 +47,19 @@ read-tx-requires : tie.Need-read-tx-requires Inv-loop μ-loop
 read-tx-requires c κs = search needs
 
 -- what was read at `at`
-read-at : (c : tie.After-read-tx Inv-loop μ-loop) → c .read-tx .result ≡ txRead (readTx (drop (c .before .before .before .loop .at) (c .before .before .before .before .before .before .args .s .now)))
-read-at c = c .read-tx .ensures ∙ ap (λ (l : List ℕ). txRead (readTx l)) (from (c .before .before .before .before .before .before .args .s .now) (c .before .before .before .loop .at))
+read-at : (c : tie.After-read-tx Inv-loop μ-loop)
+    → c .read-tx .result ≡ txRead (readTx (drop (c .before .before .before .loop .at) (c .before .before .before .before .before .before .args .s .now)))
+read-at c = c .read-tx .ensures
+    ∙ ap (λ (l : List ℕ). txRead (readTx l)) (from (c .before .before .before .before .before .before .args .s .now) (c .before .before .before .loop .at))
 
-within : (c : tie.Else1 Inv-loop μ-loop) → c .before .before .before .before .before .loop .at + c .before .before .read-tx .result .size ≤ length (c .before .before .before .before .before .before .before .before .args .s .now)
+within : (c : tie.Else1 Inv-loop μ-loop)
+    → c .before .before .before .before .before .loop .at + c .before .before .read-tx .result .size ≤ length
+    (c .before .before .before .before .before .before .before .before .args .s .now)
 within c =
     let l = c .before .before .before .before .before .loop in
-    txs-within (c .before .before .before .before .before .before .before .before .args .s .now) (l .at) (c .before .before .before .before .before .before .before .before .args .n) (l .k) (c .before .before .before .before .loop-test .taken) (c .before .before .read-tx .result) (read-at (c .before .before)) (l .inv .1) (not-false _ (c .if1 .left))
+    txs-within (c .before .before .before .before .before .before .before .before .args .s .now) (l .at)
+    (c .before .before .before .before .before .before .before .before .args .n) (l .k) (c .before .before .before .before .loop-test .taken)
+    (c .before .before .read-tx .result) (read-at (c .before .before)) (l .inv .1) (not-false _ (c .if1 .left))
 
 no-txs-requires : tie.Need-no-txs-requires Inv-loop μ-loop
 no-txs-requires c κs = search needs
@@ -64,7 +69,8 @@ returns c =
     let a = c .before .before .before .before .before .before .before .before .before .args in
     let l = c .before .before .before .before .before .before .loop in
     c .no-txs .ensures
-    ∙ sym (l .inv .2 ∙ txs-stop (a .s .now) (l .at) (a .n) (l .k) (c .before .before .before .before .before .loop-test .taken) (c .before .before .before .read-tx .result) (read-at (c .before .before .before)) (l .txs) (not-true _ (c .before .if1 .taken)))
+    ∙ sym (l .inv .2 ∙ txs-stop (a .s .now) (l .at) (a .n) (l .k) (c .before .before .before .before .before .loop-test .taken)
+    (c .before .before .before .read-tx .result) (read-at (c .before .before .before)) (l .txs) (not-true _ (c .before .if1 .taken)))
 
 mul-txs : tie.Need-mul-txs Inv-loop μ-loop
 mul-txs c = search needs
@@ -88,7 +94,8 @@ loop-again c =
     let h = c .before .before .before .before .before .before .loop-test .taken in (
       omega arith,
       within (c .before .before),
-      l .inv .2 ∙ txs-go (a .s .now) (l .at) (a .n) (l .k) h (c .before .before .before .before .read-tx .result) (read-at (c .before .before .before .before)) (l .txs) (not-false _ (c .before .before .if1 .left)),
+      l .inv .2 ∙ txs-go (a .s .now) (l .at) (a .n) (l .k) h (c .before .before .before .before .read-tx .result)
+          (read-at (c .before .before .before .before)) (l .txs) (not-false _ (c .before .before .if1 .left)),
     )
 
 returns-2 : tie.Need-returns-2 Inv-loop μ-loop

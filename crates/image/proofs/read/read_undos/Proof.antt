@@ -5,11 +5,11 @@ use mathlib.Core.Path.{_≡_, sym, ap, ap₂, _∙_}
 use lib.ListN.{length, drop}
 use borrow.Author.Tests.{not-true, not-false}
 use Rattle.log.proofs.Basics.{from}
-use Rattle.transaction.specs.declared.Records.{Records}
+use Rattle.transaction.specs.declared.records.Records.{Records}
 use Rattle.transaction.specs.Flat.{emptyRecords}
 use Rattle.image.specs.Reading.{readUndos}
 use Rattle.image.specs.Decode.{undoStep, undosRead}
-use Rattle.image.proofs.Readings.{undos-stop, undos-within, undos-count, undos-go}
+use Rattle.image.proofs.Readings.{undosFrom, undos-start, undos-stop, undos-within, undos-count, undos-go}
 use borrow.Author.Needs.{needs}
 use Rattle.image.proofs.read.read_undos.Statement.{statement}
 use Rattle.image.proofs.read.read_undos.Tie as tie
@@ -19,7 +19,7 @@ Inv-loop s n undo₀ at₀ k₀ undo at k =
     (k ≤ n)
     × (at ≤ length s)
     × (undo .count ≡ k)
-    × (undosRead 0 emptyRecords (readUndos n s) ≡ undosRead at undo (readUndos (n - k) (drop at s)))
+    × (undosRead (readUndos n s) ≡ undosFrom at undo (readUndos (n - k) (drop at s)))
 
 abbrev μ-loop : tie.MeasureT-loop
 μ-loop s n undo₀ at₀ k₀ undo at k = n - k
@@ -35,7 +35,7 @@ loop-holds c =
       omega arith,
       omega arith,
       ap (λ (r : Records). r .count) (c .empty .ensures),
-      ap₂ (λ (r : Records) (m : ℕ). undosRead 0 r (readUndos m (a .s .now))) (sym (c .empty .ensures)) z,
+      undos-start (readUndos (a .n) (a .s .now)) ∙ ap₂ (λ (r : Records) (m : ℕ). undosFrom 0 r (readUndos m (a .s .now))) (sym (c .empty .ensures)) z,
     )
 
 sub-undo-step : tie.Need-sub-undo-step Inv-loop μ-loop
@@ -51,19 +51,28 @@ undo-step-requires : tie.Need-undo-step-requires Inv-loop μ-loop
 undo-step-requires c κs = search needs
 
 -- what the step read at `at`
-read-at : (c : tie.After-undo-step Inv-loop μ-loop) → c .undo-step .result ≡ undoStep (c .before .before .before .loop .undo) (drop (c .before .before .before .loop .at) (c .before .before .before .before .before .before .args .s .now))
-read-at c = c .undo-step .ensures ∙ ap (undoStep (c .before .before .before .loop .undo)) (from (c .before .before .before .before .before .before .args .s .now) (c .before .before .before .loop .at))
+read-at : (c : tie.After-undo-step Inv-loop μ-loop)
+    → c .undo-step .result ≡ undoStep (c .before .before .before .loop .undo)
+    (drop (c .before .before .before .loop .at) (c .before .before .before .before .before .before .args .s .now))
+read-at c = c .undo-step .ensures
+    ∙ ap (undoStep (c .before .before .before .loop .undo))
+    (from (c .before .before .before .before .before .before .args .s .now) (c .before .before .before .loop .at))
 
-within : (c : tie.Else1 Inv-loop μ-loop) → c .before .before .before .before .before .loop .at + c .before .before .undo-step .result .size ≤ length (c .before .before .before .before .before .before .before .before .args .s .now)
+within : (c : tie.Else1 Inv-loop μ-loop)
+    → c .before .before .before .before .before .loop .at + c .before .before .undo-step .result .size ≤ length
+    (c .before .before .before .before .before .before .before .before .args .s .now)
 within c =
     let l = c .before .before .before .before .before .loop in
-    undos-within (c .before .before .before .before .before .before .before .before .args .s .now) (l .at) (l .undo) (c .before .before .before .before .before .before .before .before .args .n) (l .k) (c .before .before .before .before .loop-test .taken) (c .before .before .undo-step .result) (read-at (c .before .before)) (l .inv .1) (not-false _ (c .if1 .left))
+    undos-within (c .before .before .before .before .before .before .before .before .args .s .now) (l .at) (l .undo)
+    (c .before .before .before .before .before .before .before .before .args .n) (l .k) (c .before .before .before .before .loop-test .taken)
+    (c .before .before .undo-step .result) (read-at (c .before .before)) (l .inv .1) (not-false _ (c .if1 .left))
 
 returns : tie.Need-returns Inv-loop μ-loop
 returns c =
     let a = c .before .before .before .before .before .before .before .before .args in
     let l = c .before .before .before .before .before .loop in
-    undos-stop (a .s .now) (l .at) (l .undo) (a .n) (l .k) (c .before .before .before .before .loop-test .taken) (c .before .before .undo-step .result) (read-at (c .before .before)) (not-true _ (c .if1 .taken)) ∙ sym (l .inv .3)
+    undos-stop (a .s .now) (l .at) (l .undo) (a .n) (l .k) (c .before .before .before .before .loop-test .taken) (c .before .before .undo-step .result)
+    (read-at (c .before .before)) (not-true _ (c .if1 .taken)) ∙ sym (l .inv .3)
 
 add-at : tie.Need-add-at Inv-loop μ-loop
 add-at c = omega (arith, within (c .before .before), c .before .before .before .before .before .before .before .before .before .before .good)

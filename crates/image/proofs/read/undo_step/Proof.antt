@@ -37,7 +37,8 @@ in-range-requires c κs = search needs
 
 -- the range rule, of the bytes in place
 ranged : (c : tie.After-in-range) → let s = c .before .before .before .before .before .args .s .now in c .in-range .result ≡ inRange (be16 s 0) (getD s 2 0)
-ranged c = let s = c .before .before .before .before .before .args .s .now in c .in-range .ensures ∙ ap (λ (a : ℕ). inRange a (getD s 2 0)) (c .before .before .be16 .ensures)
+ranged c = let s = c .before .before .before .before .before .args .s .now in c .in-range .ensures
+    ∙ ap (λ (a : ℕ). inRange a (getD s 2 0)) (c .before .before .be16 .ensures)
 
 no-undos-requires-2 : tie.Need-no-undos-requires-2
 no-undos-requires-2 c κs = search needs

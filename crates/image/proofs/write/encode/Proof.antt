@@ -18,21 +18,36 @@ copy-requires c κs = search needs
 
 put-txs-requires : tie.Need-put-txs-requires
 put-txs-requires c κs =
-    let s = c .before .before .before .before .before .before .before .before .before .before .before in
-    (s .pre .0, omega (arith, image-small (s .args .image) (s .pre .0), s .pre .1 .1, c .before .before .before .copy .kept .0, c .before .before .before .before .before .before .before .put-head .kept .0))
+    let s = c .before .before .before .before .before .before .before .before .before .before .before in (
+      s .pre .0,
+      omega (
+        arith,
+        image-small (s .args .image)
+            (s .pre .0),
+        s .pre .1 .1,
+        c .before .before .before .copy .kept .0,
+        c .before .before .before .before .before .before .before .put-head .kept .0,
+      ),
+    )
 
 same-length : tie.Need-same-length
 same-length c = search needs
 
 -- the count that is written is that of the transactions listed
-headed : (c : tie.After-put-head) → let a = c .before .before .before .before .args in c .put-head .last .0 ≡ sets (a .b .now) 0 (encodeHead (contentOf (a .image)))
+headed : (c : tie.After-put-head) → let a =
+    c .before .before .before .before .args in c .put-head .last .0 ≡ sets (a .b .now) 0 (encodeHead (contentOf (a .image)))
 headed c = let i = c .before .before .before .before .args .image in rw (length-up (savedAt (i .txs)) (i .count) 0) (c .put-head .ensures)
 
 returns : tie.Need-returns
 returns c =
     let a = c .before .before .before .before .before .before .before .before .before .before .before .before .before .before .args in
-    let e = c .before .before .put-txs .ensures in
-    (e .0, image-stores (a .b .now) _ _ _ (contentOf (a .image)) (a .memory .now) (c .before .before .before .before .before .before .before .before .before .before .before .before .before .before .pre .1 .0) (headed (c .before .before .before .before .before .before .before .before .before .before)) (c .before .before .before .before .before .before .copy .ensures) (e .1))
+    let e = c .before .before .put-txs .ensures in (
+      e .0,
+      image-stores (a .b .now) _ _ _ (contentOf (a .image)) (a .memory .now)
+          (c .before .before .before .before .before .before .before .before .before .before .before .before .before .before .pre .1 .0)
+          (headed (c .before .before .before .before .before .before .before .before .before .before))
+          (c .before .before .before .before .before .before .copy .ensures) (e .1),
+    )
 
 pub encode-spec : {M : Type 1} → statement M
 encode-spec =

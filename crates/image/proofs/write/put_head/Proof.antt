@@ -22,11 +22,20 @@ slice-write-b c = search needs
 
 same-length : tie.Need-same-length
 same-length c =
-    simp length-set (omega (arith, c .before .before .put162 .kept .0, c .before .before .before .before .before .before .put322 .kept .0, c .before .before .before .before .before .before .before .before .before .before .put32 .kept .0, c .before .before .before .before .before .before .before .before .before .before .before .before .before .before .put16 .kept .0))
+    let last = c .before .before in
+    let third = last .before .before .before .before in
+    let second = third .before .before .before .before in
+    let first = second .before .before .before .before in
+    simp length-set (omega (arith, last .put162 .kept .0, third .put322 .kept .0, second .put32 .kept .0, first .put16 .kept .0))
 
 returns : tie.Need-returns
 returns c =
-    head-stores (c .before .before .before .before .before .before .before .before .before .before .before .before .before .before .before .before .before .args .b .now) _ _ _ _ _ _ _ _ _ (c .before .before .before .before .before .before .before .before .before .before .before .before .before .before .put16 .ensures) (c .before .before .before .before .before .before .before .before .before .before .put32 .ensures) (c .before .before .before .before .before .before .put322 .ensures) (c .before .before .put162 .ensures)
+    let last = c .before .before in
+    let third = last .before .before .before .before in
+    let second = third .before .before .before .before in
+    let first = second .before .before .before .before in
+    head-stores (first .before .before .before .args .b .now) _ _ _ _ _ _ _ _ _ (first .put16 .ensures) (second .put32 .ensures)
+    (third .put322 .ensures) (last .put162 .ensures)
 
 pub put-head-spec : {M : Type 1} → statement M
 put-head-spec =

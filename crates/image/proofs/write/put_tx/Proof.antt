@@ -37,12 +37,22 @@ add-put-undos c = search needs
 put-undos-requires : tie.Need-put-undos-requires
 put-undos-requires c κs =
     let k = simp length-set at (c .before .before .before .before .put32 .kept .0) in
-    (c .before .before .before .before .before .before .before .before .before .before .before .pre .0, simp length-set (omega (arith, k, c .before .before .before .before .before .before .before .before .put16 .kept .0, c .before .before .before .before .before .before .before .before .before .before .before .pre .1)))
+    let id = c .before .before .before .before .before .before .before .before in
+    let s = id .before .before .before in (
+      s .pre .0,
+      simp length-set (omega (arith, k, id .put16 .kept .0, s .pre .1)),
+    )
 
 same-length : tie.Need-same-length
 same-length c =
     let k = simp length-set at (c .before .before .before .before .before .before .before .put32 .kept .0) in
-    omega (arith, simp length-set at (c .before .before .put-undos .kept .0), k, c .before .before .before .before .before .before .before .before .before .before .before .put16 .kept .0)
+    omega (
+      arith,
+      simp length-set at
+          (c .before .before .put-undos .kept .0),
+      k,
+      c .before .before .before .before .before .before .before .before .before .before .before .put16 .kept .0,
+    )
 
 returns : tie.Need-returns
 returns c =
@@ -50,7 +60,9 @@ returns c =
     let r = a .t .undo in
     let e = c .before .before .put-undos .ensures in (
       omega (arith, e .0),
-      tx-stores (a .b .now) _ _ _ (a .at) (a .t .id .0) (a .t .status) (a .t .csn .0) (r .count) (writesOf r) (c .before .before .before .before .before .before .before .before .before .before .before .put16 .ensures) (c .before .before .before .before .before .before .before .put32 .ensures) (e .1)
+      tx-stores (a .b .now) _ _ _ (a .at) (a .t .id .0) (a .t .status) (a .t .csn .0) (r .count) (writesOf r)
+          (c .before .before .before .before .before .before .before .before .before .before .before .put16 .ensures)
+          (c .before .before .before .before .before .before .before .put32 .ensures) (e .1)
           (ap length (writes-up (r .addr) (r .len) (r .bytes) (r .count) 0) ∙ length-up (undoAt r) (r .count) 0),
     )
 

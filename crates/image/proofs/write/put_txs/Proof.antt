@@ -50,8 +50,11 @@ turn-size c = tx-size (c .before .before .before .args .t3 .txs) (c .before .bef
 put-tx-requires : tie.Need-put-tx-requires Inv-loop μ-loop
 put-tx-requires c κs =
     let i = c .before .before .before .before .before .args .t3 in
-    let l = c .before .before .before .loop in
-    (undo-at i (c .before .before .before .before .before .pre .0) (l .i) (c .before .before .loop-test .taken), omega (arith, turn-size (c .before .before), l .inv .1, l .inv .2, c .before .before .before .before .before .pre .1))
+    let l = c .before .before .before .loop in (
+      undo-at i (c .before .before .before .before .before .pre .0) (l .i) (c .before .before .loop-test .taken),
+      omega
+          (arith, turn-size (c .before .before), l .inv .1, l .inv .2, c .before .before .before .before .before .pre .1),
+    )
 
 add-i : tie.Need-add-i Inv-loop μ-loop
 add-i c = search needs

@@ -29,7 +29,8 @@ same-length c = omega (arith, simp length-set at (c .before .before .copy .kept 
 returns : tie.Need-returns
 returns c =
     let a = c .before .before .before .before .before .before .before .before .before .before .args in
-    undo-stores (a .b .now) _ _ (a .at) (a .addr) (a .src .now) (c .before .before .before .before .before .before .put16 .ensures) (c .before .before .copy .ensures)
+    undo-stores (a .b .now) _ _ (a .at) (a .addr) (a .src .now) (c .before .before .before .before .before .before .put16 .ensures)
+    (c .before .before .copy .ensures)
 
 pub put-undo-spec : {M : Type 1} → statement M
 put-undo-spec =

@@ -82,7 +82,8 @@ turn-size : (c : tie.After-put-undo-arg2 Inv-loop μ-loop)
     ≡ 3 + getD (r .len) i 0 + undosSize (writesFrom (r .addr) (r .len) (r .bytes) (r .count - (i + 1)) (i + 1))
 turn-size c =
     let r = c .before .before .before .before .before .before .before .before .before .before .args .undo in
-    undo-size (r .addr) (r .len) (r .bytes) (r .count) (c .before .before .before .before .loop .i) (c .before .before .before .loop-test .taken) (c .put-undo-arg2 .given .2)
+    undo-size (r .addr) (r .len) (r .bytes) (r .count) (c .before .before .before .before .loop .i) (c .before .before .before .loop-test .taken)
+    (c .put-undo-arg2 .given .2)
 
 put-undo-requires : tie.Need-put-undo-requires Inv-loop μ-loop
 put-undo-requires c κs =
@@ -96,7 +97,9 @@ add-o c = let h = placed (c .before .before .before .before .before .before) in 
 
 add-o-2 : tie.Need-add-o-2 Inv-loop μ-loop
 add-o-2 c =
-    omega (arith, turn-size (c .before .before .before), c .before .before .before .before .before .before .before .loop .inv .2, c .before .before .before .before .before .before .before .before .before .before .before .before .before .pre .1, c .before .before .before .before .before .before .before .before .before .before .before .before .before .good .0)
+    let at = c .before .before .before .before .before .before .before in
+    let s = at .before .before .before .before .before .before in
+    omega (arith, turn-size (c .before .before .before), at .loop .inv .2, s .pre .1, s .good .0)
 
 add-i : tie.Need-add-i Inv-loop μ-loop
 add-i c = omega arith
@@ -112,7 +115,8 @@ loop-again c =
       omega arith,
       c .before .before .put-undo .kept .0 ∙ v .1,
       omega (arith, turn-size (c .before .before .before), v .2),
-      v .3 ∙ undo-turn (r .addr) (r .len) (r .bytes) (r .count) (l .i) (c .before .before .before .before .before .before .loop-test .taken) (c .before .before .before .put-undo-arg2 .given .2) (l .o) (l .b) (c .before .before .put-undo .last .0) (c .before .before .put-undo .ensures),
+      v .3 ∙ undo-turn (r .addr) (r .len) (r .bytes) (r .count) (l .i) (c .before .before .before .before .before .before .loop-test .taken)
+          (c .before .before .before .put-undo-arg2 .given .2) (l .o) (l .b) (c .before .before .put-undo .last .0) (c .before .before .put-undo .ensures),
     )
 
 same-length : tie.Need-same-length Inv-loop μ-loop

@@ -72,16 +72,21 @@ size-turn c = redo-size _ _ _ _ _ (c .before .before .before .before .loop-test 
 
 put-redo-requires : tie.Need-put-redo-requires Inv-loop μ-loop
 put-redo-requires c κs =
-    let inv = c .before .before .before .before .before .loop .inv in
-    (omega (arith, short (c .before .before .before .before)), omega (arith, size-turn c, c .before .before .before .before .before .before .before .before .before .before .pre .1 .1))
+    let inv = c .before .before .before .before .before .loop .inv in (
+      omega (arith, short (c .before .before .before .before)),
+      omega
+          (arith, size-turn c, c .before .before .before .before .before .before .before .before .before .before .pre .1 .1),
+    )
 
 add-o : tie.Need-add-o Inv-loop μ-loop
 add-o c = omega (arith, short (c .before .before .before .before .before .before .before))
 
 add-o-2 : tie.Need-add-o-2 Inv-loop μ-loop
 add-o-2 c =
-    let inv = c .before .before .before .before .before .before .before .before .loop .inv in
-    omega (arith, size-turn (c .before .before .before), c .before .before .before .before .before .before .before .before .before .before .before .before .before .pre .1 .1, c .before .before .before .before .before .before .before .before .before .before .before .before .before .good .0)
+    let at = c .before .before .before .before .before .before .before .before in
+    let inv = at .loop .inv in
+    let s = at .before .before .before .before .before in
+    omega (arith, size-turn (c .before .before .before), s .pre .1 .1, s .good .0)
 
 add-i : tie.Need-add-i Inv-loop μ-loop
 add-i c = omega (arith, aside (c .before .before .before .before .before .before .before))
@@ -104,7 +109,8 @@ none-left : (c : tie.After-loop Inv-loop μ-loop) → c .before .before .before 
 none-left c = omega (arith, c .loop-test .left)
 
 size-left : (c : tie.After-loop Inv-loop μ-loop)
-    → let a = c .before .before .before .before .before .before .args in redoSize (writesFrom (a .addr .now) (a .len .now) (a .bytes .now) (a .n - c .before .loop .i) (c .before .loop .i)) ≡ 0
+    → let a = c .before .before .before .before .before .before .args in redoSize
+    (writesFrom (a .addr .now) (a .len .now) (a .bytes .now) (a .n - c .before .loop .i) (c .before .loop .i)) ≡ 0
 size-left c = rw (none-left c)
 
 put-commit-requires : tie.Need-put-commit-requires Inv-loop μ-loop
@@ -112,18 +118,13 @@ put-commit-requires c κs =
     let inv = c .before .before .loop .inv in
     omega (arith, size-left (c .before), c .before .before .before .before .before .before .before .pre .1 .1)
 
-add-result : tie.Need-add-result Inv-loop μ-loop
-add-result c =
-    let inv = c .before .before .before .before .before .loop .inv in
-    omega (arith, size-left (c .before .before .before .before), c .before .before .before .before .before .before .before .before .before .before .pre .1 .1, c .before .before .before .before .before .before .before .before .before .before .good .0)
-
 same-length : tie.Need-same-length Inv-loop μ-loop
 same-length c = c .before .before .put-commit .kept .0 ∙ c .before .before .before .before .before .loop .inv .1
 
 returns : tie.Need-returns Inv-loop μ-loop
 returns c =
     let inv = c .before .before .before .before .before .loop .inv in
-    (omega (arith, size-left (c .before .before .before .before)), c .before .before .put-commit .ensures ∙ sym (inv .3 ∙ rw (none-left (c .before .before .before .before))))
+    c .before .before .put-commit .ensures ∙ sym (inv .3 ∙ rw (none-left (c .before .before .before .before)))
 
 pub put-group-spec : {M : Type 1} → statement M
 put-group-spec =
@@ -148,6 +149,5 @@ put-group-spec =
     loop-less
     loop-again
     put-commit-requires
-    add-result
     same-length
     returns)

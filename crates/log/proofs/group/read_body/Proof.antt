@@ -1,29 +1,32 @@
 use Prim.Native.Nat.{ℕ, _+_, _-_, _≤_}
 use native.Mathlib.Omega.{arith}
 use borrow.Author.Needs.{needs}
-use mathlib.Core.Path.{_≡_, refl, sym, ap, _∙_}
+use mathlib.Core.Path.{_≡_, sym, ap, _∙_}
 use lib.ListN.{length, drop, length-drop}
 use denote.Ref.{now}
 use mathlib.Core.List.{List}
 use mathlib.Core.Option.{some}
 use Rattle.log.specs.Record.{redo, commit, readRecord, headOf}
+use Rattle.log.specs.Group.{readBody, committedIf, endOf}
 use Rattle.recovery.specs.Group.{Write}
 use Rattle.log.proofs.Basics.{from, Turned}
 use Rattle.log.proofs.RecordLaws.{record-within}
-use Rattle.log.proofs.GroupLaws.{bodyEnd, body-none, body-abort, body-other-redo, body-other-commit, body-other-csn, body-turn, body-last}
-use Rattle.log.proofs.Answers.{head-redo, head-commit, head-abort, head-nothing}
+use Rattle.log.proofs.GroupLaws.{bodyEnd, body-start, body-none, body-abort, body-other-redo, body-other-commit, body-other-csn, body-turn, body-last}
+use Rattle.log.proofs.Inversions.{head-redo, head-commit, head-abort, head-nothing}
 use Rattle.log.proofs.group.read_body.Statement.{statement}
 use Rattle.log.proofs.group.read_body.Tie as tie
 
 abbrev Inv-loop : tie.InvT-loop
 Inv-loop s id prev at₀ at =
-    (at ≤ length s) × (bodyEnd (prev .0) (id .0) 0 s ≡ bodyEnd (prev .0) (id .0) at (drop at s))
+    (at ≤ length s) × (endOf (committedIf (id .0) (prev .0 + 1) (readBody (prev .0) (id .0) s)) ≡ bodyEnd (prev .0) (id .0) at (drop at s))
 
 abbrev μ-loop : tie.MeasureT-loop
 μ-loop s id prev at₀ at = length s - at
 
 loop-holds : tie.Need-loop-holds Inv-loop μ-loop
-loop-holds c = (omega arith, refl)
+loop-holds c =
+    let a = c .before .args in
+    (omega arith, body-start (committedIf (a .id .0) (a .prev .0 + 1) (readBody (a .prev .0) (a .id .0) (a .s .now))))
 
 sub-read-record : tie.Need-sub-read-record Inv-loop μ-loop
 sub-read-record c = search needs
@@ -56,7 +59,8 @@ redo-at : (c : tie.After-head Inv-loop μ-loop)
 redo-at c = head-redo _ _ _ _ (sym (read-at (c .before .before)) ∙ c .head .given .1)
 
 commit-at : (c : tie.After-head2 Inv-loop μ-loop)
-    → readRecord (drop (c .before .before .before .before .loop .at) (c .before .before .before .before .before .before .args .s .now)) ≡ some (commit (c .head2 .given .0 .0 .0) (c .head2 .given .0 .1 .0 .0))
+    → readRecord (drop (c .before .before .before .before .loop .at) (c .before .before .before .before .before .before .args .s .now))
+    ≡ some (commit (c .head2 .given .0 .0 .0) (c .head2 .given .0 .1 .0 .0))
 commit-at c = head-commit _ _ _ (sym (read-at (c .before .before)) ∙ c .head2 .given .1)
 
 returns : tie.Need-returns Inv-loop μ-loop
@@ -95,13 +99,15 @@ enum-known-head-2 : tie.Need-enum-known-head-2 Inv-loop μ-loop
 enum-known-head-2 c = search needs
 
 returns-2 : tie.Need-returns-2 Inv-loop μ-loop
-returns-2 c = sym (c .before .before .before .before .before .before .before .before .loop .inv .1 ∙ body-other-commit _ _ _ _ _ _ (commit-at (c .before .before .before .before)) (c .if2 .taken))
+returns-2 c = sym (c .before .before .before .before .before .before .before .before .loop .inv .1
+    ∙ body-other-commit _ _ _ _ _ _ (commit-at (c .before .before .before .before)) (c .if2 .taken))
 
 returns-3 : tie.Need-returns-3 Inv-loop μ-loop
 returns-3 c =
     sym
     (c .before .before .before .before .before .before .before .before .before .before .before .loop .inv .1
-    ∙ body-other-csn _ _ _ _ _ _ (commit-at (c .before .before .before .before .before .before .before)) (c .before .before .before .if2 .left) (λ e. omega (arith, e, c .if3 .taken)))
+    ∙ body-other-csn _ _ _ _ _ _ (commit-at (c .before .before .before .before .before .before .before)) (c .before .before .before .if2 .left)
+    (λ e. omega (arith, e, c .if3 .taken)))
 
 sub-if4 : tie.Need-sub-if4 Inv-loop μ-loop
 sub-if4 c = search needs
@@ -110,32 +116,37 @@ returns-4 : tie.Need-returns-4 Inv-loop μ-loop
 returns-4 c =
     sym
     (c .before .before .before .before .before .before .before .before .before .before .before .before .before .before .loop .inv .1
-    ∙ body-other-csn _ _ _ _ _ _ (commit-at (c .before .before .before .before .before .before .before .before .before .before)) (c .before .before .before .before .before .before .if2 .left) (λ e. c .if4 .taken (omega (arith, e))))
+    ∙ body-other-csn _ _ _ _ _ _ (commit-at (c .before .before .before .before .before .before .before .before .before .before))
+    (c .before .before .before .before .before .before .if2 .left) (λ e. c .if4 .taken (omega (arith, e))))
 
 add-t19 : tie.Need-add-t19 Inv-loop μ-loop
 add-t19 c =
     let s = c .before .before .before .before .before .before .before .before .before .before .before .before .before .before .before .before .args .s .now in
     let at = c .before .before .before .before .before .before .before .before .before .before .before .before .before .before .loop .at in
-    let l : 8 ≤ length s - at = rw length-drop at (record-within (drop at s) _ (commit-at (c .before .before .before .before .before .before .before .before .before .before))) in
+    let l : 8 ≤ length s - at = rw length-drop at
+    (record-within (drop at s) _ (commit-at (c .before .before .before .before .before .before .before .before .before .before))) in
     omega (arith, c .before .before .before .before .before .before .before .before .before .before .before .before .before .before .before .before .good)
 
 returns-5 : tie.Need-returns-5 Inv-loop μ-loop
 returns-5 c =
     sym
     (c .before .before .before .before .before .before .before .before .before .before .before .before .before .before .loop .inv .1
-    ∙ body-last _ _ _ _ _ _ (commit-at (c .before .before .before .before .before .before .before .before .before .before)) (c .before .before .before .before .before .before .if2 .left) (omega (arith, c .if4 .left, c .before .before .before .if3 .left)))
+    ∙ body-last _ _ _ _ _ _ (commit-at (c .before .before .before .before .before .before .before .before .before .before))
+    (c .before .before .before .before .before .before .if2 .left) (omega (arith, c .if4 .left, c .before .before .before .if3 .left)))
 
 enum-told : tie.Need-enum-told Inv-loop μ-loop
 enum-told c = search needs
 
 returns-6 : tie.Need-returns-6 Inv-loop μ-loop
-returns-6 c = sym (c .before .before .before .before .loop .inv .1 ∙ body-abort _ _ _ _ _ (head-abort _ _ (sym (read-at (c .before .before)) ∙ c .enum-told .given .1)))
+returns-6 c = sym (c .before .before .before .before .loop .inv .1
+    ∙ body-abort _ _ _ _ _ (head-abort _ _ (sym (read-at (c .before .before)) ∙ c .enum-told .given .1)))
 
 enum-told-2 : tie.Need-enum-told-2 Inv-loop μ-loop
 enum-told-2 c = search needs
 
 returns-7 : tie.Need-returns-7 Inv-loop μ-loop
-returns-7 c = sym (c .before .before .before .before .loop .inv .1 ∙ body-none _ _ _ _ (head-nothing _ (sym (read-at (c .before .before)) ∙ c .enum-told2 .given .1)))
+returns-7 c = sym (c .before .before .before .before .loop .inv .1
+    ∙ body-none _ _ _ _ (head-nothing _ (sym (read-at (c .before .before)) ∙ c .enum-told2 .given .1)))
 
 pub read-body-spec : {M : Type 1} → statement M
 read-body-spec =

@@ -2,7 +2,7 @@ use borrow.Author.Needs.{needs}
 use mathlib.Core.Path.{sym, ap, _∙_}
 use Rattle.log.specs.Group.{endOf}
 use Rattle.log.proofs.GroupLaws.{group-redo, group-commit, group-abort, group-none}
-use Rattle.log.proofs.Answers.{head-redo, head-commit, head-abort, head-nothing}
+use Rattle.log.proofs.Inversions.{head-redo, head-commit, head-abort, head-nothing}
 use Rattle.log.proofs.group.read_group.Statement.{statement}
 use Rattle.log.proofs.group.read_group.Tie as tie
 
@@ -30,22 +30,22 @@ enum-told c = search needs
 returns : tie.Need-returns
 returns c =
     let w = head-redo _ _ _ _ (sym (c .before .before .before .before .read-record .ensures) ∙ c .before .before .head .given .1) in
-    c .read-body .ensures ∙ ap (endOf 0) (sym (group-redo _ _ _ (w .0) (w .1)))
+    c .read-body .ensures ∙ ap endOf (sym (group-redo _ _ _ (w .0) (w .1)))
 
 returns-2 : tie.Need-returns-2
 returns-2 c =
     let e = head-commit _ _ _ (sym (c .before .before .before .before .read-record .ensures) ∙ c .before .before .head2 .given .1) in
-    c .read-body2 .ensures ∙ ap (endOf 0) (sym (group-commit _ _ _ _ e))
+    c .read-body2 .ensures ∙ ap endOf (sym (group-commit _ _ _ _ e))
 
 returns-3 : tie.Need-returns-3
 returns-3 c =
     let e = head-abort _ _ (sym (c .before .before .before .read-record .ensures) ∙ c .before .head3 .given .1) in
-    ap (endOf 0) (sym (group-abort _ _ _ e))
+    ap endOf (sym (group-abort _ _ _ e))
 
 returns-4 : tie.Need-returns-4
 returns-4 c =
     let e = head-nothing _ (sym (c .before .before .read-record .ensures) ∙ c .enum-told .given .1) in
-    ap (endOf 0) (sym (group-none _ _ e))
+    ap endOf (sym (group-none _ _ e))
 
 pub read-group-spec : {M : Type 1} → statement M
 read-group-spec =

@@ -27,7 +27,8 @@ slice-write-b-2 : tie.Need-slice-write-b-2
 slice-write-b-2 c = omega (arith, c .before .before .put32 .kept .0, simp length-set at (c .before .before .before .before .before .before .put16 .kept .0))
 
 same-length : tie.Need-same-length
-same-length c = simp length-set (omega (arith, c .before .before .put32 .kept .0, simp length-set at (c .before .before .before .before .before .before .put16 .kept .0)))
+same-length c = simp length-set
+    (omega (arith, c .before .before .put32 .kept .0, simp length-set at (c .before .before .before .before .before .before .put16 .kept .0)))
 
 returns : tie.Need-returns
 returns c = rw (c .before .before .put32 .ensures) (rw (c .before .before .before .before .before .before .put16 .ensures) (simp towards-suc))

@@ -33,7 +33,13 @@ add-copy : tie.Need-add-copy
 add-copy c = search needs
 
 copy-requires : tie.Need-copy-requires
-copy-requires c κs = simp length-set (omega (arith, c .before .before .before .put162 .kept .0, simp length-set at (c .before .before .before .before .before .before .before .put16 .kept .0)))
+copy-requires c κs = simp length-set
+    (omega (
+      arith,
+      c .before .before .before .put162 .kept .0,
+      simp length-set at
+          (c .before .before .before .before .before .before .before .put16 .kept .0),
+    ))
 
 add-b-2 : tie.Need-add-b-2
 add-b-2 c = search needs
@@ -42,15 +48,32 @@ add-b-3 : tie.Need-add-b-3
 add-b-3 c = search needs
 
 slice-write-b-3 : tie.Need-slice-write-b-3
-slice-write-b-3 c = omega (arith, simp length-set at (c .before .before .copy .kept .0), c .before .before .before .before .before .before .put162 .kept .0, simp length-set at (c .before .before .before .before .before .before .before .before .before .before .put16 .kept .0))
+slice-write-b-3 c = omega (
+  arith,
+  simp length-set at
+      (c .before .before .copy .kept .0),
+  c .before .before .before .before .before .before .put162 .kept .0,
+  simp length-set at
+      (c .before .before .before .before .before .before .before .before .before .before .put16 .kept .0),
+)
 
 same-length : tie.Need-same-length
-same-length c = simp length-set (omega (arith, simp length-set at (c .before .before .copy .kept .0), c .before .before .before .before .before .before .put162 .kept .0, simp length-set at (c .before .before .before .before .before .before .before .before .before .before .put16 .kept .0)))
+same-length c = simp length-set
+    (omega (
+      arith,
+      simp length-set at
+          (c .before .before .copy .kept .0),
+      c .before .before .before .before .before .before .put162 .kept .0,
+      simp length-set at
+          (c .before .before .before .before .before .before .before .before .before .before .put16 .kept .0),
+    ))
 
 returns : tie.Need-returns
 returns c =
     let a = c .before .before .before .before .before .before .before .before .before .before .before .before .before .before .args in
-    redo-stores (a .b .now) (a .at) (a .id .0) (a .addr) (a .src .now) _ _ _ (c .before .before .before .before .before .before .before .before .before .before .put16 .ensures) (c .before .before .before .before .before .before .put162 .ensures) (c .before .before .copy .ensures)
+    redo-stores (a .b .now) (a .at) (a .id .0) (a .addr) (a .src .now) _ _ _
+    (c .before .before .before .before .before .before .before .before .before .before .put16 .ensures)
+    (c .before .before .before .before .before .before .put162 .ensures) (c .before .before .copy .ensures)
 
 pub put-redo-spec : {M : Type 1} → statement M
 put-redo-spec =

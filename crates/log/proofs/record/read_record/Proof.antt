@@ -22,7 +22,8 @@ returns-2 c = ap headOf (sym (record-none _ (sym (c .before .be16 .ensures) ∙ 
 -- with an id, the kind decides
 by-kind : (c : tie.Else2)
     → readRecord (c .before .before .before .before .before .args .s .now)
-    ≡ readKind (getD (c .before .before .before .before .before .args .s .now) 0 0) (c .before .be16 .result) (c .before .before .before .before .before .args .s .now)
+    ≡ readKind (getD (c .before .before .before .before .before .args .s .now) 0 0) (c .before .be16 .result)
+    (c .before .before .before .before .before .args .s .now)
 by-kind c = record-by _ _ _ refl (sym (c .before .be16 .ensures)) (ne-eqb _ _ (c .if2 .left))
 
 read-redo-requires : tie.Need-read-redo-requires

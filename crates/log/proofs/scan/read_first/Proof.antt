@@ -3,22 +3,25 @@ use native.Mathlib.Omega.{arith}
 use borrow.Author.Needs.{needs}
 use mathlib.Core.List.{List}
 use mathlib.Core.Path.{_≡_, refl, sym, ap, _∙_}
-use lib.ListN.{length, drop}
+use lib.ListN.{length, take, drop}
 use Rattle.log.specs.Group.{readGroup, endOf}
+use Rattle.log.specs.Log.{readLog, logEndOf}
 use Rattle.log.proofs.Basics.{from, Turned}
-use Rattle.log.proofs.LogLaws.{firstEnd, first-zero, first-none, first-turn}
-use Rattle.log.proofs.Answers.{end-aborted, end-committed, end-none}
+use Rattle.log.proofs.LogLaws.{firstEnd, first-start, first-zero, first-none, first-turn}
+use Rattle.log.proofs.Inversions.{end-aborted, end-committed, end-none}
 use Rattle.log.proofs.scan.read_first.Statement.{statement}
 use Rattle.log.proofs.scan.read_first.Tie as tie
 
 abbrev Inv-loop : tie.InvT-loop
-Inv-loop s k at₀ csn₀ left₀ at csn left = (at ≤ length s) × (firstEnd 0 (csn₀ .0) k s ≡ firstEnd at (csn .0) left (drop at s))
+Inv-loop s k at₀ csn₀ left₀ at csn left = (at ≤ length s) × (logEndOf (csn₀ .0) (take k (readLog (csn₀ .0) s)) ≡ firstEnd at (csn .0) left (drop at s))
 
 abbrev μ-loop : tie.MeasureT-loop
 μ-loop s k at₀ csn₀ left₀ at csn left = left
 
 loop-holds : tie.Need-loop-holds Inv-loop μ-loop
-loop-holds c = (omega arith, refl)
+loop-holds c =
+    let a = c .before .args in
+    (omega arith, first-start (a .prev .0) (take (a .k) (readLog (a .prev .0) (a .s .now))))
 
 sub-left : tie.Need-sub-left Inv-loop μ-loop
 sub-left c = omega arith
@@ -37,10 +40,13 @@ read-group-requires c κs = search needs
 
 -- what was read at `at`
 read-at : (c : tie.After-read-group Inv-loop μ-loop)
-    → c .read-group .result ≡ endOf 0 (readGroup (c .before .before .before .loop .csn .0) (drop (c .before .before .before .loop .at) (c .before .before .before .before .before .args .s .now)))
+    → c .read-group .result ≡ endOf
+    (readGroup (c .before .before .before .loop .csn .0)
+    (drop (c .before .before .before .loop .at) (c .before .before .before .before .before .args .s .now)))
 read-at c =
     c .read-group .ensures
-    ∙ ap (λ (t : List ℕ). endOf 0 (readGroup (c .before .before .before .loop .csn .0) t)) (from (c .before .before .before .before .before .args .s .now) (c .before .before .before .loop .at))
+    ∙ ap (λ (t : List ℕ). endOf (readGroup (c .before .before .before .loop .csn .0) t))
+    (from (c .before .before .before .before .before .args .s .now) (c .before .before .before .loop .at))
 
 -- over an abort, over a commit
 over-abort : (c : tie.After-found Inv-loop μ-loop)
@@ -90,7 +96,8 @@ enum-told : tie.Need-enum-told Inv-loop μ-loop
 enum-told c = search needs
 
 returns : tie.Need-returns Inv-loop μ-loop
-returns c = sym (c .before .before .before .before .before .loop .inv .1 ∙ first-none _ _ (c .before .before .before .before .before .loop .left) _ (end-none _ (sym (read-at (c .before .before)) ∙ c .enum-told .given .1)))
+returns c = sym (c .before .before .before .before .before .loop .inv .1
+    ∙ first-none _ _ (c .before .before .before .before .before .loop .left) _ (end-none _ (sym (read-at (c .before .before)) ∙ c .enum-told .given .1)))
 
 returns-2 : tie.Need-returns-2 Inv-loop μ-loop
 returns-2 c = sym (c .before .loop .inv .1 ∙ first-zero _ _ (c .before .loop .left) _ (omega (arith, c .loop-test .left)))

@@ -1,7 +1,5 @@
 use borrow.Author.Needs.{needs}
-use mathlib.Core.List.{List}
 use mathlib.Core.Path.{ap, _∙_}
-use Rattle.recovery.specs.Group.{Group}
 use Rattle.log.specs.Log.{logEndOf}
 use Rattle.log.proofs.LogLaws.{log-whole}
 use Rattle.log.proofs.scan.read_log.Statement.{statement}
@@ -11,7 +9,7 @@ read-first-requires : tie.Need-read-first-requires
 read-first-requires c κs = search needs
 
 returns : tie.Need-returns
-returns c = c .read-first .ensures ∙ ap (λ (gs : List Group). logEndOf 0 (c .before .before .args .prev .0) gs) (log-whole _ _)
+returns c = c .read-first .ensures ∙ ap (logEndOf (c .before .before .args .prev .0)) (log-whole _ _)
 
 pub read-log-spec : {M : Type 1} → statement M
 read-log-spec = tie.close (tie.spec read-first-requires returns)

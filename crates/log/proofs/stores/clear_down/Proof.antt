@@ -20,7 +20,8 @@ abbrev μ-loop : tie.MeasureT-loop
 μ-loop b₀ low allowed at₀ left₀ b at left = at
 
 -- how many stores there are to make
-stores-made : (c : tie.Start Inv-loop μ-loop) → length (clears (c .args .low) (length (c .args .b .now) - c .args .low)) ≡ length (c .args .b .now) - c .args .low
+stores-made : (c : tie.Start Inv-loop μ-loop)
+    → length (clears (c .args .low) (length (c .args .b .now) - c .args .low)) ≡ length (c .args .b .now) - c .args .low
 stores-made c = length-clears _ _
 
 loop-holds : tie.Need-loop-holds Inv-loop μ-loop
@@ -30,7 +31,12 @@ same-length : tie.Need-same-length Inv-loop μ-loop
 same-length c = omega arith
 
 returns : tie.Need-returns Inv-loop μ-loop
-returns c = (omega (arith, stores-made (c .before .before .before)), sym (c .before .before .loop .inv .5 ∙ clears-none (c .before .before .loop .left) (c .before .before .loop .at) (c .before .before .before .args .low) _ (c .if1 .taken)))
+returns c = (
+  omega (arith, stores-made (c .before .before .before)),
+  sym
+      (c .before .before .loop .inv .5
+      ∙ clears-none (c .before .before .loop .left) (c .before .before .loop .at) (c .before .before .before .args .low) _ (c .if1 .taken)),
+)
 
 sub-at : tie.Need-sub-at Inv-loop μ-loop
 sub-at c = omega arith
@@ -51,7 +57,8 @@ loop-again c = (
   simp length-set (omega arith),
   omega arith,
   omega arith,
-  c .before .before .loop .inv .5 ∙ clears-step (c .before .before .loop .left) (c .before .before .loop .at) (c .before .before .before .args .low) _ (omega arith) (omega arith),
+  c .before .before .loop .inv .5
+      ∙ clears-step (c .before .before .loop .left) (c .before .before .loop .at) (c .before .before .before .args .low) _ (omega arith) (omega arith),
 )
 
 sub-result : tie.Need-sub-result Inv-loop μ-loop
@@ -61,7 +68,11 @@ same-length-2 : tie.Need-same-length-2 Inv-loop μ-loop
 same-length-2 c = omega arith
 
 returns-2 : tie.Need-returns-2 Inv-loop μ-loop
-returns-2 c = (omega (arith, stores-made (c .before .before)), sym (c .before .loop .inv .5 ∙ clears-done (c .before .loop .left) (c .before .loop .at) (c .before .before .args .low) _ (c .loop-test .left)))
+returns-2 c = (
+  omega (arith, stores-made (c .before .before)),
+  sym
+      (c .before .loop .inv .5 ∙ clears-done (c .before .loop .left) (c .before .loop .at) (c .before .before .args .low) _ (c .loop-test .left)),
+)
 
 pub clear-down-spec : {M : Type 1} → statement M
 clear-down-spec =

@@ -30,8 +30,11 @@ loop-less : tie.Need-loop-less Inv-loop μ-loop
 loop-less c = omega (arith, length-now (c .before))
 
 loop-again : tie.Need-loop-again Inv-loop μ-loop
-loop-again c =
-    (omega (arith, length-now (c .before)), rw (c .before .loop .inv .1) (fill-more (c .before .before .args .value) (c .before .before .args .b .now) (c .before .loop .i) (omega (arith, length-now (c .before)))))
+loop-again c = (
+  omega (arith, length-now (c .before)),
+  rw (c .before .loop .inv .1)
+      (fill-more (c .before .before .args .value) (c .before .before .args .b .now) (c .before .loop .i) (omega (arith, length-now (c .before)))),
+)
 
 same-length : tie.Need-same-length Inv-loop μ-loop
 same-length c = length-now (c .before)
@@ -41,7 +44,8 @@ returns c =
     let b = c .before .before .args .b .now in
     let v = c .before .before .args .value in
     c .before .loop .inv .1
-    ∙ ap (sets b 0) (take-all (c .before .loop .i) (replicate (length b) v) (rw (length-replicate {A = ℕ} (length b) v) (omega (arith, length-now (c .before)))))
+    ∙ ap (sets b 0) (take-all (c .before .loop .i) (replicate (length b) v)
+    (rw (length-replicate {A = ℕ} (length b) v) (omega (arith, length-now (c .before)))))
     ∙ sets-all (replicate (length b) v) b (length-replicate (length b) v)
 
 pub fill-spec : {M : Type 1} → statement M

@@ -25,7 +25,9 @@ same-length : tie.Need-same-length Inv-loop μ-loop
 same-length c = c .before .before .fill-zero .kept .0
 
 returns : tie.Need-returns Inv-loop μ-loop
-returns c = c .before .before .fill-zero .ensures ∙ shift-all (c .before .before .before .before .before .before .args .b .now) (c .before .before .before .before .before .before .args .n) (c .before .before .before .before .if1 .taken)
+returns c = c .before .before .fill-zero .ensures
+    ∙ shift-all (c .before .before .before .before .before .before .args .b .now) (c .before .before .before .before .before .before .args .n)
+    (c .before .before .before .before .if1 .taken)
 
 sub-keep : tie.Need-sub-keep Inv-loop μ-loop
 sub-keep c = omega arith
@@ -49,8 +51,12 @@ loop-less : tie.Need-loop-less Inv-loop μ-loop
 loop-less c = omega arith
 
 loop-again : tie.Need-loop-again Inv-loop μ-loop
-loop-again c =
-    (omega arith, rw (c .before .before .loop .inv .1) (shift-more (c .before .before .before .before .before .args .b .now) (c .before .before .before .before .before .args .n) (c .before .before .loop .i) (omega (arith, c .before .before .before .if1 .left))))
+loop-again c = (
+  omega arith,
+  rw (c .before .before .loop .inv .1)
+      (shift-more (c .before .before .before .before .before .args .b .now) (c .before .before .before .before .before .args .n)
+      (c .before .before .loop .i) (omega (arith, c .before .before .before .if1 .left))),
+)
 
 sub-fill-zero : tie.Need-sub-fill-zero Inv-loop μ-loop
 sub-fill-zero c = omega (arith, length-now (c .before))
@@ -66,11 +72,16 @@ fill-zero-requires-2 c κs = search needs
 
 returns-2 : tie.Need-returns-2 Inv-loop μ-loop
 returns-2 c =
-    shift-done (c .before .before .before .before .before .before .before .before .args .b .now) _ _ (c .before .before .before .before .before .before .before .before .args .n) (c .before .before .before .before .before .loop .i) (c .before .before .before .before .before .before .if1 .left)
-    (omega (arith, c .before .before .before .before .before .loop .inv .0, c .before .before .before .before .loop-test .left)) (c .before .before .before .before .before .loop .inv .1) (c .before .before .fill-zero2 .ensures)
+    shift-done (c .before .before .before .before .before .before .before .before .args .b .now) _ _
+    (c .before .before .before .before .before .before .before .before .args .n) (c .before .before .before .before .before .loop .i)
+    (c .before .before .before .before .before .before .if1 .left)
+    (omega (arith, c .before .before .before .before .before .loop .inv .0, c .before .before .before .before .loop-test .left))
+    (c .before .before .before .before .before .loop .inv .1) (c .before .before .fill-zero2 .ensures)
 
 same-length-2 : tie.Need-same-length-2 Inv-loop μ-loop
-same-length-2 c = ap length (returns-2 c) ∙ length-shifted (c .before .before .before .before .before .before .before .before .args .n) (c .before .before .before .before .before .before .before .before .args .b .now)
+same-length-2 c = ap length (returns-2 c)
+    ∙ length-shifted (c .before .before .before .before .before .before .before .before .args .n)
+    (c .before .before .before .before .before .before .before .before .args .b .now)
 
 pub shift-down-spec : {M : Type 1} → statement M
 shift-down-spec =

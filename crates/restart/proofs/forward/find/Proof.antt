@@ -4,13 +4,13 @@ use mathlib.Core.Path.{_≡_, refl, sym}
 use borrow.Author.Needs.{needs}
 use borrow.Author.Tests.{eq-eqb, ne-eqb}
 use Rattle.restart.specs.declared.forward.Slot.the-variants.{Nowhere}
-use Rattle.restart.specs.Slots.{hasId, firstBelow}
+use Rattle.restart.specs.Slots.{hasIdAt, firstBelow}
 use Rattle.restart.proofs.SlotLaws.{first-hit, first-miss}
 use Rattle.restart.proofs.forward.find.Statement.{statement}
 use Rattle.restart.proofs.forward.find.Tie as tie
 
 abbrev Inv-loop : tie.InvT-loop
-Inv-loop id image n i₀ i = (i ≤ n) × (n ≡ image .count) × (n ≤ 8) × (firstBelow (hasId image (id .0)) i ≡ Nowhere)
+Inv-loop id image n i₀ i = (i ≤ n) × (n ≡ image .count) × (n ≤ 8) × (firstBelow (hasIdAt image (id .0)) i ≡ Nowhere)
 
 abbrev μ-loop : tie.MeasureT-loop
 μ-loop id image n i₀ i = n - i
@@ -31,7 +31,7 @@ returns : tie.Need-returns Inv-loop μ-loop
 returns c =
     let a = c .before .before .before .before .args in
     let v = c .before .before .before .loop .inv in
-    sym (first-hit (hasId (a .t1) (a .id .0)) _ (v .3) (eq-eqb _ _ (c .if1 .taken)) (a .t1 .count) (omega arith))
+    sym (first-hit (hasIdAt (a .t1) (a .id .0)) _ (v .3) (eq-eqb _ _ (c .if1 .taken)) (a .t1 .count) (omega arith))
 
 add-i : tie.Need-add-i Inv-loop μ-loop
 add-i c = search needs
@@ -43,7 +43,7 @@ loop-again : tie.Need-loop-again Inv-loop μ-loop
 loop-again c =
     let a = c .before .before .before .before .args in
     let v = c .before .before .before .loop .inv in
-    (search needs, search needs, search needs, first-miss (hasId (a .t1) (a .id .0)) _ (v .3) (ne-eqb _ _ (c .if1 .left)))
+    (search needs, search needs, search needs, first-miss (hasIdAt (a .t1) (a .id .0)) _ (v .3) (ne-eqb _ _ (c .if1 .left)))
 
 returns-2 : tie.Need-returns-2 Inv-loop μ-loop
 returns-2 c =

@@ -3,7 +3,7 @@ use native.Mathlib.Omega.{arith}
 use mathlib.Core.Path.{_≡_, refl, sym, ap, ap₂, _∙_}
 use lib.ListN.{length}
 use Rattle.restart.specs.Forward.{Went, wentBy, forwardOf}
-use Rattle.restart.specs.Turns.{stepOf}
+use Rattle.restart.specs.Turns.{groupStep}
 use Rattle.restart.proofs.Steps.{rest, rest-step, rest-done, step-within}
 use Rattle.restart.proofs.forward.forward.Statement.{statement}
 use Rattle.restart.proofs.forward.forward.Tie as tie
@@ -18,11 +18,12 @@ abbrev μ-loop : tie.MeasureT-loop
 stepped : (c : tie.After-step Inv-loop μ-loop)
     → let a = c .before .before .before .before .before .before .before .args in
     let l = c .before .before .loop in
-    wentBy (c .step .last .1 .1 .1 .0) (c .step .result) ≡ stepOf (a .image) (a .log .now) (wentBy (l .memory) (l .p))
+    wentBy (c .step .last .1 .1 .1 .0) (c .step .result) ≡ groupStep (a .image) (a .log .now) (wentBy (l .memory) (l .p))
 stepped c = ap₂ wentBy (c .step .ensures .1) (c .step .ensures .0)
 
 bounds : (c : tie.After-step Inv-loop μ-loop)
-    → (c .step .result .end ≤ length (c .before .before .before .before .before .before .before .args .log .now)) × (c .before .before .loop .p .end ≤ c .step .result .end)
+    → (c .step .result .end ≤ length (c .before .before .before .before .before .before .before .args .log .now))
+    × (c .before .before .loop .p .end ≤ c .step .result .end)
 bounds c =
     let a = c .before .before .before .before .before .before .before .args in
     let l = c .before .before .loop in
@@ -48,7 +49,7 @@ returns c =
     let a = c .before .before .before .before .before .before .before .before .before .before .before .args in
     let l = c .before .before .before .before .before .before .loop in
     let s = stepped (c .before .before .before .before) in
-    let e : stepOf (a .image) (a .log .now) (wentBy (l .memory) (l .p)) .pass .end ≡ l .p .end = ap (λ (w : Went). w .pass .end) (sym s) ∙ c .if1 .taken in
+    let e : groupStep (a .image) (a .log .now) (wentBy (l .memory) (l .p)) .pass .end ≡ l .p .end = ap (λ (w : Went). w .pass .end) (sym s) ∙ c .if1 .taken in
     let t = l .inv .2 ∙ rest-done (a .image) (a .log .now) (wentBy (l .memory) (l .p)) e ∙ sym s in
     (ap (λ (w : Went). w .pass) (sym t), ap (λ (w : Went). w .memory) (sym t))
 

@@ -31,7 +31,8 @@ element-copy-out-if1 c = few (c .before)
 returns-2 : tie.Need-returns-2
 returns-2 c =
     let a = c .before .before .before .before .before .before .before .args in
-    past-case (a .t1) (a .slot) _ (a .code) _ _ _ _ (c .before .before .before .before .before .larger .ensures) (marked-miss (a .slot) _ (c .before .before .before .slot .given .1) (a .t1 .found) (a .code) (c .if1 .taken))
+    past-case (a .t1) (a .slot) _ (a .code) _ _ _ _ (c .before .before .before .before .before .larger .ensures)
+    (marked-miss (a .slot) _ (c .before .before .before .slot .given .1) (a .t1 .found) (a .code) (c .if1 .taken))
 
 element-write-p : tie.Need-element-write-p
 element-write-p c = few (c .before .before .before)
@@ -39,7 +40,8 @@ element-write-p c = few (c .before .before .before)
 returns-3 : tie.Need-returns-3
 returns-3 c =
     let a = c .before .before .before .before .before .before .before .args in
-    past-case (a .t1) (a .slot) _ (a .code) _ _ _ _ (c .before .before .before .before .before .larger .ensures) (marked-hit (a .slot) _ (c .before .before .before .slot .given .1) (a .t1 .found) (a .code) (c .if1 .left))
+    past-case (a .t1) (a .slot) _ (a .code) _ _ _ _ (c .before .before .before .before .before .larger .ensures)
+    (marked-hit (a .slot) _ (c .before .before .before .slot .given .1) (a .t1 .found) (a .code) (c .if1 .left))
 
 pub pass-group-spec : {M : Type 1} → statement M
 pass-group-spec =

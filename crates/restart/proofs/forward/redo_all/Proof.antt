@@ -28,18 +28,23 @@ read-at : (c : tie.After-redo-one Inv-loop μ-loop)
     (c .redo-one .result ≡ frontSize (readRecord (drop (l .at) s))) × (c .redo-one .last .0 ≡ layFront (readRecord (drop (l .at) s)) (l .memory))
 read-at c =
     let l = c .before .before .before .loop in
-    let f = from (c .before .before .before .before .before .before .args .s .now) (l .at) in
-    (c .redo-one .ensures .0 ∙ ap (λ (t : List ℕ). frontSize (readRecord t)) f, c .redo-one .ensures .1 ∙ ap (λ (t : List ℕ). layFront (readRecord t) (l .memory)) f)
+    let f = from (c .before .before .before .before .before .before .args .s .now) (l .at) in (
+      c .redo-one .ensures .0 ∙ ap (λ (t : List ℕ). frontSize (readRecord t)) f,
+      c .redo-one .ensures .1
+          ∙ ap (λ (t : List ℕ). layFront (readRecord t) (l .memory)) f,
+    )
 
 turned : (c : tie.Else1 Inv-loop μ-loop)
     → let s = c .before .before .before .before .before .before .before .before .before .args .s .now in
     let l = c .before .before .before .before .before .before .loop in
     let k = c .before .before .before .redo-one .result in
-    Turned s (l .at) (l .at + k) (redoAll layBytes (frontWrites (drop (l .at) s)) (l .memory)) (redoAll layBytes (frontWrites (drop (l .at + k) s)) (c .before .before .before .redo-one .last .0))
+    Turned s (l .at) (l .at + k) (redoAll layBytes (frontWrites (drop (l .at) s)) (l .memory))
+    (redoAll layBytes (frontWrites (drop (l .at + k) s)) (c .before .before .before .redo-one .last .0))
 turned c =
     let l = c .before .before .before .before .before .before .loop in
     let e = read-at (c .before .before .before) in
-    redo-turn (c .before .before .before .before .before .before .before .before .before .args .s .now) (l .memory) _ (l .at) _ (e .0) (e .1) (l .inv .0) (c .if1 .left)
+    redo-turn (c .before .before .before .before .before .before .before .before .before .args .s .now) (l .memory) _ (l .at) _ (e .0) (e .1) (l .inv .0)
+    (c .if1 .left)
 
 loop-holds : tie.Need-loop-holds Inv-loop μ-loop
 loop-holds c = (omega arith, refl, refl)
@@ -63,7 +68,8 @@ returns : tie.Need-returns Inv-loop μ-loop
 returns c =
     let l = c .before .before .before .before .before .before .loop in
     let e = read-at (c .before .before .before) in
-    sym (l .inv .2 ∙ redo-done (c .before .before .before .before .before .before .before .before .before .args .s .now) (l .memory) _ (l .at) _ (e .0) (e .1) (c .if1 .taken))
+    sym (l .inv .2 ∙ redo-done (c .before .before .before .before .before .before .before .before .before .args .s .now) (l .memory) _ (l .at) _ (e .0)
+    (e .1) (c .if1 .taken))
 
 add-at : tie.Need-add-at Inv-loop μ-loop
 add-at c = omega (arith, turned c .within, c .before .before .before .before .before .before .before .before .before .good)

@@ -5,14 +5,15 @@ use lib.ListN.{length}
 use borrow.Author.Needs.{needs}
 use Rattle.recovery.specs.Group.{Write}
 use Rattle.log.specs.Record.{redo, readRecord}
-use Rattle.log.proofs.Answers.{head-redo, head-commit, head-abort, head-nothing}
+use Rattle.log.proofs.Inversions.{head-redo, head-commit, head-abort, head-nothing}
 use Rattle.log.proofs.RecordLaws.{record-within}
 use Rattle.restart.proofs.RedoLaws.{redo-parts, redo-case, other-case}
 use Rattle.restart.proofs.forward.redo_one.Statement.{statement}
 use Rattle.restart.proofs.forward.redo_one.Tie as tie
 
 redo-at : (c : tie.After-head)
-    → (w : Write) × (readRecord (c .before .before .before .before .before .args .s .now) ≡ some (redo (c .head .given .0 .0 .0) w)) × (w .addr ≡ c .head .given .0 .1 .0) × (length (w .bytes) ≡ c .head .given .0 .1 .1 .0)
+    → (w : Write) × (readRecord (c .before .before .before .before .before .args .s .now) ≡ some (redo (c .head .given .0 .0 .0) w))
+    × (w .addr ≡ c .head .given .0 .1 .0) × (length (w .bytes) ≡ c .head .given .0 .1 .1 .0)
 redo-at c = head-redo _ _ _ _ (sym (c .before .before .read-record .ensures) ∙ c .head .given .1)
 
 read-record-requires : tie.Need-read-record-requires

@@ -9,7 +9,7 @@ use Rattle.recovery.specs.Group.{Write, aborted, committed, redoSize}
 use Rattle.recovery.specs.Replay.{redoAll, layBytes}
 use Rattle.log.specs.Group.{readGroup, endOf}
 use Rattle.log.proofs.Basics.{from}
-use Rattle.log.proofs.Answers.{end-aborted, end-committed, end-none}
+use Rattle.log.proofs.Inversions.{end-aborted, end-committed, end-none}
 use Rattle.restart.specs.Forward.{wentBy}
 use Rattle.restart.specs.Turns.{frontWrites}
 use Rattle.restart.proofs.SlotLaws.{slot-below}
@@ -18,10 +18,11 @@ use Rattle.restart.proofs.forward.step.Statement.{statement}
 use Rattle.restart.proofs.forward.step.Tie as tie
 
 -- what was read at the end reached
-read-at : (c : tie.After-read-group) → let a = c .before .before .before .before .before .args in c .read-group .result ≡ endOf 0 (readGroup (a .p .csn .0) (drop (a .p .end) (a .log .now)))
+read-at : (c : tie.After-read-group) → let a =
+    c .before .before .before .before .before .args in c .read-group .result ≡ endOf (readGroup (a .p .csn .0) (drop (a .p .end) (a .log .now)))
 read-at c =
     let a = c .before .before .before .before .before .args in
-    c .read-group .ensures ∙ ap (λ (t : List ℕ). endOf 0 (readGroup (a .p .csn .0) t)) (from (a .log .now) (a .p .end))
+    c .read-group .ensures ∙ ap (λ (t : List ℕ). endOf (readGroup (a .p .csn .0) t)) (from (a .log .now) (a .p .end))
 
 abort-at : (c : tie.After-group)
     → let a = c .before .before .before .before .before .before .before .args in
@@ -30,7 +31,8 @@ abort-at c = end-aborted _ _ _ (sym (read-at (c .before .before)) ∙ c .group .
 
 commit-at : (c : tie.After-group2)
     → let a = c .before .before .before .before .before .before .before .args in
-    (ws : List Write) × (readGroup (a .p .csn .0) (drop (a .p .end) (a .log .now)) ≡ some (committed (c .group2 .given .0 .0 .0) (c .group2 .given .0 .1 .0 .0) ws))
+    (ws : List Write) × (readGroup (a .p .csn .0) (drop (a .p .end) (a .log .now))
+    ≡ some (committed (c .group2 .given .0 .0 .0) (c .group2 .given .0 .1 .0 .0) ws))
     × (c .group2 .given .0 .1 .1 .0 ≡ redoSize ws + 8)
 commit-at c = end-committed _ _ _ _ (sym (read-at (c .before .before)) ∙ c .group2 .given .1)
 
@@ -76,7 +78,8 @@ returns : tie.Need-returns
 returns c =
     let a = c .before .before .before .before .before .before .before .before .before .before .before .before .before .before .before .args in
     let e = abort-at (c .before .before .before .before .before .before .before .before) in
-    let s = step-abort (a .image) (a .log .now) (wentBy (a .memory .now) (a .p)) _ _ _ _ (e .0) (e .1) (c .before .before .before .before .before .before .find .ensures) (c .before .before .before .undo-logged .ensures) in
+    let s = step-abort (a .image) (a .log .now) (wentBy (a .memory .now) (a .p)) _ _ _ _ (e .0) (e .1)
+    (c .before .before .before .before .before .before .find .ensures) (c .before .before .before .undo-logged .ensures) in
     as-step _ _ _ _ s (c .pass-group .ensures) refl
 
 enum-known-group-2 : tie.Need-enum-known-group-2
@@ -116,8 +119,10 @@ returns-2 : tie.Need-returns-2
 returns-2 c =
     let a = c .before .before .before .before .before .before .before .before .before .before .before .before .before .before .before .args in
     let e = commit-at (c .before .before .before .before .before .before .before .before) in
-    let m = c .before .before .before .redo-all .ensures ∙ ap (λ (t : List ℕ). redoAll layBytes (frontWrites t) (a .memory .now)) (from (a .log .now) (a .p .end)) in
-    let s = step-commit (a .image) (a .log .now) (wentBy (a .memory .now) (a .p)) _ _ _ _ (e .0) _ (e .1) (e .2) (c .before .before .before .before .before .before .find2 .ensures) m in
+    let m = c .before .before .before .redo-all .ensures
+    ∙ ap (λ (t : List ℕ). redoAll layBytes (frontWrites t) (a .memory .now)) (from (a .log .now) (a .p .end)) in
+    let s = step-commit (a .image) (a .log .now) (wentBy (a .memory .now) (a .p)) _ _ _ _ (e .0) _ (e .1) (e .2)
+    (c .before .before .before .before .before .before .find2 .ensures) m in
     as-step _ _ _ _ s (c .pass-group2 .ensures) refl
 
 enum-told : tie.Need-enum-told

@@ -49,7 +49,9 @@ returns-3 : tie.Need-returns-3
 returns-3 c =
     let a = c .before .before .before .before .before .before .before .before .before .before .before .args in
     let left = c .before .before .before .before .before .before .if1 .left in
-    c .before .before .lay-back .ensures ∙ sym (undone-hit (a .slot) _ (c .before .before .before .before .before .before .before .before .slot .given .1) (a .t1) (a .t2) (a .memory .now) left)
+    c .before .before .lay-back .ensures
+    ∙ sym (undone-hit (a .slot) _ (c .before .before .before .before .before .before .before .before .slot .given .1) (a .t1) (a .t2)
+    (a .memory .now) left)
 
 pub undo-logged-spec : {M : Type 1} → statement M
 undo-logged-spec =

@@ -15,12 +15,14 @@ returns-2 c =
 returns-3 : tie.Need-returns-3
 returns-3 c =
     let a = c .before .before .before .before .before .before .before .args in
-    better-low (a .t) (a .code) (a .b) (a .i) (c .before .before .before .before .before .before .if1 .left) (c .before .before .before .before .if2 .left) (c .if3 .taken)
+    better-low (a .t) (a .code) (a .b) (a .i) (c .before .before .before .before .before .before .if1 .left)
+    (c .before .before .before .before .if2 .left) (c .if3 .taken)
 
 returns-4 : tie.Need-returns-4
 returns-4 c =
     let a = c .before .before .before .before .before .before .before .args in
-    better-high (a .t) (a .code) (a .b) (a .i) (c .before .before .before .before .before .before .if1 .left) (c .before .before .before .before .if2 .left) (c .if3 .left)
+    better-high (a .t) (a .code) (a .b) (a .i) (c .before .before .before .before .before .before .if1 .left)
+    (c .before .before .before .before .if2 .left) (c .if3 .left)
 
 pub better-spec : {M : Type 1} → statement M
 better-spec = tie.close (tie.spec returns returns-2 returns-3 returns-4)

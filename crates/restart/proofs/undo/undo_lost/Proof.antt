@@ -7,7 +7,7 @@ use borrow.Author.Needs.{needs}
 use Rattle.recovery.specs.Transaction.{Tx}
 use Rattle.recovery.specs.Restart.{sortDesc}
 use Rattle.restart.specs.declared.undo.Best.{Best}
-use Rattle.restart.specs.Slots.{txAt}
+use Rattle.restart.specs.Slots.{transactionAt}
 use Rattle.restart.specs.Undo.{lostBy, lostOf}
 use Rattle.restart.proofs.Undos.{Undid, undid-none, undid-more, lost-few}
 use Rattle.restart.proofs.Select.{pick-next, pick-none}
@@ -17,7 +17,8 @@ use Rattle.restart.proofs.undo.undo_lost.Tie as tie
 abbrev Inv-loop : tie.InvT-loop
 Inv-loop memory₀ tail₀ n image last found₀ k₀ memory tail found k =
     (length found ≡ 8) × (length memory ≡ length memory₀) × (length tail ≡ length tail₀)
-    × ((done : List Tx) × (sortDesc (lostBy image found₀ (last .0)) ≡ done ++ sortDesc (lostBy image found (last .0))) × Undid done memory₀ tail₀ n memory tail k)
+    × ((done : List Tx) × (sortDesc (lostBy image found₀ (last .0)) ≡ done ++ sortDesc (lostBy image found (last .0)))
+    × Undid done memory₀ tail₀ n memory tail k)
 
 abbrev μ-loop : tie.MeasureT-loop
 μ-loop memory₀ tail₀ n image last found₀ k₀ memory tail found k = length (sortDesc (lostBy image found (last .0)))
@@ -26,7 +27,8 @@ next : (c : tie.After-at Inv-loop μ-loop)
     → let a = c .before .before .before .before .before .before .before .before .args in
     let l = c .before .before .before .loop in
     let i = c .at .given .0 .0 in
-    (i < a .t1 .count) × (sortDesc (lostBy (a .t1) (l .found) (a .p .csn .0)) ≡ txAt (a .t1) i ∷ sortDesc (lostBy (a .t1) (set (l .found) i 2) (a .p .csn .0)))
+    (i < a .t1 .count) × (sortDesc (lostBy (a .t1) (l .found) (a .p .csn .0))
+    ≡ transactionAt (a .t1) i ∷ sortDesc (lostBy (a .t1) (set (l .found) i 2) (a .p .csn .0)))
 next c =
     let a = c .before .before .before .before .before .before .before .before .args in
     let l = c .before .before .before .loop in
@@ -98,14 +100,15 @@ loop-again c =
     let i = c .before .before .before .before .before .before .before .before .before .at .given .0 .0 in
     let d = l .inv .3 in
     let r = c .before .before .before .before .undo-one in
-    let t = txAt (a .t1) i in
+    let t = transactionAt (a .t1) i in
     let ts = sortDesc (lostBy (a .t1) (set (l .found) i 2) (a .p .csn .0)) in (
       length-set (l .found) i 2 ∙ l .inv .0,
       r .kept .1 .1 .0 ∙ l .inv .1,
       r .kept .1 .1 .1 .0 ∙ l .inv .2,
       (
         d .0 ++ (t ∷ []),
-        d .1 ∙ ap (λ (xs : List Tx). d .0 ++ xs) (next (c .before .before .before .before .before .before .before .before .before) .1) ∙ sym (append-assoc (d .0) (t ∷ []) ts),
+        d .1 ∙ ap (λ (xs : List Tx). d .0 ++ xs) (next (c .before .before .before .before .before .before .before .before .before) .1)
+            ∙ sym (append-assoc (d .0) (t ∷ []) ts),
         undid-more (d .0) (t ∷ []) _ _ (a .n) _ _ _ _ _ _ (d .2) (record { count = r .ensures .0; memory = r .ensures .1 .0; tail = r .ensures .1 .1 }),
       ),
     )

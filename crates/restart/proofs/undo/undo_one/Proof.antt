@@ -31,7 +31,8 @@ returns-2 : tie.Need-returns-2
 returns-2 c =
     let a = c .before .before .before .before .before .before .before .before .before .before .before .before .args in
     let left = c .before .before .before .before .before .before .before .before .before .if1 .left in
-    one-some (a .wanted) (viewOf (a .t)) _ _ _ _ _ left (c .before .before .before .before .before .before .lay-back .ensures) (c .before .before .put-abort .ensures)
+    one-some (a .wanted) (viewOf (a .t)) _ _ _ _ _ left (c .before .before .before .before .before .before .lay-back .ensures)
+    (c .before .before .put-abort .ensures)
 
 pub undo-one-spec : {M : Type 1} → statement M
 undo-one-spec =

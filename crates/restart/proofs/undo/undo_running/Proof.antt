@@ -6,7 +6,7 @@ use mathlib.Core.Bool.{Bool}
 use mathlib.Core.Path.{_≡_, refl, ap, _∙_}
 use lib.ListN.{length}
 use borrow.Author.Needs.{needs}
-use Rattle.restart.specs.Slots.{txAt, oneIf, filterBelow}
+use Rattle.restart.specs.Slots.{transactionAt, oneIf, filterBelow}
 use Rattle.restart.specs.Undo.{runningAt, runningOf}
 use Rattle.restart.proofs.SlotLaws.{filter-length}
 use Rattle.restart.proofs.Undos.{Undid, undid-none, undid-more}
@@ -16,7 +16,7 @@ use Rattle.restart.proofs.undo.undo_running.Tie as tie
 abbrev Inv-loop : tie.InvT-loop
 Inv-loop memory₀ tail₀ image m found n₀ i₀ memory tail n i =
     (i ≤ m) × (length memory ≡ length memory₀) × (length tail ≡ length tail₀)
-    × Undid (filterBelow (runningAt image found) (txAt image) i) memory₀ tail₀ 0 memory tail n
+    × Undid (filterBelow (runningAt image found) (transactionAt image) i) memory₀ tail₀ 0 memory tail n
 
 abbrev μ-loop : tie.MeasureT-loop
 μ-loop memory₀ tail₀ image m found n₀ i₀ memory tail n i = m - i
@@ -44,13 +44,15 @@ undo-one-requires c κs =
     let s = c .before .before .before .before .before .before .before .before .before in
     let p = s .pre in
     let l = c .before .before .before .before .before .loop in
-    let k = filter-length (runningAt (s .args .t1) (s .args .p .found)) (txAt (s .args .t1)) (l .i) in (
+    let k = filter-length (runningAt (s .args .t1) (s .args .p .found)) (transactionAt (s .args .t1)) (l .i) in (
       p .0 .ranged (l .i) (c .before .before .before .before .loop-test .taken),
       (omega (arith, l .inv .1, p .1 .0), omega (arith, l .inv .2, p .1 .1, l .inv .3 .count, k, p .0 .few, l .inv .0)),
     )
 
 add-i : tie.Need-add-i Inv-loop μ-loop
-add-i c = omega (arith, c .before .before .before .before .before .before .before .before .before .before .before .before .before .before .pre .0 .few, c .before .before .before .before .before .before .before .before .before .loop-test .taken)
+add-i c =
+    let turn = c .before .before .before .before .before .before .before .before .before in
+    omega (arith, turn .before .before .before .before .before .pre .0 .few, turn .loop-test .taken)
 
 loop-less : tie.Need-loop-less Inv-loop μ-loop
 loop-less c = omega (arith, c .before .before .before .before .before .before .before .before .before .loop-test .taken)
@@ -59,11 +61,12 @@ loop-again : tie.Need-loop-again Inv-loop μ-loop
 loop-again c =
     let a = c .before .before .before .before .before .before .before .before .before .before .before .before .before .before .args in
     let l = c .before .before .before .before .before .before .before .before .before .before .loop in
-    let t = txAt (a .t1) (l .i) in
-    let f = filterBelow (runningAt (a .t1) (a .p .found)) (txAt (a .t1)) (l .i) in
+    let t = transactionAt (a .t1) (l .i) in
+    let f = filterBelow (runningAt (a .t1) (a .p .found)) (transactionAt (a .t1)) (l .i) in
     let w = c .before .before .before .before .before .before .before .is-running in
     let r = c .before .before .before .before .undo-one in
-    let u = undid-more f (oneIf (w .result) t) _ _ 0 _ _ _ _ _ _ (l .inv .3) (record { count = r .ensures .0; memory = r .ensures .1 .0; tail = r .ensures .1 .1 }) in
+    let u = undid-more f (oneIf (w .result) t) _ _ 0 _ _ _ _ _ _ (l .inv .3)
+    (record { count = r .ensures .0; memory = r .ensures .1 .0; tail = r .ensures .1 .1 }) in
     let e = ap (λ (b : Bool). oneIf b t) (w .ensures) in (
       omega (arith, c .before .before .before .before .before .before .before .before .before .loop-test .taken),
       r .kept .1 .1 .0 ∙ l .inv .1,

@@ -13,7 +13,8 @@ returns : tie.Need-returns
 returns c =
     let args = c .before .before .args in
     let t = args .self in
-    let e : headOk (args .last .0) (args .assigned .0) (t .id .0) (t .status) (t .csn .0) ≡ false = sym (c .before .head-ok .ensures) ∙ not-true _ (c .if1 .taken) in
+    let e : headOk (args .last .0) (args .assigned .0) (t .id .0) (t .status) (t .csn .0) ≡ false = sym (c .before .head-ok .ensures)
+    ∙ not-true _ (c .if1 .taken) in
     rw e
 
 ok-requires : tie.Need-ok-requires
@@ -23,7 +24,8 @@ returns-2 : tie.Need-returns-2
 returns-2 c =
     let args = c .before .before .before .before .args in
     let t = args .self in
-    let e : headOk (args .last .0) (args .assigned .0) (t .id .0) (t .status) (t .csn .0) ≡ true = sym (c .before .before .before .head-ok .ensures) ∙ not-false _ (c .before .before .if1 .left) in
+    let e : headOk (args .last .0) (args .assigned .0) (t .id .0) (t .status) (t .csn .0) ≡ true = sym (c .before .before .before .head-ok .ensures)
+    ∙ not-false _ (c .before .before .if1 .left) in
     rw e (c .ok .ensures)
 
 pub image-ok-spec : {M : Type 1} → statement M

@@ -10,8 +10,8 @@ use Rattle.log.specs.Flat.{writeAt, writesFrom}
 use Rattle.transaction.specs.View.{writesOf}
 use Rattle.transaction.proofs.Ranges.{counted, ranged}
 use Rattle.transaction.proofs.Writes.{undo-turn}
-use Rattle.transaction.proofs.Records.lay_back.Statement.{statement}
-use Rattle.transaction.proofs.Records.lay_back.Tie as tie
+use Rattle.transaction.proofs.records.Records.lay_back.Statement.{statement}
+use Rattle.transaction.proofs.records.Records.lay_back.Tie as tie
 
 abbrev Inv-loop : tie.InvT-loop
 Inv-loop memory₀ self bytes i₀ memory i =
@@ -93,7 +93,8 @@ loop-less c = omega (arith, c .before .before .before .before .before .before .b
 laid : (c : tie.After-copy Inv-loop μ-loop)
     → let r = c .before .before .before .before .before .before .before .before .before .before .args .t1 in
     let i = c .before .before .before .before .before .before .before .loop .i - 1 in
-    undoAll layBytes (writesFrom (r .addr) (r .len) (r .bytes) i 0) (layBytes (writeAt (r .addr) (r .len) (r .bytes) i) (c .before .before .before .before .before .before .before .loop .memory))
+    undoAll layBytes (writesFrom (r .addr) (r .len) (r .bytes) i 0)
+    (layBytes (writeAt (r .addr) (r .len) (r .bytes) i) (c .before .before .before .before .before .before .before .loop .memory))
     ≡ undoAll layBytes (writesFrom (r .addr) (r .len) (r .bytes) i 0) (c .copy .last .0)
 laid c =
     let r = c .before .before .before .before .before .before .before .before .before .before .args .t1 in

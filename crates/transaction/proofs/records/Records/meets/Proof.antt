@@ -14,8 +14,8 @@ use Rattle.transaction.specs.Lists.{upFrom}
 use Rattle.transaction.specs.View.{rangeAt, rangesOf}
 use Rattle.transaction.specs.Rules.{meets}
 use Rattle.transaction.proofs.Lists.{up-done, any-hit, any-miss}
-use Rattle.transaction.proofs.Records.meets.Statement.{statement}
-use Rattle.transaction.proofs.Records.meets.Tie as tie
+use Rattle.transaction.proofs.records.Records.meets.Statement.{statement}
+use Rattle.transaction.proofs.records.Records.meets.Tie as tie
 
 abbrev Inv-loop : tie.InvT-loop
 Inv-loop addr len self n i₀ i =
@@ -61,7 +61,9 @@ add-if1 c = search needs
 returns : tie.Need-returns Inv-loop μ-loop
 returns c =
     let r = c .before .before .before .before .before .before .args .t1 in
-    sym (c .before .before .before .before .before .loop .inv .1 ∙ any-hit (rangeAt r) _ _ (c .before .before .before .before .loop-test .taken) (meets _ _) (rw (lt-ltb _ _ (c .before .if1 .taken), lt-ltb _ _ (c .if2 .taken))))
+    sym (c .before .before .before .before .before .loop .inv .1
+    ∙ any-hit (rangeAt r) _ _ (c .before .before .before .before .loop-test .taken) (meets _ _)
+    (rw (lt-ltb _ _ (c .before .if1 .taken), lt-ltb _ _ (c .if2 .taken))))
 
 add-i : tie.Need-add-i Inv-loop μ-loop
 add-i c = search needs
@@ -77,8 +79,11 @@ missed c =
 
 loop-again : tie.Need-loop-again Inv-loop μ-loop
 loop-again c =
-    let r = c .before .before .before .before .before .args .t1 in
-    (omega arith, c .before .before .before .before .loop .inv .1 ∙ any-miss (rangeAt r) _ _ (c .before .before .before .loop-test .taken) (meets _ _) (missed c))
+    let r = c .before .before .before .before .before .args .t1 in (
+      omega arith,
+      c .before .before .before .before .loop .inv .1
+          ∙ any-miss (rangeAt r) _ _ (c .before .before .before .loop-test .taken) (meets _ _) (missed c),
+    )
 
 returns-2 : tie.Need-returns-2 Inv-loop μ-loop
 returns-2 c =

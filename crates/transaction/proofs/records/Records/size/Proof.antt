@@ -9,8 +9,8 @@ use Rattle.transaction.specs.View.{rangeAt, rangesOf}
 use Rattle.transaction.specs.Rules.{rangeSize, rangesSize}
 use Rattle.transaction.proofs.Lists.{up-done, sum-turn}
 use Rattle.transaction.proofs.Ranges.{counted, ranged}
-use Rattle.transaction.proofs.Records.size.Statement.{statement}
-use Rattle.transaction.proofs.Records.size.Tie as tie
+use Rattle.transaction.proofs.records.Records.size.Statement.{statement}
+use Rattle.transaction.proofs.records.Records.size.Tie as tie
 
 abbrev Inv-loop : tie.InvT-loop
 Inv-loop self n sum₀ i₀ sum i =
@@ -56,7 +56,8 @@ loop-again c =
 returns : tie.Need-returns Inv-loop μ-loop
 returns c =
     let r = c .before .before .args .t1 in
-    let d : rangesSize (upFrom (rangeAt r) (r .count - c .before .loop .i) (c .before .loop .i)) ≡ 0 = ap rangesSize (up-done (rangeAt r) (r .count) (c .before .loop .i) (c .loop-test .left)) in
+    let d : rangesSize (upFrom (rangeAt r) (r .count - c .before .loop .i) (c .before .loop .i)) ≡ 0 =
+    ap rangesSize (up-done (rangeAt r) (r .count) (c .before .loop .i) (c .loop-test .left)) in
     omega (arith, d, c .before .loop .inv .2)
 
 pub size-spec : {M : Type 1} → statement M

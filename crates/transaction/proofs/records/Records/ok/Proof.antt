@@ -9,8 +9,8 @@ use Rattle.transaction.specs.View.{rangeAt, rangesOf}
 use Rattle.transaction.specs.Rules.{rangeOk}
 use Rattle.transaction.proofs.Lists.{up-done, every-bad, every-good}
 use Rattle.transaction.proofs.Ranges.{few, many}
-use Rattle.transaction.proofs.Records.ok.Statement.{statement}
-use Rattle.transaction.proofs.Records.ok.Tie as tie
+use Rattle.transaction.proofs.records.Records.ok.Statement.{statement}
+use Rattle.transaction.proofs.records.Records.ok.Tie as tie
 
 abbrev Inv-loop : tie.InvT-loop
 Inv-loop self n i₀ i =
@@ -19,11 +19,11 @@ Inv-loop self n i₀ i =
 abbrev μ-loop : tie.MeasureT-loop
 μ-loop self n i₀ i = n - i
 
-returns : tie.Need-returns Inv-loop μ-loop
-returns c = sym (many (c .before .args .t1) (c .if1 .taken))
-
 cast-n : tie.Need-cast-n Inv-loop μ-loop
 cast-n c = search needs
+
+returns : tie.Need-returns Inv-loop μ-loop
+returns c = sym (many (c .before .args .t1) (c .if1 .taken))
 
 loop-holds : tie.Need-loop-holds Inv-loop μ-loop
 loop-holds c = (omega arith, rw (sub-zero (c .before .args .t1 .count)))
@@ -50,7 +50,9 @@ returns-2 : tie.Need-returns-2 Inv-loop μ-loop
 returns-2 c =
     let r = c .before .before .before .before .before .before .before .args .t1 in
     let v = c .before .before .before .before .before .loop .inv in
-    sym (few r (omega arith) ∙ v .1 ∙ every-bad (rangeAt r) _ _ (c .before .before .before .before .loop-test .taken) rangeOk (sym (c .before .in-range .ensures) ∙ not-true _ (c .if2 .taken)))
+    sym (few r (omega arith) ∙ v .1
+    ∙ every-bad (rangeAt r) _ _ (c .before .before .before .before .loop-test .taken) rangeOk
+    (sym (c .before .in-range .ensures) ∙ not-true _ (c .if2 .taken)))
 
 add-i : tie.Need-add-i Inv-loop μ-loop
 add-i c = search needs
@@ -61,8 +63,11 @@ loop-less c = search needs
 loop-again : tie.Need-loop-again Inv-loop μ-loop
 loop-again c =
     let r = c .before .before .before .before .before .before .before .args .t1 in
-    let v = c .before .before .before .before .before .loop .inv in
-    (omega arith, v .1 ∙ every-good (rangeAt r) _ _ (c .before .before .before .before .loop-test .taken) rangeOk (sym (c .before .in-range .ensures) ∙ not-false _ (c .if2 .left)))
+    let v = c .before .before .before .before .before .loop .inv in (
+      omega arith,
+      v .1 ∙ every-good (rangeAt r) _ _ (c .before .before .before .before .loop-test .taken) rangeOk
+          (sym (c .before .in-range .ensures) ∙ not-false _ (c .if2 .left)),
+    )
 
 returns-3 : tie.Need-returns-3 Inv-loop μ-loop
 returns-3 c =
@@ -76,8 +81,8 @@ ok-spec =
     (tie.spec
     Inv-loop
     μ-loop
-    returns
     cast-n
+    returns
     loop-holds
     mul-in-range
     element-copy-out-in-range

@@ -1,7 +1,7 @@
 use mathlib.Core.Path.{refl}
 use Rattle.transaction.specs.Flat.{emptyRecords}
-use Rattle.transaction.proofs.Records.empty.Statement.{statement}
-use Rattle.transaction.proofs.Records.empty.Tie as tie
+use Rattle.transaction.proofs.records.Records.empty.Statement.{statement}
+use Rattle.transaction.proofs.records.Records.empty.Tie as tie
 
 returns : tie.Need-returns
 unfolding emptyRecords

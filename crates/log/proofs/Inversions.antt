@@ -69,19 +69,19 @@ endAt (Aborted i k) = k
 endAt (Committed i n k) = k
 endAt NoGroup = 0
 
-pub end-aborted : (x : Option Group) (i : TxId) (k : ℕ) → endOf 0 x ≡ Aborted i k → (x ≡ some (aborted (i .0))) × (k ≡ 4)
+pub end-aborted : (x : Option Group) (i : TxId) (k : ℕ) → endOf x ≡ Aborted i k → (x ≡ some (aborted (i .0))) × (k ≡ 4)
 end-aborted none i k e = clash (cc)
 end-aborted (some (committed j m ws)) i k e = clash (cc)
 end-aborted (some (aborted j)) i k e = (ap (λ (x : ℕ). some (aborted x)) (ap endId e), sym (ap endAt e))
 
-pub end-committed : (x : Option Group) (i : TxId) (n : Csn) (k : ℕ) → endOf 0 x ≡ Committed i n k
+pub end-committed : (x : Option Group) (i : TxId) (n : Csn) (k : ℕ) → endOf x ≡ Committed i n k
     → (ws : List Write) × (x ≡ some (committed (i .0) (n .0) ws)) × (k ≡ redoSize ws + 8)
 end-committed none i n k e = clash (cc)
 end-committed (some (committed j m ws)) i n k e =
     (ws, ap₂ (λ (x y : ℕ). some (committed x y ws)) (ap endId e) (ap endCsn e), omega (arith, ap endAt e))
 end-committed (some (aborted j)) i n k e = clash (cc)
 
-pub end-none : (x : Option Group) → endOf 0 x ≡ NoGroup → x ≡ none
+pub end-none : (x : Option Group) → endOf x ≡ NoGroup → x ≡ none
 end-none none e = refl
 end-none (some (committed j m ws)) e = clash (cc)
 end-none (some (aborted j)) e = clash (cc)

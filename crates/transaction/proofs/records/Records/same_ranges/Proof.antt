@@ -10,8 +10,8 @@ use Rattle.transaction.specs.View.{Range, rangeAt, rangesOf}
 use Rattle.transaction.specs.Rules.{sameRanges}
 use Rattle.transaction.proofs.Lists.{length-up, up-done}
 use Rattle.transaction.proofs.Ranges.{unequal, same-bad, same-good}
-use Rattle.transaction.proofs.Records.same_ranges.Statement.{statement}
-use Rattle.transaction.proofs.Records.same_ranges.Tie as tie
+use Rattle.transaction.proofs.records.Records.same_ranges.Statement.{statement}
+use Rattle.transaction.proofs.records.Records.same_ranges.Tie as tie
 
 abbrev Inv-loop : tie.InvT-loop
 Inv-loop self other n i₀ i =
@@ -67,7 +67,8 @@ returns-3 c =
     let q = args .t2 in
     sym
     (c .before .before .before .before .before .before .before .loop .inv .1
-    ∙ same-bad r q _ _ (c .before .before .before .before .before .before .loop-test .taken) (rw (eq-eqb _ _ (c .before .before .before .if2 .left), ne-eqb _ _ (c .if3 .taken))))
+    ∙ same-bad r q _ _ (c .before .before .before .before .before .before .loop-test .taken)
+    (rw (eq-eqb _ _ (c .before .before .before .if2 .left), ne-eqb _ _ (c .if3 .taken))))
 
 add-i : tie.Need-add-i Inv-loop μ-loop
 add-i c = search needs
@@ -82,7 +83,8 @@ loop-again c =
     let q = args .t2 in (
       omega arith,
       c .before .before .before .before .before .before .before .loop .inv .1
-          ∙ same-good r q _ _ (c .before .before .before .before .before .before .loop-test .taken) (rw (eq-eqb _ _ (c .before .before .before .if2 .left), eq-eqb _ _ (c .if3 .left))),
+          ∙ same-good r q _ _ (c .before .before .before .before .before .before .loop-test .taken)
+          (rw (eq-eqb _ _ (c .before .before .before .if2 .left), eq-eqb _ _ (c .if3 .left))),
     )
 
 returns-4 : tie.Need-returns-4 Inv-loop μ-loop
@@ -91,7 +93,8 @@ returns-4 c =
     let r = args .t1 in
     let q = args .t2 in
     let h = c .loop-test .left in
-    sym (c .before .loop .inv .1 ∙ ap₂ (λ (x y : List Range). sameRanges x y) (up-done (rangeAt r) (r .count) (c .before .loop .i) h) (up-done (rangeAt q) (r .count) (c .before .loop .i) h))
+    sym (c .before .loop .inv .1 ∙ ap₂ (λ (x y : List Range). sameRanges x y) (up-done (rangeAt r) (r .count) (c .before .loop .i) h)
+    (up-done (rangeAt q) (r .count) (c .before .loop .i) h))
 
 pub same-ranges-spec : {M : Type 1} → statement M
 same-ranges-spec =

@@ -3,8 +3,8 @@ use native.Mathlib.Omega.{arith}
 use mathlib.Core.Path.{_≡_}
 use lib.ListN.{length}
 use Rattle.transaction.specs.Steps.{pushed}
-use Rattle.transaction.proofs.Records.push.Statement.{statement}
-use Rattle.transaction.proofs.Records.push.Tie as tie
+use Rattle.transaction.proofs.records.Records.push.Statement.{statement}
+use Rattle.transaction.proofs.records.Records.push.Tie as tie
 
 cast-k : tie.Need-cast-k
 cast-k c = search needs
