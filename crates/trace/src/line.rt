@@ -7,14 +7,14 @@ ghost use Rattle.trace.specs.Adler.{adlerOf};
 ghost use Rattle.trace.specs.Outcome.{storedOf, readOf, comparedOf};
 
 // A line's second field: a call's answer, the length of read's part, or whether two disks are equal in meaning.
-pub enum Told {
+pub enum Verdict {
     Answered(Answer),
     Part(usize),
     Equal(bool),
 }
 
 pub struct Outcome {
-    pub told: Told,
+    pub verdict: Verdict,
     pub value: usize,
     pub stores: usize,
     pub state: State,
@@ -25,7 +25,7 @@ impl Outcome {
         ensures { λ r. ⌜ r ≡ storedOf answer value stores state ⌝ }
     {
         Outcome {
-            told: Told::Answered(answer),
+            verdict: Verdict::Answered(answer),
             value: value,
             stores: stores,
             state: state,
@@ -36,7 +36,7 @@ impl Outcome {
         ensures { λ r. ⌜ r ≡ readOf (now (part .entry)) state ⌝ }
     {
         Outcome {
-            told: Told::Part(part.len()),
+            verdict: Verdict::Part(part.len()),
             value: adler(part) as usize,
             stores: 0,
             state: state,
@@ -47,7 +47,7 @@ impl Outcome {
         ensures { λ r. ⌜ r ≡ comparedOf equal state ⌝ }
     {
         Outcome {
-            told: Told::Equal(equal),
+            verdict: Verdict::Equal(equal),
             value: 0,
             stores: 0,
             state: state,
@@ -113,16 +113,16 @@ fn print_answer(answer: Answer) {
     }
 }
 
-fn print_told(told: Told) {
-    match told {
-        Told::Answered(answer) => {
+fn print_verdict(verdict: Verdict) {
+    match verdict {
+        Verdict::Answered(answer) => {
             print_answer(answer);
         }
-        Told::Part(length) => {
+        Verdict::Part(length) => {
             text(b" part=");
             number(length);
         }
-        Told::Equal(equal) => {
+        Verdict::Equal(equal) => {
             if equal {
                 text(b" yes");
             } else {
@@ -149,8 +149,8 @@ fn print_state(s: State) {
 
 pub(crate) fn print_line(call: u8, out: Outcome, disk: &[u8], memory: &[u8], tail: &[u8]) {
     number(call as usize);
-    let told = out.told;
-    print_told(told);
+    let verdict = out.verdict;
+    print_verdict(verdict);
     blank_number(out.value);
     blank_number(out.stores);
     blank_number(adler(disk) as usize);
