@@ -1,9 +1,9 @@
 -- After a restart that is done every call can go on: the buffers have their lengths, and state and tail pass number 2.
-use Prim.Native.Nat.{ℕ, zero, suc, _+_, _*_, _-_, _≤_}
+use Prim.Native.Nat.{ℕ, _+_, _*_, _-_, _≤_}
 use native.Mathlib.Omega.{arith}
 use mathlib.Core.Bool.{true, false}
 use mathlib.Core.List.{List, _++_}
-use mathlib.Core.Path.{_≡_, refl, sym, ap, subst, _∙_}
+use mathlib.Core.Path.{_≡_, sym, ap, subst, _∙_}
 use lib.ListN.{length, take, replicate}
 use lib.Seq.{drop-at}
 use borrow.Author.Tests.{eq-eqb, le-leb, le-ltb}
@@ -18,7 +18,7 @@ use Rattle.log.proofs.RoundTrip.{length-log}
 use Rattle.log.proofs.StoreLaws.{length-apply}
 use Rattle.restart.specs.Restart.{recoverOf}
 use Rattle.restart.proofs.Recovery.{undoneBy, count-is, tail-is, tail-read}
-use Rattle.store.specs.Rules.{allZero, tailLength, tailOk, unfit}
+use Rattle.store.specs.Rules.{tailLength, tailOk, unfit}
 use Rattle.store.specs.Stored.{DiskOutcome}
 use Rattle.store.proofs.Zeros.{zeros-pass}
 use Rattle.disk.specs.Examine.{Meaning, stepsOf, examineOf}

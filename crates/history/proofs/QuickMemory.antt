@@ -24,7 +24,7 @@ use Rattle.store.specs.Calls.{precommitOf, abortOf, beginNumber, writeNumber, a
 use Rattle.store.proofs.Calling.{begin-done, begin-refused, write-done, write-refused, read-done, read-refused, answer-done, answer-refused}
 use Rattle.store.proofs.Calling.{precommit-done, precommit-refused, abort-done, abort-refused, settle-done, settle-refused}
 use Rattle.history.specs.Calls.{begin, write, read, readAnswer, precommit, abort, settle, part, World, Stepped}
-use Rattle.history.specs.Calls.{begun, returned, changed, precommitted, stepOf}
+use Rattle.history.specs.Calls.{returned, changed, precommitted, stepOf}
 use Rattle.history.proofs.Padded.{padded, padded-log, numberOf, shared-number, padded-append}
 use Rattle.history.proofs.Quick.{widened, Lengths, follows, here, beginQuick, writeQuick, readQuick, answerQuick}
 use Rattle.history.proofs.Quick.{precommitQuick, abortQuick, settleQuick}

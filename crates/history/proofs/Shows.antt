@@ -30,7 +30,7 @@ use Rattle.store.proofs.Appending.{appended-log}
 use Rattle.store.proofs.Stepping.{SizedState, same-or-other}
 use Rattle.store.proofs.Fits.{Fit}
 use Rattle.store.proofs.Views.{Appends, tail-zeros}
-use Rattle.history.specs.Calls.{Call, begin, write, read, readAnswer, precommit, abort, flush, settle, checkpoint, restart, World, Stepped, returned, changed, stored, stepOf}
+use Rattle.history.specs.Calls.{Call, begin, write, read, readAnswer, precommit, abort, flush, settle, checkpoint, World, Stepped, returned, changed, stored, stepOf}
 use Rattle.history.specs.Demand.{eventOf}
 use Rattle.history.proofs.Padded.{padded, padded-append}
 use Rattle.history.proofs.OnDisk.{OnDisk, opens}

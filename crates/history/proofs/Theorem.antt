@@ -1,7 +1,6 @@
 -- Demand 3 for the calls themselves. A call added later adds a constructor of Call, a lemma that it is a step of the machine, and a line of
 -- `follows`.
 use Prim.Native.Nat.{ℕ, _+_, _*_, _≤_}
-use native.Mathlib.Omega.{arith}
 use mathlib.Core.List.{List, [], _∷_, _++_}
 use mathlib.Core.Path.{_≡_, refl, sym, ap, _∙_}
 use lib.ListN.{length}

@@ -8,7 +8,7 @@ use lib.ListN.{length, take, drop, getD, set, length-append, length-take}
 use lib.Seq.{sets, sets-eq, length-sets, take-all, take-append-le, take-set-le, drop-set-lt, drop-at, length-take-le, getD-take, getD-set-same}
 use borrow.Author.Tests.{eq-eqb, ne-eqb}
 use Rattle.log.specs.Stores.{Store, store, apply, copies}
-use Rattle.log.proofs.StoreLaws.{length-apply, length-copies, copies-cut}
+use Rattle.log.proofs.StoreLaws.{length-copies, copies-cut}
 use Rattle.image.specs.declared.Image.{Image}
 use Rattle.image.specs.Rules.{keepsRules}
 use Rattle.image.specs.Content.{contentOf}
@@ -21,7 +21,7 @@ use Rattle.store.specs.Answer.{done, cut, tells}
 use Rattle.store.specs.Calls.{refusing}
 use Rattle.store.specs.Stored.{zeroed}
 use Rattle.store.specs.Checkpoint.{storesAt, intoA, targetAt, targetName, imageStores, checkpointStores, checkpointPlan, checkpointOf}
-use Rattle.store.proofs.Storing.{diskNumber, disk-admitted, disk-passes, stored-refused, stored-cut, stored-done}
+use Rattle.store.proofs.Storing.{diskNumber, disk-admitted, stored-refused, stored-cut, stored-done}
 
 -- ---- the stores
 
@@ -242,11 +242,3 @@ module _ (s : State) (d m t : List ℕ) (allowed : ℕ) where
       pub checkpoint-done : n < made → checkpointOf s d m t allowed ≡ record { result = tells done 0 made s; disk = y; memory = m; tail = t }
       unfolding checkpointOf
       checkpoint-done h = rw (on-disk, count) (stored-done s d m t (checkpointPlan s d m t) allowed z (omega (arith, needed, count)))
-
--- a checkpoint that is done can be followed by a call
-pub checkpoint-next : (s : State) (d m t : List ℕ) (allowed : ℕ) → diskNumber s d m t ≡ 0
-    → diskNumber s (apply (take allowed (checkpointStores s d m)) d) m t ≡ 0
-checkpoint-next s d m t allowed z =
-    let a = disk-admitted s d m t z in
-    disk-passes s (apply (take allowed (checkpointStores s d m)) d) m t
-    (record { disk = length-apply (take allowed (checkpointStores s d m)) d ∙ a .disk; memory = a .memory; tail = a .tail; fits = a .fits })

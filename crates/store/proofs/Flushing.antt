@@ -3,25 +3,23 @@
 use Prim.Native.Nat.{ℕ, _+_, _-_, _≤_, _<_, min}
 use native.Mathlib.Omega.{arith}
 use mathlib.Core.Bool.{Bool, true, _&&_}
-use mathlib.Core.List.{List, [], _∷_, _++_, append-assoc}
+use mathlib.Core.List.{List, [], _∷_, _++_}
 use mathlib.Core.Path.{_≡_, refl, sym, ap, ap₂, _∙_}
-use lib.ListN.{length, take, drop, replicate, length-take, take-append-drop}
-use lib.Seq.{sets, sets-eq, length-take-le, take-at, drop-at, drop-drop, drop-append-le}
+use lib.ListN.{length, take, drop, replicate, take-append-drop}
+use lib.Seq.{length-take-le, drop-drop, drop-append-le}
 use lib.Dec.{leb, eqb}
 use borrow.Author.Tests.{eq-eqb, eqb-true, le-leb}
-use Rattle.recovery.specs.Group.{Group, committed, aborted, groupsSize, csnAfter, lastCsn, fitting}
+use Rattle.recovery.specs.Group.{Group, committed, aborted, groupsSize, csnAfter, lastCsn}
 use Rattle.recovery.proofs.Groups.{groupsSize-append, lastCsn-append}
 use Rattle.log.specs.declared.Csn.{Csn}
 use Rattle.log.specs.declared.scan.LogEnd.{LogEnd}
 use Rattle.log.specs.Group.{wellFormedBody, wellFormedGroup}
-use Rattle.log.specs.Log.{readLog, logEndOf, encodeLog, wellFormedLog}
+use Rattle.log.specs.Log.{readLog, logEndOf, wellFormedLog}
 use Rattle.log.specs.Stores.{Store, apply, copies, shifted}
 use Rattle.log.proofs.LogLaws.{log-within}
-use Rattle.log.proofs.Parts.{encode-append, formed-first, log-split, log-padding}
-use Rattle.log.proofs.RoundTrip.{length-log}
-use Rattle.log.proofs.Soundness.{Bytes, log-sound, log-formed}
-use Rattle.log.proofs.StoreLaws.{length-apply, length-copies, copies-cut, length-shifted, drop-zeros}
-use Rattle.log.proofs.Torn.{log-cut}
+use Rattle.log.proofs.Parts.{log-split, log-padding}
+use Rattle.log.proofs.Soundness.{log-formed}
+use Rattle.log.proofs.StoreLaws.{length-copies}
 use Rattle.log.proofs.Basics.{and-left, and-right}
 use Rattle.store.specs.declared.State.{State}
 use Rattle.store.specs.State.{unrecovered, outlinesOf}
@@ -33,7 +31,7 @@ use Rattle.store.specs.Stored.{zeroed}
 use Rattle.store.specs.Flush.{withLog, firstGroups, firstSize, flushedState, flushedTail, flushStores, flushPlan, flushOf}
 use Rattle.store.proofs.Zeros.{zeros-behind}
 use Rattle.store.proofs.Fits.{Fit}
-use Rattle.store.proofs.Storing.{copies-moved, part-stored, diskNumber, disk-admitted, disk-passes, stored-refused, stored-cut, stored-done}
+use Rattle.store.proofs.Storing.{copies-moved, part-stored, diskNumber, disk-admitted, stored-refused, stored-cut, stored-done}
 
 -- ---- the first k groups of the tail
 
@@ -135,41 +133,6 @@ module _ (s : State) (d m t : List ℕ) (k allowed : ℕ) where
             tail = shifted n t;
           }) on-disk size)
 
--- ---- the bytes stored
-
--- they are the encoding of the first k groups
-pub flush-bytes : (s : State) (t : List ℕ) (k : ℕ) → Bytes t → take (firstSize s t k) t ≡ encodeLog (firstGroups s t k)
-flush-bytes s t k b =
-    let gs = readLog (s .ondisk .0) t in
-    let rest = drop (groupsSize gs) t in
-    let e : t ≡ encodeLog (take k gs) ++ (encodeLog (drop k gs) ++ rest) =
-    log-sound (s .ondisk .0) gs t b refl
-    ∙ ap (λ (l : List ℕ). l ++ rest) (ap encodeLog (sym (take-append-drop k gs)) ∙ encode-append (take k gs) (drop k gs))
-    ∙ append-assoc (encodeLog (take k gs)) (encodeLog (drop k gs)) rest in
-    ap (take (firstSize s t k)) e ∙ take-at (encodeLog (take k gs)) (encodeLog (drop k gs) ++ rest) (firstSize s t k) (length-log (take k gs))
-
-pub flush-stores : (s : State) (t : List ℕ) (k : ℕ) → Bytes t → flushStores s t k ≡ copies (17307 + s .logend) (encodeLog (firstGroups s t k))
-flush-stores s t k b = ap (copies (17307 + s .logend)) (flush-bytes s t k b)
-
--- ---- what stands in the log after n stores
-
--- where zeros stood from the log's end on, the groups are read that were stored whole, and no other
-pub flush-log : (s : State) (d t : List ℕ) (k n r : ℕ) → Bytes t → 17307 + s .logend + firstSize s t k ≤ length d → drop (17307 + s .logend) d ≡ replicate r 0
-    → readLog (s .ondisk .0) (drop (17307 + s .logend) (apply (take n (flushStores s t k)) d)) ≡ fitting n (firstGroups s t k)
-flush-log s d t k n r b h z =
-    let a = 17307 + s .logend in
-    let gs = firstGroups s t k in
-    let bs = take n (encodeLog gs) in
-    let l : length bs ≤ firstSize s t k = omega (arith, length-take n (encodeLog gs), length-log gs) in
-    let e : apply (take n (flushStores s t k)) d ≡ sets d a bs = ap (λ (ss : List Store). apply (take n ss) d) (flush-stores s t k b)
-    ∙ copies-cut n a (encodeLog gs) d in
-    let f : sets d a bs ≡ take a d ++ (bs ++ drop (a + length bs) d) = sets-eq bs d a (omega arith) ∙ append-assoc (take a d) bs (drop (a + length bs) d) in
-    let g : drop (a + length bs) d ≡ replicate (r - length bs) 0 = sym (drop-drop (length bs) a d) ∙ ap (drop (length bs)) z ∙ drop-zeros (length bs) r in
-    ap (readLog (s .ondisk .0))
-    (ap (drop a) (e ∙ f) ∙ drop-at (take a d) (bs ++ drop (a + length bs) d) a (length-take-le a d (omega arith)) ∙ ap (λ (x : List ℕ). bs ++ x) g)
-    ∙ log-cut (s .ondisk .0) gs n (r - length bs)
-    (formed-first k (s .ondisk .0) (readLog (s .ondisk .0) t) (log-formed (s .ondisk .0) (readLog (s .ondisk .0) t) t refl))
-
 -- ---- what is left in the tail
 
 -- after the first k groups stand the others
@@ -231,16 +194,3 @@ module _ (s : State) (t : List ℕ) (k : ℕ) where
         redo = f .redo;
         tail = rw (flush-tail, eq-eqb _ _ last) (rest-zero (and-right c z (f .tail)));
       }
-
--- so a flush that is done can be followed by a call
-pub flush-next : (s : State) (d m t : List ℕ) (k allowed : ℕ) → diskNumber s d m t ≡ 0
-    → diskNumber (flushedState s t k) (apply (take allowed (flushStores s t k)) d) m (flushedTail s t k) ≡ 0
-flush-next s d m t k allowed z =
-    let a = disk-admitted s d m t z in
-    disk-passes (flushedState s t k) (apply (take allowed (flushStores s t k)) d) m (flushedTail s t k)
-    (record {
-      disk = length-apply (take allowed (flushStores s t k)) d ∙ a .disk;
-      memory = a .memory;
-      tail = length-shifted (firstSize s t k) t ∙ a .tail;
-      fits = flush-keeps s t k (a .fits);
-    })

@@ -53,7 +53,7 @@ fn store_image(disk: &mut [u8], image: &[u8], allowed: usize) -> usize
 
 impl State {
     // What an image has of the state.
-    pub fn image(self) -> Image
+    pub(crate) fn image(self) -> Image
         ensures { λ r. ⌜ r ≡ imageOf self ⌝ }
     {
         let ondisk = self.ondisk;

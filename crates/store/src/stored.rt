@@ -46,7 +46,7 @@ pub(crate) fn refused(number: u8, state: State) -> Stored
 
 impl State {
     // The number that refuses, 0 for none. disk and memory are the lengths of those lent.
-    pub fn admit_disk(self, disk: usize, memory: usize, tail: &[u8]) -> u8
+    pub(crate) fn admit_disk(self, disk: usize, memory: usize, tail: &[u8]) -> u8
         ensures { λ r. ⌜ r ≡ firstNumber (diskChecks self disk memory (now (tail .entry))) ⌝ }
     {
         if disk != DISK_LEN {
