@@ -24,7 +24,7 @@ use Rattle.store.specs.Calls.{precommitOf, abortOf, beginNumber, writeNumber, a
 use Rattle.store.proofs.Calling.{begin-done, begin-refused, write-done, write-refused, read-done, read-refused, answer-done, answer-refused}
 use Rattle.store.proofs.Calling.{precommit-done, precommit-refused, abort-done, abort-refused, settle-done, settle-refused}
 use Rattle.history.specs.Calls.{begin, write, read, readAnswer, precommit, abort, settle, part, World, Stepped}
-use Rattle.history.specs.Calls.{returned, changed, precommitted, stepOf}
+use Rattle.history.specs.Calls.{returned, changed, stepOf}
 use Rattle.history.proofs.Padded.{padded, padded-log, numberOf, shared-number, padded-append}
 use Rattle.history.proofs.Quick.{widened, Lengths, follows, here, beginQuick, writeQuick, readQuick, answerQuick}
 use Rattle.history.proofs.Quick.{precommitQuick, abortQuick, settleQuick}
@@ -113,7 +113,7 @@ module _ (d m bs : List ℕ) (s : State) (l : Lengths d m bs) where
       let n = numberOf s bs (precommitChecks s id) in
       let e = shared-number s m bs (precommitChecks s id) (l .memory) (l .tail) in
       let g = committed id (s .assigned .0 + 1) (writesOf (txOf s id .redo)) in
-      let x = precommitted w (precommitOf s m t (record { 0 = id })) in
+      let x = changed w (precommitOf s m t (record { 0 = id })) in
       decide x n _ _
       (λ z. tested x (follows s bs (encodeGroup g)) _ (λ f.
       done-right x (ap (changed w) (precommit-done s m t (record { 0 = id }) (e ∙ z))) refl refl (tail-appended g f) (grown g f m (l .memory))))

@@ -22,7 +22,7 @@ use Rattle.disk.proofs.Examining.{roomy}
 use Rattle.disk.proofs.Accepted.{imageIn, memoryIn, logIn, Accepted, accepted-is, memory-length}
 use Rattle.disk.proofs.Restarting.{restart-cut, restart-done}
 use Rattle.disk.proofs.Again.{cleared}
-use Rattle.history.specs.Calls.{restart, World, stepOf}
+use Rattle.history.specs.Calls.{restart, stored, World, stepOf}
 use Rattle.history.proofs.Padded.{padded, padded-length}
 use Rattle.history.proofs.Quick.{widened, Lengths, telling, cutting, here, restartQuick}
 use Rattle.history.proofs.QuickRight.{Right, tested, enough, done-right, cut-right}
@@ -77,23 +77,23 @@ module _ (d m bs : List ℕ) (s : State) (l : Lengths d m bs) where
     clears-need = length-clears (17307 + found .end) need
 
     module _ (number : found .number ≡ 0) where
-      restarts-cut : a < need → Right (restarted restarts) (cutting a left)
+      restarts-cut : a < need → Right (stored restarts) (cutting a left)
       restarts-cut h =
-          cut-right (restarted restarts) (ap stored (restart-cut d m t a (l .disk) (l .memory) (padded-length bs (l .tail)) number h))
+          cut-right (stored restarts) (ap stored (restart-cut d m t a (l .disk) (l .memory) (padded-length bs (l .tail)) number h))
           (omega (arith, clears-need, h)) left-is left-length
 
       abbrev state : State
       state = recoveredState (found .end) (found .csn) (found .last)
 
-      restarts-done : need ≤ a → Right (restarted restarts) (telling (found .undone) need left (examineOf d .memory) (undone number) state)
+      restarts-done : need ≤ a → Right (stored restarts) (telling (found .undone) need left (examineOf d .memory) (undone number) state)
       restarts-done h =
-          done-right (restarted restarts) (ap stored (restart-done d m t a (l .disk) (l .memory) (padded-length bs (l .tail)) number h))
+          done-right (stored restarts) (ap stored (restart-done d m t a (l .disk) (l .memory) (padded-length bs (l .tail)) number h))
           (omega (arith, clears-need, h)) left-is (restart-tail number)
           (record { disk = left-length; memory = memory-length d (l .disk) (accepted number); tail = undone-short number })
 
     pub restart-right : Right (stepOf (restart a) w) (restartQuick d m bs s a)
     unfolding stepOf
     restart-right =
-        tested (restarted restarts) (eqb (found .number) 0) _ (λ f.
+        tested (stored restarts) (eqb (found .number) 0) _ (λ f.
         let number = eqb-true (found .number) 0 f in
-        enough (restarted restarts) a need _ _ (restarts-cut number) (restarts-done number))
+        enough (stored restarts) a need _ _ (restarts-cut number) (restarts-done number))
