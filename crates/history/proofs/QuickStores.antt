@@ -13,7 +13,6 @@ use Rattle.image.specs.Content.{contentOf}
 use Rattle.image.specs.Format.{contentSize}
 use Rattle.image.proofs.Sizes.{length-content}
 use Rattle.store.specs.declared.State.{State}
-use Rattle.store.specs.declared.stored.Stored.{Stored}
 use Rattle.store.specs.State.{imageOf}
 use Rattle.store.specs.Stored.{DiskOutcome, Plan, storedBy}
 use Rattle.store.specs.Flush.{firstSize, flushedState, flushPlan, flushOf}
@@ -66,7 +65,7 @@ module _ (d m bs : List ℕ) (s : State) (l : Lengths d m bs) where
     needs = length-copies logAt (take firsts bs) ∙ length-take-le firsts bs firsts-within
 
     module _ (a : ℕ) (z : numberOf s bs [] ≡ 0) (f : logAt + firsts ≤ 33691) where
-      abbrev flushes : DiskOutcome Stored
+      abbrev flushes : DiskOutcome
       flushes = storedBy s d m t (flushPlan s m t k) a
 
       planned : flushes ≡ storedBy s d m t plan a
@@ -116,7 +115,7 @@ module _ (d m bs : List ℕ) (s : State) (l : Lengths d m bs) where
   size = length-content (contentOf (imageOf s)) m (l .memory)
 
   module _ (a : ℕ) (z : numberOf s bs [] ≡ 0) (f : at + length image ≤ 33691) where
-    abbrev checkpoints : DiskOutcome Stored
+    abbrev checkpoints : DiskOutcome
     checkpoints = storedBy s d m t (checkpointPlan s d m t) a
 
     checkpoint-cut : a < length image + 1 → Right (stored checkpoints) (cutting a (laid d at (take a image)))
