@@ -15,7 +15,6 @@ use Rattle.restart.proofs.Undos.{aborts-length}
 use Rattle.restart.proofs.Recovery.{undoneBy, undone-few, tail-is}
 use Rattle.store.specs.declared.State.{State}
 use Rattle.store.specs.Stored.{DiskOutcome}
-use Rattle.disk.specs.declared.examine.Examined.{Examined}
 use Rattle.disk.specs.Examine.{Meaning, stepsOf, examineOf}
 use Rattle.disk.specs.Restart.{recoveredState, clearing, restartOf}
 use Rattle.disk.proofs.Examining.{roomy}
@@ -34,13 +33,13 @@ module _ (d m bs : List ℕ) (s : State) (l : Lengths d m bs) where
   abbrev t : List ℕ
   t = padded bs
 
-  abbrev found : Examined
-  found = examineOf d .result
+  abbrev meaning : Meaning
+  meaning = examineOf d
 
   abbrev need : ℕ
-  need = 16384 - found .end
+  need = 16384 - meaning .result .end
 
-  module _ (number : found .number ≡ 0) where
+  module _ (number : meaning .result .number ≡ 0) where
     accepted : Accepted d
     accepted = accepted-is d number
 
@@ -65,27 +64,27 @@ module _ (d m bs : List ℕ) (s : State) (l : Lengths d m bs) where
     restarts = restartOf d m t a
 
     abbrev left : List ℕ
-    left = take (17307 + found .end + (need - a)) d ++ replicate (need - (need - a)) 0
+    left = take (17307 + meaning .result .end + (need - a)) d ++ replicate (need - (need - a)) 0
 
-    left-is : apply (take a (clearing (found .end))) d ≡ left
-    left-is = let fits = roomy d in cleared a (found .end) d (l .disk) (omega arith)
+    left-is : apply (take a (clearing (meaning .result .end))) d ≡ left
+    left-is = let fits = roomy d in cleared a (meaning .result .end) d (l .disk) (omega arith)
 
     left-length : length left ≡ 33691
-    left-length = ap length (sym left-is) ∙ length-apply (take a (clearing (found .end))) d ∙ l .disk
+    left-length = ap length (sym left-is) ∙ length-apply (take a (clearing (meaning .result .end))) d ∙ l .disk
 
-    clears-need : length (clearing (found .end)) ≡ need
-    clears-need = length-clears (17307 + found .end) need
+    clears-need : length (clearing (meaning .result .end)) ≡ need
+    clears-need = length-clears (17307 + meaning .result .end) need
 
-    module _ (number : found .number ≡ 0) where
+    module _ (number : meaning .result .number ≡ 0) where
       restarts-cut : a < need → Right (stored restarts) (cutting a left)
       restarts-cut h =
           cut-right (stored restarts) (ap stored (restart-cut d m t a (l .disk) (l .memory) (padded-length bs (l .tail)) number h))
           (omega (arith, clears-need, h)) left-is left-length
 
       abbrev state : State
-      state = recoveredState (found .end) (found .csn) (found .last)
+      state = recoveredState (meaning .result .end) (meaning .result .csn) (meaning .result .last)
 
-      restarts-done : need ≤ a → Right (stored restarts) (telling (found .undone) need left (examineOf d .memory) (undone number) state)
+      restarts-done : need ≤ a → Right (stored restarts) (telling (meaning .result .undone) need left (examineOf d .memory) (undone number) state)
       restarts-done h =
           done-right (stored restarts) (ap stored (restart-done d m t a (l .disk) (l .memory) (padded-length bs (l .tail)) number h))
           (omega (arith, clears-need, h)) left-is (restart-tail number)
@@ -94,6 +93,6 @@ module _ (d m bs : List ℕ) (s : State) (l : Lengths d m bs) where
     pub restart-right : Right (stepOf (restart a) w) (restartQuick d m bs s a)
     unfolding stepOf
     restart-right =
-        tested (stored restarts) (eqb (found .number) 0) _ (λ f.
-        let number = eqb-true (found .number) 0 f in
+        tested (stored restarts) (eqb (meaning .result .number) 0) _ (λ f.
+        let number = eqb-true (meaning .result .number) 0 f in
         enough (stored restarts) a need _ _ (restarts-cut number) (restarts-done number))

@@ -56,7 +56,7 @@ module _ (d m bs : List ℕ) (s : State) (l : Lengths d m bs) where
 
     -- the plan, without the tail's zeros
     abbrev plan : Plan
-    plan = record { stores = copies logAt (take firsts bs); state = flushedState s bs k; memory = m; tail = padded (drop firsts bs) }
+    plan = record { stores = copies logAt (take firsts bs); value = 0; state = flushedState s bs k; memory = m; tail = padded (drop firsts bs) }
 
     plan-is : flushPlan s m t k ≡ plan
     plan-is = rw (padded-log (s .ondisk .0) bs, padded-front bs firsts firsts-within, padded-shifted bs firsts (l .tail) firsts-within)

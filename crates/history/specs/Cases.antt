@@ -7,7 +7,7 @@ use lib.ListN.{getD, take, drop, replicate}
 use Rattle.recovery.specs.Transaction.{Tx}
 use Rattle.recovery.specs.Replay.{undoAll, undoEach, layBytes}
 use Rattle.recovery.specs.Restart.{undoOf, undoOrder}
-use Rattle.restart.specs.Slots.{txsOf}
+use Rattle.image.specs.Content.{transactionsIn}
 use Rattle.store.specs.Answer.{done, cut, refused}
 use Rattle.disk.specs.Layout.{pointerOf}
 use Rattle.disk.specs.Examine.{Loaded, loadOf}
@@ -62,7 +62,7 @@ abbrev pub imageInUse : World → Loaded
 imageInUse w = loadOf (pointerOf (w .disk)) (w .disk)
 
 abbrev pub imageTxs : World → List Tx
-imageTxs w = txsOf (imageInUse w .decoded .image)
+imageTxs w = transactionsIn (imageInUse w .decoded .image)
 
 -- memory as restart left it, and the transaction undone once more
 abbrev pub undoneAgain : ℕ → World → List ℕ
