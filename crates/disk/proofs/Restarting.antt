@@ -33,7 +33,8 @@ pub log-cleared : (n end : ℕ) (d ys : List ℕ) → length d ≡ 33691
     → take 17307 d ++ (ys ++ drop (length d - 17307) (drop 17307 d)) ≡ apply (take n (clearing end)) d
 log-cleared n end d ys l e =
     part-stored 17307 n (clears end (lent d - end)) d ys e
-    ∙ ap (λ (ss : List Store). apply (take n ss) d) (sym (clears-moved 17307 end (lent d - end)) ∙ ap (λ (k : ℕ). clears (17307 + end) (k - end)) (lent-log d l))
+    ∙ ap (λ (ss : List Store). apply (take n ss) d)
+    (sym (clears-moved 17307 end (lent d - end)) ∙ ap (λ (k : ℕ). clears (17307 + end) (k - end)) (lent-log d l))
 
 pub log-count : (end : ℕ) (d : List ℕ) → length d ≡ 33691 → length (clears end (length (take (length d - 17307) (drop 17307 d)) - end)) ≡ length (clearing end)
 log-count end d l =
@@ -46,7 +47,8 @@ cutFrom m disk n = cutShort (restartPlan m) n disk
 abbrev pub doneFrom : Meaning → List ℕ → ℕ → DiskOutcome
 doneFrom m disk n = madeWhole (restartPlan m) n disk
 
-pub restart-1 : (disk memory tail : List ℕ) (allowed : ℕ) → lengthsOk disk memory tail ≡ false → restartOf disk memory tail allowed ≡ refusedWith 1 disk memory tail
+pub restart-1 : (disk memory tail : List ℕ) (allowed : ℕ) → lengthsOk disk memory tail ≡ false
+    → restartOf disk memory tail allowed ≡ refusedWith 1 disk memory tail
 unfolding restartOf
 restart-1 disk memory tail allowed e = rw e
 
@@ -94,13 +96,16 @@ module _ (disk memory tail : List ℕ) (allowed : ℕ) where
 
   abbrev chosen : Bool → Bool → Bool → Bool → Bool → DiskOutcome
   chosen x y z b w =
-      cond (x && y && z) (cond b (cond w (cutFrom m disk allowed) (doneFrom m disk allowed)) (refusedWith (m .result .number) disk (m .memory) (m .tail))) (refusedWith 1 disk memory tail)
+      cond (x && y && z) (cond b (cond w (cutFrom m disk allowed) (doneFrom m disk allowed)) (refusedWith (m .result .number) disk (m .memory) (m .tail)))
+      (refusedWith 1 disk memory tail)
 
   pub done-inv : Done? (restartOf disk memory tail allowed) → DoneWith disk memory tail allowed
   unfolding restartOf carriedOut
-  done-inv = go (eqb (length disk) 33691) (eqb (length memory) 4096) (eqb (length tail) 16384) (eqb (m .result .number) 0) (ltb allowed n) refl refl refl refl refl
+  done-inv =
+      go (eqb (length disk) 33691) (eqb (length memory) 4096) (eqb (length tail) 16384) (eqb (m .result .number) 0) (ltb allowed n) refl refl refl refl refl
     where
-      go : (x y z b w : Bool) → eqb (length disk) 33691 ≡ x → eqb (length memory) 4096 ≡ y → eqb (length tail) 16384 ≡ z → eqb (m .result .number) 0 ≡ b → ltb allowed n ≡ w
+      go : (x y z b w : Bool) → eqb (length disk) 33691 ≡ x → eqb (length memory) 4096 ≡ y → eqb (length tail) 16384 ≡ z → eqb (m .result .number) 0 ≡ b
+          → ltb allowed n ≡ w
           → Done? (chosen x y z b w) → DoneWith disk memory tail allowed
       go true true true true false p q r s t e = record {
         disk-length = eqb-true (length disk) 33691 p;

@@ -48,7 +48,8 @@ load-none : (x y : List ℕ) → loadOf 0 x ≡ loadOf 0 y
 unfolding loadOf
 load-none x y = refl
 
-module _ (w : World) (d : Disk) (l : Live) (o : OnDisk (w .disk) d) (v : LiveOn w d l) (a : ℕ) (z : diskNumber (w .state) (w .disk) (w .memory) (w .tail) ≡ 0) where
+module _ (w : World) (d : Disk) (l : Live) (o : OnDisk (w .disk) d) (v : LiveOn w d l) (a : ℕ)
+    (z : diskNumber (w .state) (w .disk) (w .memory) (w .tail) ≡ 0) where
   abbrev s : State
   s = w .state
 
@@ -153,7 +154,8 @@ module _ (w : World) (d : Disk) (l : Live) (o : OnDisk (w .disk) d) (v : LiveOn 
 
     shows-done : OnDisk left (afterCheckpoint d l)
     shows-done =
-        let content : contentOf (loadOf (pointerOf left) left .decoded .image) ≡ contentOf (imageOf s) = ap (λ (x : Loaded). contentOf (x .decoded .image)) loads ∙ restored .content in
+        let content : contentOf (loadOf (pointerOf left) left .decoded .image)
+        ≡ contentOf (imageOf s) = ap (λ (x : Loaded). contentOf (x .decoded .image)) loads ∙ restored .content in
         record {
           long = left-length;
           low = subst (λ (q : ℕ). q ≤ 2) (sym pointer) (named (intoA p) .1);
@@ -184,13 +186,16 @@ module _ (w : World) (d : Disk) (l : Live) (o : OnDisk (w .disk) d) (v : LiveOn 
               sizes = v .sizes;
               view = v .view;
               end = v .end ∙ ap groupsSize (sym (append-nil (d .before ++ d .after)));
-              zeros = sym (drop-drop (s .logend) 17307 left) ∙ ap (drop (s .logend)) (new-log s (w .disk) m t a z h) ∙ drop-drop (s .logend) 17307 (w .disk) ∙ v .zeros;
+              zeros =
+                  sym (drop-drop (s .logend) 17307 left) ∙ ap (drop (s .logend)) (new-log s (w .disk) m t a z h) ∙ drop-drop (s .logend) 17307 (w .disk)
+                  ∙ v .zeros;
               neat = v .neat;
             }),
           );
         })
 
-pub checkpoint-follows : (w : World) (d : Disk) (l : Live) → OnDisk (w .disk) d → LiveOn w d l → (a : ℕ) → FollowsBy (up d l) (checkpoint a) (stepOf (checkpoint a) w)
+pub checkpoint-follows : (w : World) (d : Disk) (l : Live) → OnDisk (w .disk) d → LiveOn w d l → (a : ℕ)
+    → FollowsBy (up d l) (checkpoint a) (stepOf (checkpoint a) w)
 checkpoint-follows w d l o v a =
     same-or-other (diskNumber (w .state) (w .disk) (w .memory) (w .tail)) 0
     (λ z. elim (decLe a (imageSize (imageOf (w .state)))) [ yes h ↦ cut-follows w d l o v a z h | no h ↦ done-follows w d l o v a z (omega (arith, h)) ])

@@ -30,7 +30,8 @@ use Rattle.history.proofs.Padded.{padded, padded-front, padded-shifted}
 use Rattle.history.proofs.OnDisk.{OnDisk, same-front}
 use Rattle.history.proofs.Shows.{Neat, LiveOn, awake, rests, cut-rests, FollowsBy, refused-follows, flush-refuses}
 
-module _ (w : World) (d : Disk) (l : Live) (o : OnDisk (w .disk) d) (v : LiveOn w d l) (number : lastCsn 0 (d .before ++ d .after) ≡ w .state .ondisk .0) (k : ℕ) where
+module _ (w : World) (d : Disk) (l : Live) (o : OnDisk (w .disk) d) (v : LiveOn w d l) (number : lastCsn 0 (d .before ++ d .after) ≡ w .state .ondisk .0)
+    (k : ℕ) where
   abbrev s : State
   s = w .state
 
@@ -77,7 +78,8 @@ module _ (w : World) (d : Disk) (l : Live) (o : OnDisk (w .disk) d) (v : LiveOn 
   neat-after =
       ap (shifted size) (v .neat)
       ∙ padded-shifted (encodeLog groups) size tail-short size-within
-      ∙ ap padded (ap (drop size) parted ∙ drop-at (encodeLog firsts) (encodeLog (drop k groups)) size (length-log firsts) ∙ ap encodeLog (sym (flush-tail s t k)))
+      ∙ ap padded
+      (ap (drop size) parted ∙ drop-at (encodeLog firsts) (encodeLog (drop k groups)) size (length-log firsts) ∙ ap encodeLog (sym (flush-tail s t k)))
 
   -- ---- what n stores leave
 
@@ -106,9 +108,12 @@ module _ (w : World) (d : Disk) (l : Live) (o : OnDisk (w .disk) d) (v : LiveOn 
     -- what stands from the log's old end on
     behind : drop at left ≡ new ++ replicate (16384 - s .logend - length new) 0
     behind =
-        ap (drop at) (left-is ∙ sets-eq new (w .disk) at (omega (arith, o .long, new-length, room)) ∙ append-assoc (take at (w .disk)) new (drop (at + length new) (w .disk)))
+        ap (drop at)
+        (left-is ∙ sets-eq new (w .disk) at (omega (arith, o .long, new-length, room))
+        ∙ append-assoc (take at (w .disk)) new (drop (at + length new) (w .disk)))
         ∙ drop-at (take at (w .disk)) (new ++ drop (at + length new) (w .disk)) at (length-take-le at (w .disk) (omega (arith, o .long, room)))
-        ∙ ap (λ (x : List ℕ). new ++ x) (sym (drop-drop (length new) at (w .disk)) ∙ ap (drop (length new)) (v .zeros) ∙ drop-zeros (length new) (16384 - s .logend))
+        ∙ ap (λ (x : List ℕ). new ++ x)
+        (sym (drop-drop (length new) at (w .disk)) ∙ ap (drop (length new)) (v .zeros) ∙ drop-zeros (length new) (16384 - s .logend))
 
     -- the groups that were stored whole are read after those that stood there
     log-left : readLog 0 (drop 17307 left) ≡ (d .before ++ d .after) ++ fitting n firsts
@@ -177,9 +182,26 @@ module _ (w : World) (d : Disk) (l : Live) (o : OnDisk (w .disk) d) (v : LiveOn 
             tail = length-shifted size t ∙ v .tail;
             fits = unfit-no (flushedState s t k) (flushedTail s t k) (flush-keeps s t k fits);
             sizes = record { slots = v .sizes .slots; each = v .sizes .each };
-            view = ap (λ (hs : List Group). record { txs = live s (w .memory) t .txs; memory = w .memory; tail = hs; csn = lastCsn (s .ondisk .0) firsts; lastId = s .lastid .0 }) (flush-tail s t k)
+            view =
+                ap (λ (hs : List Group). record {
+                  txs = live s (w .memory) t .txs;
+                  memory = w .memory;
+                  tail = hs;
+                  csn = lastCsn
+                      (s .ondisk .0) firsts;
+                  lastId = s .lastid .0;
+                }) (flush-tail s t k)
                 ∙ ap (afterFlush k) (v .view);
-            end = omega (arith, v .end, groupsSize-append (d .before) (d .after), groupsSize-append (d .before) (d .after ++ gs), groupsSize-append (d .after) gs, ap groupsSize firsts-same);
+            end =
+                omega (
+                  arith,
+                  v .end,
+                  groupsSize-append (d .before) (d .after),
+                  groupsSize-append (d .before) (d .after ++ gs),
+                  groupsSize-append
+                      (d .after) gs,
+                  ap groupsSize firsts-same,
+                );
             zeros = zeros;
             neat = neat-after;
           }),

@@ -14,7 +14,8 @@ use Rattle.recovery.specs.Lists.{any}
 use Rattle.recovery.specs.Transaction.{Tx as Transaction, running, lookup, heldByOther, reserved}
 use Rattle.recovery.specs.Ledger as ledger
 use Rattle.recovery.specs.Machine as machine
-use Rattle.recovery.specs.Machine.{Disk, Live, up, Listed, lastAssigned, Step, begins, writes, precommits, rollsBack, settles, afterBegin, afterWrite, afterPrecommit, afterAbort, afterSettle}
+use Rattle.recovery.specs.Machine.{Disk, Live, up, Listed, lastAssigned, Step, begins, writes, precommits, rollsBack, settles, afterBegin, afterWrite}
+use Rattle.recovery.specs.Machine.{afterPrecommit, afterAbort, afterSettle}
 use Rattle.recovery.proofs.Bool.{or-left, or-right}
 use Rattle.recovery.proofs.Byte.{undo-length}
 use Rattle.recovery.specs.Replay.{undoAll, layBytes}
@@ -38,13 +39,15 @@ use Rattle.store.proofs.Choosing.{Running, listed-slot, ranged-by-8}
 use Rattle.store.proofs.Calling.{begin-done, write-done, precommit-done, abort-done, settle-done}
 use Rattle.store.proofs.Stepping.{same-or-other}
 use Rattle.store.proofs.Admitting.{accepted}
-use Rattle.store.proofs.Views.{begin-free, listed-view, tail-csn, commitOf, commit-appends, abort-appends, begin-live, write-live, precommit-live, abort-live, settle-live}
+use Rattle.store.proofs.Views.{begin-free, listed-view, tail-csn, commitOf, commit-appends, abort-appends, begin-live, write-live, precommit-live}
+use Rattle.store.proofs.Views.{abort-live, settle-live}
 use Rattle.store.proofs.Premises.{held-view, room-view}
 use Rattle.store.proofs.Keeping.{Kept, begin-keeps, write-keeps, precommit-keeps, abort-keeps, settle-keeps}
 use Rattle.history.specs.Calls.{Call, begin, write, precommit, abort, settle, World, Stepped, returned, changed, stepOf}
 use Rattle.history.specs.Demand.{eventOf}
 use Rattle.history.proofs.OnDisk.{OnDisk, opens}
-use Rattle.history.proofs.Shows.{Neat, LiveOn, awake, FollowsBy, refused-follows, begin-refuses, write-refuses, precommit-refuses, abort-refuses, settle-refuses, appended-neat}
+use Rattle.history.proofs.Shows.{Neat, LiveOn, awake, FollowsBy, refused-follows, begin-refuses, write-refuses, precommit-refuses, abort-refuses}
+use Rattle.history.proofs.Shows.{settle-refuses, appended-neat}
 
 -- ---- the steps leave the log's end and the number on disk
 
@@ -52,7 +55,8 @@ begun-same : (s : State) → (begunState s .logend ≡ s .logend) × (begunState
 unfolding begunState
 begun-same s = (refl, refl)
 
-written-same : (s : State) (j : ℕ) (m : List ℕ) (a : ℕ) (bs : List ℕ) → (writtenState s j m a bs .logend ≡ s .logend) × (writtenState s j m a bs .ondisk .0 ≡ s .ondisk .0)
+written-same : (s : State) (j : ℕ) (m : List ℕ) (a : ℕ) (bs : List ℕ)
+    → (writtenState s j m a bs .logend ≡ s .logend) × (writtenState s j m a bs .ondisk .0 ≡ s .ondisk .0)
 unfolding writtenState
 written-same s j m a bs = (refl, refl)
 
@@ -78,7 +82,8 @@ module _ (w : World) (d : Disk) (l : Live) (o : OnDisk (w .disk) d) (v : LiveOn 
   fits = fit s t (v .fits)
 
   -- the same disk, and a state, memory and tail that go on
-  lives : (s' : State) (m' t' : List ℕ) (l' : Live) → (s' .logend ≡ s .logend) × (s' .ondisk .0 ≡ s .ondisk .0) → length m' ≡ 4096 → length t' ≡ 16384 → Kept s' t'
+  lives : (s' : State) (m' t' : List ℕ) (l' : Live) → (s' .logend ≡ s .logend) × (s' .ondisk .0 ≡ s .ondisk .0) → length m' ≡ 4096 → length t' ≡ 16384
+      → Kept s' t'
       → live s' m' t' ≡ l' → Neat (s .ondisk .0) t' → LiveOn (record { disk = w .disk; memory = m'; tail = t'; state = s' }) d l'
   lives s' m' t' l' same lm lt k view neat = record {
     memory = lm;
@@ -116,7 +121,8 @@ module _ (w : World) (d : Disk) (l : Live) (o : OnDisk (w .disk) d) (v : LiveOn 
       let x = accepted s (length m) t (beginChecks (s .count) (s .lastid .0) (roomUsed s t)) z in
       let b = begin-free s (roomUsed s t) (image-count (imageOf s) (x .fits .image)) (x .own) in
       let e = begin-done s m t z in
-      follows begin (returned w _) (ledger.begun (suc (l .lastId))) (afterBegin l) (ap (returned w) e) (ap ledger.begun (add-one (s .lastid .0) ∙ ap suc last-id))
+      follows begin (returned w _) (ledger.begun (suc (l .lastId))) (afterBegin l) (ap (returned w) e)
+      (ap ledger.begun (add-one (s .lastid .0) ∙ ap suc last-id))
       (begins d l (omega (arith, b .1, room))) o
       (lives (begunState s) m t (afterBegin l) (begun-same s) (v .memory) (v .tail) (subst (λ (r : Told). Kept (r .state) t) e (begin-keeps s m t (v .sizes) z))
       (ap (λ (r : Told). live (r .state) m t) (sym e) ∙ begin-live s m t (v .sizes) z ∙ ap afterBegin (v .view)) (v .neat)))
@@ -155,11 +161,14 @@ module _ (w : World) (d : Disk) (l : Live) (o : OnDisk (w .disk) d) (v : LiveOn 
         let free : heldByOther (tx .id) new (l .txs) ≡ false =
         ap₂ (λ (i : ℕ) (y : Live). heldByOther i new (y .txs)) (r .named) (sym (v .view)) ∙ sym (held-view s m t (v .sizes) fits id a bs) ∙ q .0 in
         let e = write-done s m t tid a bs z in
-        follows (write id a bs) (changed w _) (ledger.wrote (tx .id) new) (afterWrite tx new l) (ap (changed w) e) (ap (λ (i : ℕ). ledger.wrote i new) (sym (r .named)))
+        follows (write id a bs) (changed w _) (ledger.wrote (tx .id) new) (afterWrite tx new l) (ap (changed w) e)
+        (ap (λ (i : ℕ). ledger.wrote i new) (sym (r .named)))
         (writes d l tx new (listed (r .listed) (r .named)) (isRunning r) (g .2) free (omega (arith, ltb-false 16384 (roomUsed s t + (7 + n)) (q'' .0), room))) o
-        (lives (writtenState s (slotOf s id) m a bs) (sets m a bs) t (afterWrite tx new l) (written-same s (slotOf s id) m a bs) (length-sets m a bs ∙ v .memory) (v .tail)
+        (lives (writtenState s (slotOf s id) m a bs) (sets m a bs) t (afterWrite tx new l) (written-same s (slotOf s id) m a bs)
+        (length-sets m a bs ∙ v .memory) (v .tail)
         (subst (λ (y : Outcome). Kept (y .result .state) (y .tail)) e (write-keeps s m t (v .sizes) tid a bs z))
-        (ap (λ (y : Outcome). live (y .result .state) (y .memory) (y .tail)) (sym e) ∙ write-live s m t (v .sizes) tid a bs z ∙ ap (afterWrite tx new) (v .view))
+        (ap (λ (y : Outcome). live (y .result .state) (y .memory) (y .tail)) (sym e) ∙ write-live s m t (v .sizes) tid a bs z
+        ∙ ap (afterWrite tx new) (v .view))
         (v .neat)))
         (λ h. refused-follows (up d l) w (write id a bs) (o, awake v) (write-refuses w id a bs h))
 
@@ -175,7 +184,8 @@ module _ (w : World) (d : Disk) (l : Live) (o : OnDisk (w .disk) d) (v : LiveOn 
         add-one (s .assigned .0) ∙ ap suc (sym (tail-csn s t fits) ∙ ap (λ (k : Live). lastAssigned k) (v .view)) in
         let e = precommit-done s m t tid z in
         let t' = appended s t (commitOf s id) in
-        follows (precommit id) (changed w _) (ledger.precommitted (tx .id) (suc (lastAssigned l))) (afterPrecommit tx l) (ap (changed w) e) (ap₂ ledger.precommitted (sym (r .named)) n)
+        follows (precommit id) (changed w _) (ledger.precommitted (tx .id) (suc (lastAssigned l))) (afterPrecommit tx l) (ap (changed w) e)
+        (ap₂ ledger.precommitted (sym (r .named)) n)
         (precommits d l tx (listed (r .listed) (r .named)) (isRunning r)) o
         (lives (precommittedState s (slotOf s id)) m t' (afterPrecommit tx l) (precommitted-same s (slotOf s id)) (v .memory) (appended-length (commitOf s id))
         (subst (λ (k : Outcome). Kept (k .result .state) (k .tail)) e (precommit-keeps s m t (v .sizes) tid z))
@@ -195,7 +205,8 @@ module _ (w : World) (d : Disk) (l : Live) (o : OnDisk (w .disk) d) (v : LiveOn 
         let g = aborted id in
         follows (abort id) (changed w _) (ledger.rolledBack (tx .id)) (afterAbort tx l) (ap (changed w) e) (ap ledger.rolledBack (sym (r .named)))
         (rollsBack d l tx (listed (r .listed) (r .named)) (isRunning r)) o
-        (lives (droppedState s (slotOf s id)) (undoAll layBytes (writesOf (txOf s id .undo)) m) (appended s t g) (afterAbort tx l) (dropped-same s (slotOf s id)) (undo-length 4096 m (v .memory) (writesOf (txOf s id .undo))) (appended-length g)
+        (lives (droppedState s (slotOf s id)) (undoAll layBytes (writesOf (txOf s id .undo)) m) (appended s t g) (afterAbort tx l)
+        (dropped-same s (slotOf s id)) (undo-length 4096 m (v .memory) (writesOf (txOf s id .undo))) (appended-length g)
         (subst (λ (k : Outcome). Kept (k .result .state) (k .tail)) e (abort-keeps s m t (v .sizes) tid z))
         (ap (λ (k : Outcome). live (k .result .state) (k .memory) (k .tail)) (sym e) ∙ abort-live s m t (v .sizes) tid z ∙ ap (afterAbort tx) (v .view))
         (appended-neat s t g (v .tail) fits (v .neat) y)))
@@ -211,8 +222,10 @@ module _ (w : World) (d : Disk) (l : Live) (o : OnDisk (w .disk) d) (v : LiveOn 
         let late = ltb (s .ondisk .0) (txOf s id .csn .0) in
         let p = listed-slot s id (check 14 (one || late) ∷ []) (x .own) in
         let q = passed 14 (one || late) [] (omega arith) (p .2) in
-        let committing : tx .committing ≡ true = settling (txOf s id .status) (eqb-false _ _ (or-left one late (q .0))) (status-at s t fits (slotOf s id) (p .0)) in
-        let on-disk : tx .csn ≤ l .csn = omega (arith, ltb-false (s .ondisk .0) (txOf s id .csn .0) (or-right one late (q .0)), ap (λ (k : Live). k .csn) (v .view)) in
+        let committing : tx .committing
+        ≡ true = settling (txOf s id .status) (eqb-false _ _ (or-left one late (q .0))) (status-at s t fits (slotOf s id) (p .0)) in
+        let on-disk : tx .csn ≤ l .csn = omega
+        (arith, ltb-false (s .ondisk .0) (txOf s id .csn .0) (or-right one late (q .0)), ap (λ (k : Live). k .csn) (v .view)) in
         let e = settle-done s m t tid z in
         follows (settle id) (returned w _) (ledger.settled (tx .id)) (afterSettle tx l) (ap (returned w) e) (ap ledger.settled (sym (p .1)))
         (settles d l tx (listed (p .0) (p .1)) committing on-disk) o

@@ -34,14 +34,16 @@ use Rattle.disk.proofs.Usable.{tail-reads, usable}
 use Rattle.disk.proofs.Again.{cleared}
 use Rattle.history.specs.Calls.{restart, stored, World, stepOf}
 use Rattle.history.proofs.Padded.{padded}
-use Rattle.history.proofs.OnDisk.{OnDisk, opens, same-front, groups-after, undone-shown, accepts, number-none, end-shown, count-shown, csn-shown, memory-shown, tail-shown}
+use Rattle.history.proofs.OnDisk.{OnDisk, opens, same-front, groups-after, undone-shown, accepts, number-none, end-shown, count-shown, csn-shown}
+use Rattle.history.proofs.OnDisk.{memory-shown, tail-shown}
 use Rattle.history.proofs.Shows.{Neat, LiveOn, awake, rests, cut-rests, FollowsBy}
 
 -- a state without transactions
 recovered-sized : (s : State) → s .txs ≡ replicate 8 emptyTx → s .count ≡ 0 → SizedState s
 recovered-sized s e c = record { slots = ap length e ∙ length-replicate {A = Slot} 8 emptyTx; each = λ i h. absurd (omega (arith, h, c)) }
 
-module _ (disk : List ℕ) (d : Disk) (o : OnDisk disk d) (n : lastCsn 0 (d .before) ≡ d .image .csn) (room : groupsSize (d .before ++ d .after) + 4 * length (undoneBy d) ≤ 16384) where
+module _ (disk : List ℕ) (d : Disk) (o : OnDisk disk d) (n : lastCsn 0 (d .before) ≡ d .image .csn)
+    (room : groupsSize (d .before ++ d .after) + 4 * length (undoneBy d) ≤ 16384) where
   abbrev end : ℕ
   end = examineOf disk .result .end
 
@@ -101,13 +103,15 @@ module _ (disk : List ℕ) (d : Disk) (o : OnDisk disk d) (n : lastCsn 0 (d .bef
   unfolding stepsOf
   ids-image =
       subst (λ (ts : List Tx). All (λ t. t .id ≤ last) ts) (o .txs)
-      (subst (λ (i : ℕ). All (λ t. t .id ≤ i) (transactionsIn (imageIn disk))) last-is (last-above-image (imageIn disk) (ok .rules) (logIn disk) (memoryIn disk) (replicate 16384 0)))
+      (subst (λ (i : ℕ). All (λ t. t .id ≤ i) (transactionsIn (imageIn disk))) last-is
+      (last-above-image (imageIn disk) (ok .rules) (logIn disk) (memoryIn disk) (replicate 16384 0)))
 
   ids-groups : All (λ g. groupId g ≤ last) (d .after)
   unfolding stepsOf
   ids-groups =
       subst (λ (gs : List Group). All (λ g. groupId g ≤ last) gs) (groups-after disk d o n)
-      (subst (λ (i : ℕ). All (λ g. groupId g ≤ i) (groupsOf (imageIn disk) (logIn disk))) last-is (last-above-groups (imageIn disk) (ok .rules) (logIn disk) (memoryIn disk) (replicate 16384 0)))
+      (subst (λ (i : ℕ). All (λ g. groupId g ≤ i) (groupsOf (imageIn disk) (logIn disk))) last-is
+      (last-above-groups (imageIn disk) (ok .rules) (logIn disk) (memoryIn disk) (replicate 16384 0)))
 
   abbrev state : State
   state = recoveredState end (examineOf disk .result .csn) (examineOf disk .result .last)
@@ -125,7 +129,8 @@ module _ (disk : List ℕ) (d : Disk) (o : OnDisk disk d) (n : lastCsn 0 (d .bef
   neat : (csn : ℕ) → Neat csn (examineOf disk .tail)
   neat csn = tail-shown disk d o n room ∙ ap (λ (gs : List Group). padded (encodeLog gs)) (sym (tail-groups csn))
 
-  lives : (k : ℕ) → 16384 - end ≤ k → LiveOn (record { disk = left k; memory = examineOf disk .memory; tail = examineOf disk .tail; state = state }) d (afterRestart d last)
+  lives : (k : ℕ) → 16384 - end ≤ k
+      → LiveOn (record { disk = left k; memory = examineOf disk .memory; tail = examineOf disk .tail; state = state }) d (afterRestart d last)
   unfolding recoveredState
   lives k h =
       let e : 17307 + end + (16384 - end - k) ≡ 17307 + end = omega arith in
@@ -137,7 +142,8 @@ module _ (disk : List ℕ) (d : Disk) (o : OnDisk disk d) (n : lastCsn 0 (d .bef
         sizes = recovered-sized state refl refl;
         view = view;
         end = ends;
-        zeros = ap (drop (17307 + end)) (left-is k) ∙ drop-at (take (front k) disk) (zeros k) (17307 + end) (front-length k ∙ e) ∙ ap (λ (j : ℕ). replicate j 0) z;
+        zeros =
+            ap (drop (17307 + end)) (left-is k) ∙ drop-at (take (front k) disk) (zeros k) (17307 + end) (front-length k ∙ e) ∙ ap (λ (j : ℕ). replicate j 0) z;
         neat = neat (examineOf disk .result .csn .0);
       }
 
@@ -161,7 +167,9 @@ restart-follows w s o lm lt n room a =
           subst (FollowsBy s (restart a)) (sym (ap stored (restart-made (w .disk) d o n room (w .memory) (w .tail) lm lt a h)))
           (record {
             next = up d (afterRestart d (last (w .disk) d o n room));
-            step = subst (λ (e : ledger.Event). Step opens s e (up d (afterRestart d (last (w .disk) d o n room)))) (ap ledger.restarted (sym (count-shown (w .disk) d o n room)))
+            step =
+                subst (λ (e : ledger.Event). Step opens s e (up d (afterRestart d (last (w .disk) d o n room))))
+                (ap ledger.restarted (sym (count-shown (w .disk) d o n room)))
                 (restarts s (last (w .disk) d o n room) (ids-image (w .disk) d o n room) (ids-groups (w .disk) d o n room));
             shows = (shows-left (w .disk) d o n room a, awake (lives (w .disk) d o n room a h));
           })

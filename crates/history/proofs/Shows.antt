@@ -30,7 +30,8 @@ use Rattle.store.proofs.Appending.{appended-log}
 use Rattle.store.proofs.Stepping.{SizedState, same-or-other}
 use Rattle.store.proofs.Fits.{Fit}
 use Rattle.store.proofs.Views.{Appends, tail-zeros}
-use Rattle.history.specs.Calls.{Call, begin, write, read, readAnswer, precommit, abort, flush, settle, checkpoint, World, Stepped, returned, changed, stored, stepOf}
+use Rattle.history.specs.Calls.{Call, begin, write, read, readAnswer, precommit, abort, flush, settle, checkpoint, World, Stepped, returned, changed}
+use Rattle.history.specs.Calls.{stored, stepOf}
 use Rattle.history.specs.Demand.{eventOf}
 use Rattle.history.proofs.Padded.{padded, padded-append}
 use Rattle.history.proofs.OnDisk.{OnDisk, opens}
@@ -96,7 +97,8 @@ module _ (w : World) where
       let e = begin-refused (w .state) (w .memory) (w .tail) _ refl h in
       record { event = ap (λ (r : Told). eventOf begin (returned w r .reply)) e; world = ap (λ (r : Told). returned w r .world) e }
 
-  pub write-refuses : (id a : ℕ) (bs : List ℕ) → (writeNumber (w .state) (w .memory) (w .tail) (record { 0 = id }) a (length bs) ≡ 0 → ⊥) → Refuses w (write id a bs)
+  pub write-refuses : (id a : ℕ) (bs : List ℕ) → (writeNumber (w .state) (w .memory) (w .tail) (record { 0 = id }) a (length bs) ≡ 0 → ⊥)
+      → Refuses w (write id a bs)
   unfolding stepOf
   write-refuses id a bs h =
       let e = write-refused (w .state) (w .memory) (w .tail) (record { 0 = id }) a bs _ refl h in
@@ -193,10 +195,13 @@ module _ (w : World) (r : Resting w) where
 
 -- ---- a group appended to a neat tail
 
-pub appended-neat : (s : State) (t : List ℕ) (g : Group) → length t ≡ 16384 → Fit s t → Neat (s .ondisk .0) t → Appends s t g → Neat (s .ondisk .0) (appended s t g)
+pub appended-neat : (s : State) (t : List ℕ) (g : Group) → length t ≡ 16384 → Fit s t → Neat (s .ondisk .0) t → Appends s t g
+    → Neat (s .ondisk .0) (appended s t g)
 appended-neat s t g lt f n a =
     let gs = readLog (s .ondisk .0) t in
     let l : groupsSize gs ≡ length (encodeLog gs) = sym (length-log gs) in
     ap₂ (λ (x : List ℕ) (k : ℕ). sets x k (encodeGroup g)) n l
     ∙ padded-append (encodeLog gs) (encodeGroup g) (omega (arith, l, length-group g, a .room, lt))
-    ∙ ap padded (sym (encode-append gs (g ∷ []) ∙ ap (λ (x : List ℕ). encodeLog gs ++ x) (append-nil (encodeGroup g))) ∙ ap encodeLog (sym (appended-log (s .ondisk .0) t g (tail-zeros s t f) (a .room) (a .right))))
+    ∙ ap padded
+    (sym (encode-append gs (g ∷ []) ∙ ap (λ (x : List ℕ). encodeLog gs ++ x) (append-nil (encodeGroup g)))
+    ∙ ap encodeLog (sym (appended-log (s .ondisk .0) t g (tail-zeros s t f) (a .room) (a .right))))

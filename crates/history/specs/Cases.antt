@@ -139,7 +139,8 @@ rows =
       look = both (byteAt 10) (byteIn (undoneAgain 1) 10);
       expected = record {
         replies =
-            opened ∷ told done 1 0 ∷ justDone ∷ told done 0 4122 ∷ justDone ∷ told done 2 0 ∷ justDone ∷ told done 1 0 ∷ told done 0 20 ∷ told done 0 16364 ∷ [];
+            opened ∷ told done 1 0 ∷ justDone ∷ told done 0 4122 ∷ justDone ∷ told done 2 0 ∷ justDone ∷ told done 1 0
+            ∷ told done 0 20 ∷ told done 0 16364 ∷ [];
         seen = 7 ∷ 0 ∷ [];
       };
     }

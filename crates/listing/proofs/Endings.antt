@@ -51,8 +51,10 @@ ending disk = go (eqb (length disk) 33691) (eqb (examineOf disk .result .number)
 
     go : (a b : Bool) → eqb (length disk) 33691 ≡ a → eqb (examineOf disk .result .number) 0 ≡ b → Ending disk
     go false b p q = refused 1 (result (restart-1 disk memory tail 16384 (rw p)))
-    go true false p q = refused _ (result (restart-refused disk memory tail 16384 (eqb-true (length disk) 33691 p) m t (eqb-false (examineOf disk .result .number) 0 q)))
-    go true true p q = done (restart-done disk memory tail 16384 (eqb-true (length disk) 33691 p) m t (eqb-true (examineOf disk .result .number) 0 q) (omega arith))
+    go true false p q =
+        refused _ (result (restart-refused disk memory tail 16384 (eqb-true (length disk) 33691 p) m t (eqb-false (examineOf disk .result .number) 0 q)))
+    go true true p q =
+        done (restart-done disk memory tail 16384 (eqb-true (length disk) 33691 p) m t (eqb-true (examineOf disk .result .number) 0 q) (omega arith))
 
 -- 16,384 stores are enough for any disk
 pub uncut : (disk : List ℕ) → restartWhole disk .result .says ≡ cut → ⊥
@@ -120,5 +122,6 @@ front-tells whole = go (ltb 33692 (length whole)) refl
         let longer : 33692 < length whole = ltb-true 33692 (length whole) p in
         listing-1 (take 33692 whole) (λ e. omega (arith, e, longer, length-take 33692 whole)) ∙ sym (listing-1 whole (λ e. omega (arith, e, longer)))
 
-pub read-tells : (buffer : List ℕ) (count : ℕ) (whole : List ℕ) → length buffer ≡ 33692 → take count buffer ≡ take (length buffer) whole → listingOf (take count buffer) ≡ listingOf whole
+pub read-tells : (buffer : List ℕ) (count : ℕ) (whole : List ℕ) → length buffer ≡ 33692 → take count buffer ≡ take (length buffer) whole
+    → listingOf (take count buffer) ≡ listingOf whole
 read-tells buffer count whole l e = ap listingOf (e ∙ ap (λ (n : ℕ). take n whole) l) ∙ front-tells whole

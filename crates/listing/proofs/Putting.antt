@@ -31,7 +31,8 @@ put-front {b} {text} {out} {r} e h p =
     let z : 0 + length text ≡ length text = omega arith in
     let n : r ≡ length text = omega (arith, p .ends) in
     let o : out ≡ padded text =
-    p .bytes ∙ sets-eq text b 0 (omega arith) ∙ ap₂ (λ (k : ℕ) (d : List ℕ). text ++ drop k d) z e ∙ ap (λ (d : List ℕ). text ++ d) (drop-zeros (length text) 64) in
+    p .bytes ∙ sets-eq text b 0 (omega arith) ∙ ap₂ (λ (k : ℕ) (d : List ℕ). text ++ drop k d) z e
+    ∙ ap (λ (d : List ℕ). text ++ d) (drop-zeros (length text) 64) in
     record {
       size = n;
       bytes = o;
@@ -48,7 +49,8 @@ pub record Short (pointer end csn id undone : ℕ) : Type 0 where
   pub id-line : length (line (ascii "id=") id) ≤ 9
   pub undone-line : length (line (ascii "undone=") undone) ≤ 12
 
-pub lines-short : (pointer end csn id undone : ℕ) → pointer < 256 → end < 65536 → csn < 4294967296 → id < 65536 → undone ≤ 4096 → Short pointer end csn id undone
+pub lines-short : (pointer end csn id undone : ℕ) → pointer < 256 → end < 65536 → csn < 4294967296 → id < 65536 → undone ≤ 4096
+    → Short pointer end csn id undone
 lines-short pointer end csn id undone p e c i u = record {
   pointer-line = line-short 2 (ascii "pointer=") pointer (omega arith);
   end-line = line-short 4 (ascii "end=") end (omega arith);

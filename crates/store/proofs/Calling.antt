@@ -28,7 +28,8 @@ use Rattle.store.specs.Rules.{tailLength, roomUsed}
 use Rattle.store.specs.Numbers.{Check, check, firstNumber, txOf, check6, check7, check8, check9, check10, writeChecks}
 use Rattle.store.specs.Admission.{admission, choice}
 use Rattle.store.specs.Steps.{begunState, writtenState, precommittedState, droppedState}
-use Rattle.store.specs.Calls.{refusing, beginNumber, beginOf, writeNumber, writeOf, readNumber, readOf, readAnswerOf, appended, precommitNumber, precommitOf, abortNumber, abortOf, settleNumber, settleOf}
+use Rattle.store.specs.Calls.{refusing, beginNumber, beginOf, writeNumber, writeOf, readNumber, readOf, readAnswerOf, appended, precommitNumber}
+use Rattle.store.specs.Calls.{precommitOf, abortNumber, abortOf, settleNumber, settleOf}
 use Rattle.store.proofs.Checks.{passed}
 use Rattle.store.proofs.Fits.{Fit, status-at, redo-at, room-at}
 use Rattle.store.proofs.Admitting.{accepted, admitted, seen}
@@ -166,7 +167,8 @@ placed s m t id x r cs e f h =
       end = w .end ∙ a .end;
     }
 
-pub usable-at : (s : State) (m : ℕ) (t : List ℕ) (id : ℕ) (r : Choice) (cs : ℕ → List Check) → Placed s m t id r (λ n. check7 s id ∷ cs n) → Usable s t (r .slot)
+pub usable-at : (s : State) (m : ℕ) (t : List ℕ) (id : ℕ) (r : Choice) (cs : ℕ → List Check) → Placed s m t id r (λ n. check7 s id ∷ cs n)
+    → Usable s t (r .slot)
 usable-at s m t id r cs w = subst (Usable s t) (sym (w .slot)) (usable s t id (w .fits) (running s id (cs (roomUsed s t)) (w .own) .0))
 
 -- what write may rely on

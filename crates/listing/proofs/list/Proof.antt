@@ -27,7 +27,9 @@ fill-zero-requires c κs = search needs
 
 -- out is all zeros then
 zeros : (c : tie.After-fill-zero) → c .fill-zero .last .0 ≡ replicate 64 0
-zeros c = let l : length (c .before .before .before .before .before .before .before .before .before .before .before .before .before .args .out .now) ≡ 64 = search needs in c .fill-zero .ensures ∙ ap (λ (n : ℕ). replicate n 0) l
+zeros c =
+    let l : length (c .before .before .before .before .before .before .before .before .before .before .before .before .before .args .out .now)
+    ≡ 64 = search needs in c .fill-zero .ensures ∙ ap (λ (n : ℕ). replicate n 0) l
 
 zeros-length : (c : tie.After-fill-zero) → length (c .fill-zero .last .0) ≡ 64
 zeros-length c = ap length (zeros c) ∙ length-replicate {A = ℕ} 64 0
@@ -47,7 +49,13 @@ cast-put-line c = search needs
 
 put-line-requires : tie.Need-put-line-requires
 unfolding refusedText
-put-line-requires c κs = omega (arith, zeros-length (c .before .before .before .before .before), refused-short (c .before .before .before .answer .given .0 .0) (byte (c .before .before)))
+put-line-requires c κs =
+    omega (
+      arith,
+      zeros-length (c .before .before .before .before .before),
+      refused-short (c .before .before .before .answer .given .0 .0)
+          (byte (c .before .before)),
+    )
 
 same-length : tie.Need-same-length
 same-length c = search needs
@@ -55,20 +63,29 @@ same-length c = search needs
 returns : tie.Need-returns
 unfolding refusedText
 returns c =
-    let disk = c .before .before .before .before .before .before .before .before .before .before .before .before .before .before .before .before .before .before .before .args .disk .now in
+    let restarted = c .before .before .before .before .before .before .before .before .before .before .before .before in
+    let disk = restarted .before .before .before .before .before .before .before .args .disk .now in
     let x = c .before .before .before .before .before .before .before .before .before .before .before .before .restart in
     let n = c .before .before .before .before .answer .given .0 .0 in
-    let e = listing-refused disk (x .result) (x .ensures .0) n (c .before .before .before .before .answer .given .1) in
-    (listed (sym e) (put-front (zeros (c .before .before .before .before .before .before)) (refused-short n (byte (c .before .before .before))) (c .put-line .ensures)), x .ensures .1 .0)
+    let e = listing-refused disk (x .result) (x .ensures .0) n (c .before .before .before .before .answer .given .1) in (
+      listed (sym e)
+          (put-front (zeros (c .before .before .before .before .before .before)) (refused-short n (byte (c .before .before .before)))
+          (c .put-line .ensures)),
+      x .ensures .1 .0,
+    )
 
 few : (c : tie.After-restart) → c .restart .result .undone ≤ 4096
-few c = omega (arith, few-undone (c .before .before .before .before .before .before .before .args .disk .now), ap (λ (r : Told). r .value) (c .restart .ensures .0))
+few c =
+    omega (arith, few-undone (c .before .before .before .before .before .before .before .args .disk .now), ap (λ (r : Told). r .value) (c .restart .ensures .0))
 
 short : (c : tie.After-restart)
-    → let r = c .restart .result in Short (c .before .before .before .before .pointer-of .result) (r .state .logend) (r .state .ondisk .0) (r .state .lastid .0) (r .undone)
+    → let r =
+    c .restart .result in
+    Short (c .before .before .before .before .pointer-of .result) (r .state .logend) (r .state .ondisk .0) (r .state .lastid .0) (r .undone)
 short c =
     let r = c .restart .result in
-    lines-short (c .before .before .before .before .pointer-of .result) (r .state .logend) (r .state .ondisk .0) (r .state .lastid .0) (r .undone) (search needs) (search needs) (search needs) (search needs) (few c)
+    lines-short (c .before .before .before .before .pointer-of .result) (r .state .logend) (r .state .ondisk .0) (r .state .lastid .0) (r .undone)
+    (search needs) (search needs) (search needs) (search needs) (few c)
 
 put-found-requires : tie.Need-put-found-requires
 put-found-requires c κs = (zeros-length (c .before .before .before), few (c .before .before .before .before .before .before .before .before .before))
@@ -78,11 +95,16 @@ same-length-2 c = search needs
 
 returns-2 : tie.Need-returns-2
 returns-2 c =
-    let disk = c .before .before .before .before .before .before .before .before .before .before .before .before .before .before .before .before .before .args .disk .now in
+    let restarted = c .before .before .before .before .before .before .before .before .before .before in
+    let disk = restarted .before .before .before .before .before .before .before .args .disk .now in
     let x = c .before .before .before .before .before .before .before .before .before .before .restart in
     let p = c .before .before .before .before .before .before .before .before .before .before .before .before .before .before .pointer-of in
-    let e = listing-found disk (x .result) (x .ensures .0) (p .result) (p .ensures) (c .before .before .before .match .keys2) in
-    (listed (sym e) (put-front (zeros (c .before .before .before .before)) (found-short (short (c .before .before .before .before .before .before .before .before .before .before))) (c .put-found .ensures)), x .ensures .1 .0)
+    let e = listing-found disk (x .result) (x .ensures .0) (p .result) (p .ensures) (c .before .before .before .match .keys2) in (
+      listed (sym e)
+          (put-front (zeros (c .before .before .before .before))
+          (found-short (short (c .before .before .before .before .before .before .before .before .before .before))) (c .put-found .ensures)),
+      x .ensures .1 .0,
+    )
 
 pub list-spec : {M : Type 1} → statement M
 list-spec =

@@ -8,7 +8,8 @@ use Rattle.trace.proofs.lay.Statement.{statement}
 use Rattle.trace.proofs.lay.Tie as tie
 
 returns : tie.Need-returns
-returns c = sym (sets-out (c .before .before .before .args .dst .now) (c .before .before .before .args .at) (c .before .before .before .args .src .now) (c .if1 .taken))
+returns c =
+    sym (sets-out (c .before .before .before .args .dst .now) (c .before .before .before .args .at) (c .before .before .before .args .src .now) (c .if1 .taken))
 
 sub-room : tie.Need-sub-room
 sub-room c = search needs
@@ -25,7 +26,9 @@ same-length c = search needs
 returns-2 : tie.Need-returns-2
 returns-2 c =
     let a = c .before .before .before .before .before .before .before .before .before .args in
-    c .before .before .copy .ensures ∙ sets-room (a .dst .now) (a .at) (a .src .now) (length (a .dst .now) - a .at) (omega (arith, c .before .before .before .before .before .if2 .taken)) (omega (arith, c .before .before .before .before .before .before .if1 .left))
+    c .before .before .copy .ensures
+    ∙ sets-room (a .dst .now) (a .at) (a .src .now) (length (a .dst .now) - a .at) (omega (arith, c .before .before .before .before .before .if2 .taken))
+    (omega (arith, c .before .before .before .before .before .before .if1 .left))
 
 copy-requires-2 : tie.Need-copy-requires-2
 copy-requires-2 c κs = search needs

@@ -10,7 +10,8 @@ zeros : (n : ℕ) → length {A = ℕ} (replicate n 0) ≡ n
 zeros n = length-replicate {A = ℕ} n 0
 
 abbrev Inv-loop : tie.InvT-loop
-Inv-loop disk₀ kept₀ memory₀ tail₀ record₀ s₀ turns₀ disk kept memory tail «record» s turns = (length disk ≡ 33691) × (length kept ≡ 33691) × (length memory ≡ 4096) × (length tail ≡ 16384) × (length «record» ≡ 64)
+Inv-loop disk₀ kept₀ memory₀ tail₀ record₀ s₀ turns₀ disk kept memory tail «record» s turns =
+    (length disk ≡ 33691) × (length kept ≡ 33691) × (length memory ≡ 4096) × (length tail ≡ 16384) × (length «record» ≡ 64)
 
 abbrev μ-loop : tie.MeasureT-loop
 μ-loop disk₀ kept₀ memory₀ tail₀ record₀ s₀ turns₀ disk kept memory tail «record» s turns = turns

@@ -43,7 +43,12 @@ returns-3 : tie.Need-returns-3
 returns-3 c =
     let a = c .before .before .before .before .before .before .before .args in
     let e = restart-1 (a .disk .now) (a .memory .now) (a .tail .now) (a .allowed)
-    (rw (eq-eqb (length (a .disk .now)) 33691 (c .before .before .before .if1 .left), eq-eqb (length (a .memory .now)) 4096 (c .before .before .if2 .left), ne-eqb (length (a .tail .now)) 16384 (c .before .if3 .taken))) in
+    (rw (
+      eq-eqb (length (a .disk .now)) 33691 (c .before .before .before .if1 .left),
+      eq-eqb (length (a .memory .now)) 4096
+          (c .before .before .if2 .left),
+      ne-eqb (length (a .tail .now)) 16384 (c .before .if3 .taken),
+    )) in
     leaves e (c .refused3 .ensures) refl refl refl
 
 examine-requires : tie.Need-examine-requires
@@ -76,7 +81,8 @@ returns-4 c =
     let a = start x .args in
     let n = ap (λ (r : Examined). r .number) (x .examine .ensures .0) in
     leaves
-    (restart-refused (a .disk .now) (a .memory .now) (a .tail .now) (a .allowed) (w .before .before .if1 .left) (w .before .if2 .left) (w .if3 .left) (λ z. c .before .if4 .taken (n ∙ z)))
+    (restart-refused (a .disk .now) (a .memory .now) (a .tail .now) (a .allowed) (w .before .before .if1 .left) (w .before .if2 .left) (w .if3 .left)
+    (λ z. c .before .if4 .taken (n ∙ z)))
     (c .refused4 .ensures ∙ ap refusedRestart n) refl (x .examine .ensures .1 .0) (x .examine .ensures .1 .1)
 
 sub-clear-down : tie.Need-sub-clear-down
@@ -114,7 +120,8 @@ made k =
     let x = examined k in
     let a = start x .args in
     k .clear-down .ensures .0
-    ∙ ap (min (a .allowed)) (log-count (x .examine .result .end) (a .disk .now) (lent x .before .before .if1 .left) ∙ ap (λ (e : ℕ). length (clearing e)) (found-end x))
+    ∙ ap (min (a .allowed))
+    (log-count (x .examine .result .end) (a .disk .now) (lent x .before .before .if1 .left) ∙ ap (λ (e : ℕ). length (clearing e)) (found-end x))
 
 -- what they leave on the disk
 emptied : (k : tie.After-clear-down) → let a = start (examined k) .args in
@@ -183,7 +190,8 @@ returns-6 c =
     (restart-done (a .disk .now) (a .memory .now) (a .tail .now) (a .allowed) (w .before .before .if1 .left) (w .before .if2 .left) (w .if3 .left) (taken k)
     (omega (arith, made k, found-end x, c .before .before .before .if5 .left)))
     (ap₂ (λ (n : ℕ) (s : State). tells done (x .examine .result .undone) n s) (made k) (c .recovered .ensures)
-    ∙ ap (λ (r : Examined). tells done (r .undone) (min (a .allowed) (length (clearing (examineOf (a .disk .now) .result .end)))) (recoveredState (r .end) (r .csn) (r .last)))
+    ∙ ap (λ (r : Examined). tells done (r .undone) (min (a .allowed) (length (clearing (examineOf (a .disk .now) .result .end))))
+    (recoveredState (r .end) (r .csn) (r .last)))
     (x .examine .ensures .0))
     (emptied k) (x .examine .ensures .1 .0) (x .examine .ensures .1 .1)
 

@@ -41,7 +41,11 @@ returns : (t : ℕ) → lts.Need-returns (below t, put-decimal.Post) (at t) put-
 returns t c = rw (decimal-one (c .before .before .args .n) (c .if1 .taken)) (put-one (c .before .before .args .out .now) (c .before .before .args .at) _)
 
 put-decimal-requires : (t : ℕ) → lts.Need-put-decimal-requires (below t, put-decimal.Post) (at t) put-decimal.Post
-put-decimal-requires t c κs = (omega (arith, c .before .before .before .pre .0, c .before .if1 .left), omega (arith, c .before .before .before .pre .1, length-more (c .before .before .before .args .n) (c .before .if1 .left)))
+put-decimal-requires t c κs = (
+  omega (arith, c .before .before .before .pre .0, c .before .if1 .left),
+  omega
+      (arith, c .before .before .before .pre .1, length-more (c .before .before .before .args .n) (c .before .if1 .left)),
+)
 
 add-out-2 : (t : ℕ) → lts.Need-add-out-2 (below t, put-decimal.Post) (at t) put-decimal.Post
 add-out-2 t c = omega arith
@@ -51,18 +55,31 @@ cast-out-2 t c = omega arith
 
 slice-write-out-2 : (t : ℕ) → lts.Need-slice-write-out-2 (below t, put-decimal.Post) (at t) put-decimal.Post
 slice-write-out-2 t c =
-    omega (arith, c .before .before .put-decimal .ensures .ends, c .before .before .put-decimal .kept .0, c .before .before .before .before .before .before .pre .1, length-more (c .before .before .before .before .before .before .args .n) (c .before .before .before .before .if1 .left))
+    let digits = c .before .before in
+    let more = digits .before .before in
+    let start = more .before .before in
+    let end = digits .put-decimal .ensures .ends in
+    omega (arith, end, digits .put-decimal .kept .0, start .pre .1, length-more (start .args .n) (more .if1 .left))
 
 add-result-2 : (t : ℕ) → lts.Need-add-result-2 (below t, put-decimal.Post) (at t) put-decimal.Post
 add-result-2 t c =
-    omega (arith, c .before .before .put-decimal .ensures .ends, c .before .before .before .before .before .before .pre .1, length-more (c .before .before .before .before .before .before .args .n) (c .before .before .before .before .if1 .left))
+    omega (
+      arith,
+      c .before .before .put-decimal .ensures .ends,
+      c .before .before .before .before .before .before .pre .1,
+      length-more
+          (c .before .before .before .before .before .before .args .n) (c .before .before .before .before .if1 .left),
+    )
 
 same-length-2 : (t : ℕ) → lts.Need-same-length-2 (below t, put-decimal.Post) (at t) put-decimal.Post
 same-length-2 t c = length-set (c .before .before .put-decimal .last .0) (c .before .before .put-decimal .result) _ ∙ c .before .before .put-decimal .kept .0
 
 returns-2 : (t : ℕ) → lts.Need-returns-2 (below t, put-decimal.Post) (at t) put-decimal.Post
 returns-2 t c =
-    rw (decimal-more (c .before .before .before .before .before .before .args .n) (c .before .before .before .before .if1 .left)) (put-then (c .before .before .put-decimal .ensures) (put-one (c .before .before .put-decimal .last .0) (c .before .before .put-decimal .result) _))
+    rw (decimal-more (c .before .before .before .before .before .before .args .n) (c .before .before .before .before .if1 .left))
+    (put-then (c .before .before .put-decimal .ensures) (put-one (c .before .before .put-decimal .last .0) (c .before .before .put-decimal .result) _))
 
 pub +put-decimal-spec : {M : Type 1} → statement M
-+put-decimal-spec = close μ λ t. lts.spec (below t, put-decimal.Post) (at t) put-decimal.Post (add-out t) (cast-out t) (slice-write-out t) (add-result t) (same-length t) (returns t) (put-decimal-requires t) (add-out-2 t) (cast-out-2 t) (slice-write-out-2 t) (add-result-2 t) (same-length-2 t) (returns-2 t)
++put-decimal-spec =
+    close μ λ t. lts.spec (below t, put-decimal.Post) (at t) put-decimal.Post (add-out t) (cast-out t) (slice-write-out t) (add-result t) (same-length t)
+    (returns t) (put-decimal-requires t) (add-out-2 t) (cast-out-2 t) (slice-write-out-2 t) (add-result-2 t) (same-length-2 t) (returns-2 t)

@@ -32,7 +32,10 @@ same-length c = search needs
 -- the number is abort's own
 own : (c : tie.After-choose-running) → let a = c .before .before .before .before .before .args in
     abortNumber (a .self) (a .memory .now) (a .tail .now) (a .id) ≡ c .choose-running .result .number
-own c = let a = c .before .before .before .before .before .args in number-after _ _ _ _ (c .before .admit .ensures) (λ n. abortChecks (a .self) (a .id .0)) ∙ choice-own _ _ _ _ (abortChecks (a .self) (a .id .0)) (c .choose-running .ensures)
+own c =
+    let a = c .before .before .before .before .before .args in
+    number-after _ _ _ _ (c .before .admit .ensures) (λ n. abortChecks (a .self) (a .id .0))
+    ∙ choice-own _ _ _ _ (abortChecks (a .self) (a .id .0)) (c .choose-running .ensures)
 
 returns : tie.Need-returns
 returns c =
@@ -70,7 +73,8 @@ returns-2 c =
       (
         step .ensures .1 .0 ∙ ap (λ (k : ℕ). undoAll layBytes (writesOf (txAt s k .undo)) m) (w .slot) ∙ ap (λ (x : Outcome). x .memory) (sym o),
         step .ensures .1 .1
-            ∙ ap₂ (λ (e i : ℕ). sets t e (encodeGroup (aborted i))) (w .end) (ap (λ (k : ℕ). txAt s k .id .0) (w .slot) ∙ running s (a .id .0) [] (w .own) .0 .named)
+            ∙ ap₂ (λ (e i : ℕ). sets t e (encodeGroup (aborted i))) (w .end)
+            (ap (λ (k : ℕ). txAt s k .id .0) (w .slot) ∙ running s (a .id .0) [] (w .own) .0 .named)
             ∙ ap (λ (x : Outcome). x .tail) (sym o),
       ),
     )

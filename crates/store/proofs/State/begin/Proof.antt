@@ -29,7 +29,8 @@ returns : tie.Need-returns
 returns c =
     let a = c .before .before .before .before .before .args in
     let cs = beginChecks (a .self .count) (a .self .lastid .0) (roomUsed (a .self) (a .tail .now)) in
-    sym (begin-refused (a .self) (a .memory .now) (a .tail .now) _ (shared-stops _ _ _ _ (c .before .before .admit .ensures) cs (c .if1 .taken)) (c .if1 .taken))
+    sym (begin-refused (a .self) (a .memory .now) (a .tail .now) _ (shared-stops _ _ _ _ (c .before .before .admit .ensures) cs (c .if1 .taken))
+    (c .if1 .taken))
 
 admission-of : (c : tie.Else1) → let a = c .before .before .before .before .before .args in
     Admitted (a .self) (length (a .memory .now)) (a .tail .now) (c .before .before .admit .result) (c .before .before .admit .ensures)
@@ -59,7 +60,8 @@ free c =
     let s = c .before .before .before .before .before .before .before .args .self in
     let x = admission-of (c .before .before) in
     let r = c .before .before .before .before .admit .result .room in
-    let p = passed 11 (eqb (s .count) 8) (check 12 (eqb (s .lastid .0) 65535) ∷ check 13 (ltb 16384 (r + 8)) ∷ []) (omega arith) (sym (c .before .begin-number .ensures) ∙ c .if2 .left) in
+    let p = passed 11 (eqb (s .count) 8) (check 12 (eqb (s .lastid .0) 65535) ∷ check 13 (ltb 16384 (r + 8)) ∷ []) (omega arith)
+    (sym (c .before .begin-number .ensures) ∙ c .if2 .left) in
     let q = passed 12 (eqb (s .lastid .0) 65535) (check 13 (ltb 16384 (r + 8)) ∷ []) (omega arith) (p .1) in
     let w : Fits w16 (s .lastid .0) = search needs in
     (omega (arith, image-count (imageOf s) (x .fits .image), eqb-false (s .count) 8 (p .0)), omega (arith, w, eqb-false (s .lastid .0) 65535 (q .0)))

@@ -19,7 +19,8 @@ refused-requires c κs = search needs
 returns : tie.Need-returns
 returns c =
     let a = c .before .before .before .before .before .before .before .args in
-    leaves (checkpoint-refused (a .self) (a .disk .now) (a .memory .now) (a .tail .now) (a .allowed) _ (sym (c .before .before .admit-disk .ensures)) (c .before .if1 .taken))
+    leaves (checkpoint-refused (a .self) (a .disk .now) (a .memory .now) (a .tail .now) (a .allowed) _ (sym (c .before .before .admit-disk .ensures))
+    (c .before .if1 .taken))
     (c .refused .ensures) refl refl refl
 
 -- nothing refuses
@@ -40,19 +41,23 @@ encode-requires : tie.Need-encode-requires
 encode-requires c κs =
     let x = c .before .before .before in
     let a = start x .args in
-    let image = c .before .before .image in
-    (image-ok (a .self) (a .disk .now) (a .memory .now) (a .tail .now) (a .allowed) (passed x) (image .result) (image .ensures), (disk-admitted (a .self) (a .disk .now) (a .memory .now) (a .tail .now) (passed x) .memory, omega arith))
+    let image = c .before .before .image in (
+      image-ok (a .self) (a .disk .now) (a .memory .now) (a .tail .now) (a .allowed) (passed x) (image .result) (image .ensures),
+      (disk-admitted (a .self) (a .disk .now) (a .memory .now) (a .tail .now) (passed x) .memory, omega arith),
+    )
 
 -- the buffer holds the image
 
 abbrev accepted : tie.After-encode → tie.Else1
 accepted e = e .before .before .before .before
 
-image-bytes : (e : tie.After-encode) → let a = start (accepted e) .args in Encoded (a .self) (a .disk .now) (a .memory .now) (e .encode .last .0) (e .encode .result)
+image-bytes : (e : tie.After-encode) → let a = start (accepted e) .args in
+    Encoded (a .self) (a .disk .now) (a .memory .now) (e .encode .last .0) (e .encode .result)
 image-bytes e =
     let a = start (accepted e) .args in
     let image = e .before .before .before .image in
-    encoded (a .self) (a .disk .now) (a .memory .now) (a .tail .now) (a .allowed) (passed (accepted e)) (image .result) (e .encode .result) (replicate 8653 0) (e .encode .last .0) (image .ensures) (e .encode .ensures .0) (simp length-replicate (omega arith)) (e .encode .ensures .1)
+    encoded (a .self) (a .disk .now) (a .memory .now) (a .tail .now) (a .allowed) (passed (accepted e)) (image .result) (e .encode .result)
+    (replicate 8653 0) (e .encode .last .0) (image .ensures) (e .encode .ensures .0) (simp length-replicate (omega arith)) (e .encode .ensures .1)
 
 array-share-prefix-bytes : tie.Need-array-share-prefix-bytes
 array-share-prefix-bytes c = let e = image-bytes (c .before .before) in omega (arith, e .small, c .before .before .encode .kept .0)
@@ -82,7 +87,9 @@ returns-2 c =
     let made = c .before .before .before .before .before .before .before .before .before .before .store-image in
     let off = c .before .before .before .before .cut-off in
     leaves
-    (checkpoint-cut (a .self) (a .disk .now) (a .memory .now) (a .tail .now) (a .allowed) (passed (accepted e)) (e .encode .result) (made .result) (e .encode .last .0) (made .last .0) (image-bytes e) (made .ensures .0) (made .ensures .1) (c .before .before .before .before .before .before .before .if2 .taken))
+    (checkpoint-cut (a .self) (a .disk .now) (a .memory .now) (a .tail .now) (a .allowed) (passed (accepted e)) (e .encode .result) (made .result)
+    (e .encode .last .0) (made .last .0) (image-bytes e) (made .ensures .0) (made .ensures .1)
+    (c .before .before .before .before .before .before .before .if2 .taken))
     (off .ensures .0) refl (off .ensures .1 .0) (off .ensures .1 .1)
 
 same-length-5 : tie.Need-same-length-5
@@ -100,7 +107,8 @@ returns-3 c =
     let a = start (accepted e) .args in
     let made = c .before .before .before .store-image in
     leaves
-    (checkpoint-done (a .self) (a .disk .now) (a .memory .now) (a .tail .now) (a .allowed) (passed (accepted e)) (e .encode .result) (made .result) (e .encode .last .0) (made .last .0) (image-bytes e) (made .ensures .0) (made .ensures .1) (c .if2 .left))
+    (checkpoint-done (a .self) (a .disk .now) (a .memory .now) (a .tail .now) (a .allowed) (passed (accepted e)) (e .encode .result) (made .result)
+    (e .encode .last .0) (made .last .0) (image-bytes e) (made .ensures .0) (made .ensures .1) (c .if2 .left))
     refl refl refl refl
 
 pub checkpoint-spec : {M : Type 1} → statement M

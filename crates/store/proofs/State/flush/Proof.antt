@@ -20,7 +20,8 @@ refused-requires c κs = search needs
 returns : tie.Need-returns
 returns c =
     let a = c .before .before .before .before .before .before .before .args in
-    leaves (flush-refused (a .self) (a .disk .now) (a .memory .now) (a .tail .now) (a .k) (a .allowed) _ (sym (c .before .before .admit-disk .ensures)) (c .before .if1 .taken))
+    leaves (flush-refused (a .self) (a .disk .now) (a .memory .now) (a .tail .now) (a .k) (a .allowed) _ (sym (c .before .before .admit-disk .ensures))
+    (c .before .if1 .taken))
     (c .refused .ensures) refl refl refl
 
 -- nothing refuses
@@ -45,7 +46,8 @@ accepted r = r .before .before
 room : (r : tie.After-read-first) → let a = start (accepted r) .args in Room (a .self) (a .disk .now) (a .tail .now) (r .read-first .result .end)
 room r =
     let a = start (accepted r) .args in
-    flush-fits (a .self) (a .disk .now) (a .memory .now) (a .tail .now) (a .k) (a .allowed) (passed (accepted r)) (r .read-first .result) (r .read-first .ensures)
+    flush-fits (a .self) (a .disk .now) (a .memory .now) (a .tail .now) (a .k) (a .allowed) (passed (accepted r)) (r .read-first .result)
+    (r .read-first .ensures)
 
 sub-copy-up : tie.Need-sub-copy-up
 sub-copy-up c = omega (arith, room (c .before) .disk)
@@ -86,7 +88,9 @@ returns-2 c =
     let up = c .before .before .before .before .before .before .before .before .before .before .copy-up in
     let off = c .before .before .before .before .cut-off in
     leaves
-    (flush-cut (a .self) (a .disk .now) (a .memory .now) (a .tail .now) (a .k) (a .allowed) (passed (accepted r)) (r .read-first .result) (r .read-first .ensures) (up .result) (up .last .0) (up .ensures .0) (up .ensures .1) (c .before .before .before .before .before .before .before .if2 .taken))
+    (flush-cut (a .self) (a .disk .now) (a .memory .now) (a .tail .now) (a .k) (a .allowed) (passed (accepted r)) (r .read-first .result)
+    (r .read-first .ensures) (up .result) (up .last .0) (up .ensures .0) (up .ensures .1)
+    (c .before .before .before .before .before .before .before .if2 .taken))
     (off .ensures .0) refl (off .ensures .1 .0) (off .ensures .1 .1)
 
 shift-down-requires : tie.Need-shift-down-requires
@@ -107,7 +111,8 @@ returns-3 c =
     let a = start (accepted r) .args in
     let up = c .before .before .before .before .before .before .before .before .copy-up in
     leaves
-    (flush-done (a .self) (a .disk .now) (a .memory .now) (a .tail .now) (a .k) (a .allowed) (passed (accepted r)) (r .read-first .result) (r .read-first .ensures) (up .result) (up .last .0) (up .ensures .0) (up .ensures .1) (c .before .before .before .before .before .if2 .left))
+    (flush-done (a .self) (a .disk .now) (a .memory .now) (a .tail .now) (a .k) (a .allowed) (passed (accepted r)) (r .read-first .result)
+    (r .read-first .ensures) (up .result) (up .last .0) (up .ensures .0) (up .ensures .1) (c .before .before .before .before .before .if2 .left))
     (ap (tells done 0 (up .result)) (c .flush-step .ensures)) refl refl (c .before .before .before .shift-down .ensures)
 
 pub flush-spec : {M : Type 1} → statement M

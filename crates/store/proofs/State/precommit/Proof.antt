@@ -37,7 +37,10 @@ same-length c = search needs
 -- the number is precommit's own
 own : (c : tie.After-choose-precommit) → let a = c .before .before .before .before .before .args in
     precommitNumber (a .self) (a .memory .now) (a .tail .now) (a .id) ≡ c .choose-precommit .result .number
-own c = let a = c .before .before .before .before .before .args in number-after _ _ _ _ (c .before .admit .ensures) (λ n. precommitChecks (a .self) (a .id .0)) ∙ choice-own _ _ _ _ (precommitChecks (a .self) (a .id .0)) (c .choose-precommit .ensures)
+own c =
+    let a = c .before .before .before .before .before .args in
+    number-after _ _ _ _ (c .before .admit .ensures) (λ n. precommitChecks (a .self) (a .id .0))
+    ∙ choice-own _ _ _ _ (precommitChecks (a .self) (a .id .0)) (c .choose-precommit .ensures)
 
 returns : tie.Need-returns
 returns c =
@@ -46,7 +49,8 @@ returns c =
     (ap (λ (x : Outcome). x .result) (sym o), ap (λ (x : Outcome). x .tail) (sym o))
 
 found : (c : tie.Else1) → let a = c .before .before .before .before .before .before .before .args in
-    Placed (a .self) (length (a .memory .now)) (a .tail .now) (a .id .0) (c .before .before .choose-precommit .result) (λ k. check7 (a .self) (a .id .0) ∷ check12 (a .self) ∷ [])
+    Placed (a .self) (length (a .memory .now)) (a .tail .now) (a .id .0) (c .before .before .choose-precommit .result)
+    (λ k. check7 (a .self) (a .id .0) ∷ check12 (a .self) ∷ [])
 found c = placed _ _ _ _ _ _ _ (c .before .before .before .admit .ensures) (c .before .before .choose-precommit .ensures) (c .if1 .left)
 
 unspent : (c : tie.Else1) → c .before .before .before .before .before .before .before .args .self .assigned .0 < 4294967295
@@ -77,7 +81,8 @@ returns-2 c =
     let csn = s .assigned .0 + 1 in
     let o = precommit-done s (a .memory .now) t (a .id) (own (else .before .before) ∙ else .if1 .left) in
     let k = else .before .before .choose-precommit .result .slot in
-    let e : encodeGroup (committed (txAt s k .id .0) csn (writesOf (txAt s k .redo))) ≡ encodeGroup (committed (a .id .0) csn (writesOf (txOf s (a .id .0) .redo))) =
+    let e : encodeGroup (committed (txAt s k .id .0) csn (writesOf (txAt s k .redo)))
+    ≡ encodeGroup (committed (a .id .0) csn (writesOf (txOf s (a .id .0) .redo))) =
     ap (λ (j : ℕ). encodeGroup (committed (txAt s j .id .0) csn (writesOf (txAt s j .redo)))) (w .slot)
     ∙ ap (λ (i : ℕ). encodeGroup (committed i csn (writesOf (txOf s (a .id .0) .redo)))) (running s (a .id .0) (check12 s ∷ []) (w .own) .0 .named) in (
       ap (λ (u : State). tells done (u .assigned .0) 0 u) (step .ensures .0 ∙ ap (precommittedState s) (w .slot)) ∙ ap (λ (x : Outcome). x .result) (sym o),

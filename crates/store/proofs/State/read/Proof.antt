@@ -30,7 +30,10 @@ part-result-end c = search needs
 -- the number is read's own
 own : (c : tie.After-choose-read) → let a = c .before .before .before .before .args in
     readNumber (a .self) (a .memory .now) (a .tail .now) (a .id) (a .addr) (a .len) ≡ c .choose-read .result .number
-own c = let a = c .before .before .before .before .args in number-after _ _ _ _ (c .before .admit .ensures) (λ n. readChecks (a .self) (a .id .0) (a .addr) (a .len)) ∙ choice-own _ _ _ _ (readChecks (a .self) (a .id .0) (a .addr) (a .len)) (c .choose-read .ensures)
+own c =
+    let a = c .before .before .before .before .args in
+    number-after _ _ _ _ (c .before .admit .ensures) (λ n. readChecks (a .self) (a .id .0) (a .addr) (a .len))
+    ∙ choice-own _ _ _ _ (readChecks (a .self) (a .id .0) (a .addr) (a .len)) (c .choose-read .ensures)
 
 returns : tie.Need-returns
 returns c =
@@ -38,7 +41,8 @@ returns c =
     sym (read-refused (a .self) (a .memory .now) (a .tail .now) (a .id) (a .addr) (a .len) _ (own (c .before .before .before)) (c .before .if1 .taken))
 
 found : (c : tie.Else1) → let a = c .before .before .before .before .before .before .args in
-    Placed (a .self) (length (a .memory .now)) (a .tail .now) (a .id .0) (c .before .before .choose-read .result) (λ k. check7 (a .self) (a .id .0) ∷ check8 (a .addr) (a .len) ∷ check9 (a .self) (a .id .0) (a .addr) (a .len) ∷ [])
+    Placed (a .self) (length (a .memory .now)) (a .tail .now) (a .id .0) (c .before .before .choose-read .result)
+    (λ k. check7 (a .self) (a .id .0) ∷ check8 (a .addr) (a .len) ∷ check9 (a .self) (a .id .0) (a .addr) (a .len) ∷ [])
 found c = placed _ _ _ _ _ _ _ (c .before .before .before .admit .ensures) (c .before .before .choose-read .ensures) (c .if1 .left)
 
 -- the range lies within memory

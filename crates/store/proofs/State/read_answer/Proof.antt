@@ -17,7 +17,10 @@ choose-read-requires c κs = seen _ _ _ _ (c .admit .ensures)
 -- the number is read's own
 own : (c : tie.After-choose-read) → let a = c .before .before .before .before .args in
     readNumber (a .self) (a .memory .now) (a .tail .now) (a .id) (a .addr) (a .len) ≡ c .choose-read .result .number
-own c = let a = c .before .before .before .before .args in number-after _ _ _ _ (c .before .admit .ensures) (λ n. readChecks (a .self) (a .id .0) (a .addr) (a .len)) ∙ choice-own _ _ _ _ (readChecks (a .self) (a .id .0) (a .addr) (a .len)) (c .choose-read .ensures)
+own c =
+    let a = c .before .before .before .before .args in
+    number-after _ _ _ _ (c .before .admit .ensures) (λ n. readChecks (a .self) (a .id .0) (a .addr) (a .len))
+    ∙ choice-own _ _ _ _ (readChecks (a .self) (a .id .0) (a .addr) (a .len)) (c .choose-read .ensures)
 
 returns : tie.Need-returns
 returns c =

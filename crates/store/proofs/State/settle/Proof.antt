@@ -21,7 +21,10 @@ choose-settle-requires c κs = seen _ _ _ _ (c .admit .ensures)
 -- the number is settle's own
 own : (c : tie.After-choose-settle) → let a = c .before .before .before .before .args in
     settleNumber (a .self) (a .memory .now) (a .tail .now) (a .id) ≡ c .choose-settle .result .number
-own c = let a = c .before .before .before .before .args in number-after _ _ _ _ (c .before .admit .ensures) (λ n. settleChecks (a .self) (a .id .0)) ∙ choice-own _ _ _ _ (settleChecks (a .self) (a .id .0)) (c .choose-settle .ensures)
+own c =
+    let a = c .before .before .before .before .args in
+    number-after _ _ _ _ (c .before .admit .ensures) (λ n. settleChecks (a .self) (a .id .0))
+    ∙ choice-own _ _ _ _ (settleChecks (a .self) (a .id .0)) (c .choose-settle .ensures)
 
 returns : tie.Need-returns
 returns c =

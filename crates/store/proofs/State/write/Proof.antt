@@ -62,7 +62,8 @@ returns-2 c =
     let a = else .before .before .before .before .before .before .before .args in
     let step = c .before .before .write-step in
     let o = write-done (a .self) (a .memory .now) (a .tail .now) (a .id) (a .addr) (a .bytes .now) (own (else .before .before) ∙ else .if1 .left) in (
-      ap (tells done 0 0) (step .ensures .0 ∙ ap (λ (k : ℕ). writtenState (a .self) k (a .memory .now) (a .addr) (a .bytes .now)) (found else .slot)) ∙ ap (λ (x : Outcome). x .result) (sym o),
+      ap (tells done 0 0) (step .ensures .0 ∙ ap (λ (k : ℕ). writtenState (a .self) k (a .memory .now) (a .addr) (a .bytes .now)) (found else .slot))
+          ∙ ap (λ (x : Outcome). x .result) (sym o),
       step .ensures .1 ∙ ap (λ (x : Outcome). x .memory) (sym o),
     )
 

@@ -20,8 +20,10 @@ same-length-2 : tie.Need-same-length-2
 same-length-2 c = search needs
 
 returns : tie.Need-returns
-returns c =
-    (ap (tells cut 0 (c .before .before .before .before .before .before .before .before .before .before .before .args .stores)) (c .unrecovered .ensures), (c .before .before .before .before .before .before .before .fill-zero .ensures, c .before .before .before .fill-zero2 .ensures))
+returns c = (
+  ap (tells cut 0 (c .before .before .before .before .before .before .before .before .before .before .before .args .stores)) (c .unrecovered .ensures),
+  (c .before .before .before .before .before .before .before .fill-zero .ensures, c .before .before .before .fill-zero2 .ensures),
+)
 
 pub cut-off-spec : {M : Type 1} → statement M
 cut-off-spec =

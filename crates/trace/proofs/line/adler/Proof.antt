@@ -24,7 +24,15 @@ byte-requires : tie.Need-byte-requires Inv-loop μ-loop
 byte-requires c κs = search needs
 
 add-a : tie.Need-add-a Inv-loop μ-loop
-add-a c = omega (arith, c .byte .ensures, c .before .shared-slice-known2 .given (c .before .before .before .loop .i), c .before .before .before .loop .inv .1, c .before .before .before .loop .inv .2)
+add-a c =
+    omega (
+      arith,
+      c .byte .ensures,
+      c .before .shared-slice-known2 .given
+          (c .before .before .before .loop .i),
+      c .before .before .before .loop .inv .1,
+      c .before .before .before .loop .inv .2,
+    )
 
 add-b : tie.Need-add-b Inv-loop μ-loop
 add-b c = omega (arith, c .before .before .before .loop .inv .2)
@@ -42,7 +50,8 @@ loop-again c =
       omega arith,
       omega arith,
       omega arith,
-      l .inv .3 ∙ sums-more _ s (l .i) (c .before .before .loop-test .taken) ∙ ap (λ (x : ℕ). sums (plusByte (record { s1 = l .a; s2 = l .b }) x) (drop (l .i + 1) s)) (sym (c .byte .ensures)),
+      l .inv .3 ∙ sums-more _ s (l .i) (c .before .before .loop-test .taken)
+          ∙ ap (λ (x : ℕ). sums (plusByte (record { s1 = l .a; s2 = l .b }) x) (drop (l .i + 1) s)) (sym (c .byte .ensures)),
     )
 
 mul-result : tie.Need-mul-result Inv-loop μ-loop

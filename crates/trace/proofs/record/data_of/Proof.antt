@@ -31,7 +31,8 @@ part-result-end-2 : tie.Need-part-result-end-2
 part-result-end-2 c = search needs
 
 returns-2 : tie.Need-returns-2
-returns-2 c = sym (data-is (c .before .before .before .before .before .args .b .now) 40 (c .before .before .before .if1 .left) (omega (arith, c .before .if2 .taken)))
+returns-2 c =
+    sym (data-is (c .before .before .before .before .before .args .b .now) 40 (c .before .before .before .if1 .left) (omega (arith, c .before .if2 .taken)))
 
 wide-requires : tie.Need-wide-requires
 wide-requires c κs = search needs
@@ -49,7 +50,9 @@ part-result-end-3 : tie.Need-part-result-end-3
 part-result-end-3 c = search needs
 
 returns-3 : tie.Need-returns-3
-returns-3 c = sym (data-is (c .before .before .before .before .before .before .args .b .now) (24 + c .before .wide .result - 24) (c .before .before .before .before .if1 .left) (omega (arith, c .before .before .if2 .left, c .before .wide .ensures)))
+returns-3 c =
+    sym (data-is (c .before .before .before .before .before .before .args .b .now) (24 + c .before .wide .result - 24)
+    (c .before .before .before .before .if1 .left) (omega (arith, c .before .before .if2 .left, c .before .wide .ensures)))
 
 pub data-of-spec : {M : Type 1} → statement M
 data-of-spec =

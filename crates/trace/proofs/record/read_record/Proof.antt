@@ -42,7 +42,15 @@ cast-t15 c = search needs
 returns-2 : tie.Need-returns-2
 unfolding recordOf
 returns-2 c =
-    rw (eq-eqb (length (c .before .before .before .before .before .before .before .before .args .b .now)) 64 (c .before .before .before .before .before .before .if1 .left), c .before .before .before .before .be16 .ensures, c .before .before .before .be32 .ensures, c .before .before .be322 .ensures, c .before .be323 .ensures, c .be324 .ensures)
+    rw (
+      eq-eqb (length (c .before .before .before .before .before .before .before .before .args .b .now)) 64
+          (c .before .before .before .before .before .before .if1 .left),
+      c .before .before .before .before .be16 .ensures,
+      c .before .before .before .be32 .ensures,
+      c .before .before .be322 .ensures,
+      c .before .be323 .ensures,
+      c .be324 .ensures,
+    )
 
 pub read-record-spec : {M : Type 1} → statement M
 read-record-spec =
