@@ -20,7 +20,7 @@ use Rattle.store.specs.declared.State.{State}
 use Rattle.store.specs.declared.admit.Measured.{Measured}
 use Rattle.store.specs.declared.admit.Admission.{Admission}
 use Rattle.store.specs.State.{txAt, txsOf, outlineAt, outlinesOf}
-use Rattle.image.specs.Rules.{distinct, outlinesOk}
+use Rattle.image.specs.Rules.{distinct, boundsOk, outlinesOk}
 use Rattle.store.specs.Rules.{allZero, tailLength, tailOk, roomUsed, unfit}
 use Rattle.store.specs.Numbers.{Check, check, firstNumber, sharedChecks, numberBy}
 use Rattle.store.specs.Admission.{notAdmitted, ruleBroken, countersOk, measuredIf, measuredTxs, measuredTail, admission, numberAfter, Seen}
@@ -87,9 +87,20 @@ module _ (s : State) where
   txs-room r e o =
       ap (λ (x : Measured). x .room) e ∙ if-room (outlined && every redoOk (txsOf s)) (sumOf roomOf (txsOf s)) (sym (txs-measured r e) ∙ o)
 
+-- a call that nothing refuses: neither its admission nor its own checks
+pub after-passed : (x : Admission) (cs : List Check) → numberAfter x cs ≡ 0 → (x .number ≡ 0) × (firstNumber cs ≡ 0)
+after-passed x cs = go (eqb (x .number) 0) refl
+  where
+    go : (b : Bool) → eqb (x .number) 0 ≡ b → cond b (firstNumber cs) (x .number) ≡ 0 → (x .number ≡ 0) × (firstNumber cs ≡ 0)
+    go true q e = (eqb-true (x .number) 0 q, e)
+    go false q e = absurd (eqb-false (x .number) 0 q e)
+
 -- ---- number 2
 
 module _ (s : State) (t : List ℕ) where
+  abbrev bounds : Bool
+  bounds = boundsOk (s .logend) (s .ondisk .0) (s .assigned .0) (s .count)
+
   abbrev head : Bool
   head = countersOk (s .recovered) (s .logend) (s .ondisk .0) (s .assigned .0) (s .count)
 
@@ -97,16 +108,13 @@ module _ (s : State) (t : List ℕ) where
   unfolding unfit countersOk
   unfit-head e =
       rw (length-up (outlineAt s) (s .count) 0)
-      (go (s .recovered) (leb (s .logend) 16384) (leb (s .ondisk .0) (s .assigned .0)) (leb (s .count) 8)
-      (outlinesOk (s .lastid .0) (s .assigned .0) (outlinesOf s))
+      (go (s .recovered) bounds (outlinesOk (s .lastid .0) (s .assigned .0) (outlinesOf s))
       (ltb 16384 (roomUsed s t)) (not (every redoOk (txsOf s))) (not (tailOk (s .ondisk .0) (s .assigned .0) t)) e)
     where
-      go : (r a b k o x y z : Bool) → r && a && b && k ≡ false → not r || not (a && b && k && o) || x || y || z ≡ true
-      go false a b k o x y z e = refl
-      go true false b k o x y z e = refl
-      go true true false k o x y z e = refl
-      go true true true false o x y z e = refl
-      go true true true true o x y z e = let w : true ≡ false = e in cc
+      go : (r i o x y z : Bool) → r && i ≡ false → not r || not (i && o) || x || y || z ≡ true
+      go false i o x y z e = refl
+      go true false o x y z e = refl
+      go true true o x y z e = let w : true ≡ false = e in cc
 
   pub unfit-txs : outlinesOk (s .lastid .0) (s .assigned .0) (outlinesOf s) && every redoOk (txsOf s) ≡ false → unfit s t ≡ true
   unfolding unfit
@@ -131,24 +139,19 @@ module _ (s : State) (t : List ℕ) where
   module _ (e : head ≡ true) where
     pub head-count : s .count ≤ 8
     unfolding countersOk
-    head-count = leb-true _ _ (and-right (s .recovered && leb (s .logend) 16384 && leb (s .ondisk .0) (s .assigned .0)) (leb (s .count) 8) e)
+    head-count =
+        leb-true _ _ (and-right (leb (s .logend) 16384 && leb (s .ondisk .0) (s .assigned .0)) (leb (s .count) 8) (and-right (s .recovered) bounds e))
 
     pub unfit-none : outlinesOk (s .lastid .0) (s .assigned .0) (outlinesOf s) && every redoOk (txsOf s) ≡ true
         → tailOk (s .ondisk .0) (s .assigned .0) t ≡ true
         → roomUsed s t ≤ 16384 → unfit s t ≡ false
     unfolding countersOk
     unfit-none m q h =
-        let a = s .recovered in
-        let b = leb (s .logend) 16384 in
-        let c = leb (s .ondisk .0) (s .assigned .0) in
-        let d = leb (s .count) 8 in
-        let x₂ : a && b && c ≡ true = and-left (a && b && c) d e in
-        let x₁ : a && b ≡ true = and-left (a && b) c x₂ in
         let o : outlinesOk (s .lastid .0) (s .assigned .0) (outlinesOf s) ≡ true = and-left _ (every redoOk (txsOf s)) m in
         unfit-no s t
         (record {
-          recovered = and-left a b x₁;
-          image = rw (length-up (outlineAt s) (s .count) 0, and-right a b x₁, and-right (a && b) c x₂, and-right (a && b && c) d e, o);
+          recovered = and-left (s .recovered) bounds e;
+          image = rw (length-up (outlineAt s) (s .count) 0, and-right (s .recovered) bounds e, o);
           room = h;
           redo = and-right (outlinesOk (s .lastid .0) (s .assigned .0) (outlinesOf s)) (every redoOk (txsOf s)) m;
           tail = q;

@@ -13,13 +13,13 @@ use Rattle.store.specs.declared.admit.Measured.{Measured}
 use Rattle.store.specs.declared.admit.Admission.{Admission}
 use Rattle.store.specs.declared.choose.Choice.{Choice}
 use Rattle.store.specs.State.{txsOf, outlinesOf, slotOf}
-use Rattle.image.specs.Rules.{outlinesOk}
+use Rattle.image.specs.Rules.{boundsOk, outlinesOk}
 use Rattle.store.specs.Rules.{keepsImageRules, tailLength, tailOk, roomUsed}
 use Rattle.store.specs.Numbers.{Check, firstNumber, sharedChecks, check6}
 
 -- recovered, and the image rules of the counters
 unfoldable pub countersOk : Bool → ℕ → ℕ → ℕ → ℕ → Bool
-countersOk recovered logend ondisk assigned count = recovered && leb logend logLen && leb ondisk assigned && leb count maxTxs
+countersOk recovered logend ondisk assigned count = recovered && boundsOk logend ondisk assigned count
 
 abbrev pub ruleBroken : Measured
 ruleBroken = record { ok = false; room = 0 }

@@ -1,7 +1,6 @@
 // Numbers 1 and 2, which every call that is handed a state checks first.
-use crate::COUNT_MAX;
-use crate::LOGEND_MAX;
 use crate::State;
+use image::bounds_ok;
 use image::keys::alike_from;
 use image::keys::keys_of;
 use layout::LOG_LEN;
@@ -64,13 +63,7 @@ fn counters_ok(recovered: bool, logend: u16, ondisk: Csn, assigned: Csn, count: 
     if !recovered {
         return false;
     }
-    if LOGEND_MAX < logend {
-        return false;
-    }
-    if assigned.0 < ondisk.0 {
-        return false;
-    }
-    count <= COUNT_MAX
+    bounds_ok(logend, ondisk, assigned, count)
 }
 
 // Whole groups with commit numbers from the one on disk up to the one assigned, then zeros.

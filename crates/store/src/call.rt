@@ -30,14 +30,7 @@ impl State {
         ensures { λ r. ⌜ ofBegun r ≡ beginOf self (now (memory .entry)) (now (tail .entry)) ⌝ }
     {
         let admitted = self.admit(memory.len(), tail);
-        if admitted.number != 0 {
-            return Begun {
-                answer: Answer::Refused(admitted.number),
-                id: TxId(0),
-                state: self,
-            };
-        }
-        let number = begin_number(self.count, self.lastid, admitted.room);
+        let number = begin_number(admitted, self.count, self.lastid);
         if number != 0 {
             return Begun {
                 answer: Answer::Refused(number),

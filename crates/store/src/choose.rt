@@ -18,8 +18,8 @@ ghost use Rattle.recovery.specs.Lists.{any};
 ghost use Rattle.transaction.specs.Rules.{heldAgainst};
 ghost use Rattle.store.specs.State.{txsOf, slotOf};
 ghost use Rattle.store.specs.Rules.{keepsImageRules};
-ghost use Rattle.store.specs.Numbers.{firstNumber, beginChecks, readChecks, writeChecks, precommitChecks, abortChecks, settleChecks};
-ghost use Rattle.store.specs.Admission.{listedChecks, refusal, choice, Seen};
+ghost use Rattle.store.specs.Numbers.{beginChecks, readChecks, writeChecks, precommitChecks, abortChecks, settleChecks};
+ghost use Rattle.store.specs.Admission.{numberAfter, listedChecks, refusal, choice, Seen};
 
 // The number that refuses, 0 for none; if none, the slot, where the tail's groups end and the log room used.
 pub(crate) struct Choice {
@@ -41,17 +41,20 @@ fn refuse(number: u8) -> Choice
 }
 
 // Numbers 11, 12 and 13.
-pub(crate) fn begin_number(count: u8, last: TxId, room: usize) -> u8
-    requires { ⌜ room ≤ logLen ⌝ }
-    ensures { λ r. ⌜ r ≡ firstNumber (beginChecks count (last .0) room) ⌝ }
+pub(crate) fn begin_number(admitted: Admission, count: u8, last: TxId) -> u8
+    requires { ⌜ (admitted .number ≡ 0 → admitted .room ≤ logLen) ⌝ }
+    ensures { λ r. ⌜ r ≡ numberAfter admitted (beginChecks count (last .0) (admitted .room)) ⌝ }
 {
+    if admitted.number != 0 {
+        return admitted.number;
+    }
     if count == COUNT_MAX {
         return 11;
     }
     if last.0 == 65535 {
         return 12;
     }
-    if LOG_LEN < room + COMMIT_LEN {
+    if LOG_LEN < admitted.room + COMMIT_LEN {
         return 13;
     }
     0

@@ -8,7 +8,6 @@ mod flush;
 mod step;
 pub mod stored;
 
-use layout::LOG_LEN;
 use layout::MAX_RECORDS;
 use layout::MAX_TXS;
 use log::Csn;
@@ -18,8 +17,6 @@ ghost use mathlib.Core.Path.{_≡_};
 ghost use Rattle.store.specs.State.{unrecovered};
 
 // Bounds of the state's fields, at their widths.
-pub(crate) const LOGEND_MAX: u16 = LOG_LEN as u16;
-
 pub(crate) const COUNT_MAX: u8 = MAX_TXS as u8;
 
 pub(crate) const RECORDS_MAX: u8 = MAX_RECORDS as u8;
