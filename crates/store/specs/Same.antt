@@ -1,6 +1,7 @@
 -- What no call tells apart. Three things in a state may differ from one correct program to another: the slots past the count, the bytes past a
--- record's length, and the redo records of a transaction that isn't running. All else is shown, and states that show the same are answered
--- alike and go on to show the same.
+-- record's length, and the redo records of a transaction that isn't running. All else is shown. States that show the same are to be answered
+-- alike and to show the same afterwards: proofs/Sameness, SameCalls and SameWrite have it for the numbers and states of the calls in memory, not
+-- for flush and checkpoint.
 use Prim.Native.Nat.{ℕ, _<_}
 use mathlib.Core.Path.{_≡_}
 use Rattle.layout.specs.{statusRunning}
