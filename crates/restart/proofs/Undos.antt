@@ -21,7 +21,7 @@ use Rattle.restart.specs.declared.forward.Pass.{Pass}
 use Rattle.restart.specs.Slots.{transactionAt, oneIf}
 use Rattle.restart.specs.Forward.{Went, wentBy, forwardOf}
 use Rattle.restart.specs.Undo.{runningAt, lostAt, lostBy, runningOf, lostOf}
-use Rattle.restart.specs.Restart.{Outcome, outcome, recoverOf}
+use Rattle.restart.specs.Restart.{AfterSteps, afterSteps, recoverOf}
 use Rattle.restart.proofs.SlotLaws.{filter-length}
 
 aborts-append : (xs ys : List Tx) → encodeLog (aborts (xs ++ ys)) ≡ encodeLog (aborts xs) ++ encodeLog (aborts ys)
@@ -84,9 +84,9 @@ module _ (image : Image) (log m tail : List ℕ) (p : Pass) (m₁ : List ℕ) (p
   unfolding recoverOf
   restart-case n k m₂ t₂ m₃ t₃ a b =
       let v = undid-more (runningOf image p) (lostOf image p) m₁ tail 0 m₂ t₂ n m₃ t₃ k a b in
-      let e : outcome image (wentBy m₁ p) tail ≡ outcome image (forwardOf image log m) tail =
-      ap (λ (w : Went). outcome image w tail) (ap₂ wentBy forwarded passed) in (
+      let e : afterSteps image (wentBy m₁ p) tail ≡ afterSteps image (forwardOf image log m) tail =
+      ap (λ (w : Went). afterSteps image w tail) (ap₂ wentBy forwarded passed) in (
         ap (λ (x : ℕ). record { end = p .end; csn = p .csn; last = p .last; undone = x; found = p .found }) (v .count ∙ zero-add _)
-            ∙ ap (λ (o : Outcome). o .answer) e,
-        (v .memory ∙ ap (λ (o : Outcome). o .memory) e, v .tail ∙ ap (λ (o : Outcome). o .tail) e),
+            ∙ ap (λ (o : AfterSteps). o .answer) e,
+        (v .memory ∙ ap (λ (o : AfterSteps). o .memory) e, v .tail ∙ ap (λ (o : AfterSteps). o .tail) e),
       )

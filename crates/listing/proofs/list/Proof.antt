@@ -6,7 +6,7 @@ use borrow.Author.Needs.{needs}
 use Rattle.store.specs.Answer.{Told}
 use Rattle.listing.specs.Text.{refusedText}
 use Rattle.listing.proofs.Putting.{Short, lines-short, found-short, refused-short, put-front}
-use Rattle.listing.proofs.Endings.{few-undone, listing-refused, listing-found, listed}
+use Rattle.listing.proofs.Endings.{few-undone, listing-refused, listing-found, printed}
 use Rattle.listing.proofs.list.Statement.{statement}
 use Rattle.listing.proofs.list.Tie as tie
 
@@ -68,7 +68,7 @@ returns c =
     let x = c .before .before .before .before .before .before .before .before .before .before .before .before .restart in
     let n = c .before .before .before .before .answer .given .0 .0 in
     let e = listing-refused disk (x .result) (x .ensures .0) n (c .before .before .before .before .answer .given .1) in (
-      listed (sym e)
+      printed (sym e)
           (put-front (zeros (c .before .before .before .before .before .before)) (refused-short n (byte (c .before .before .before)))
           (c .put-line .ensures)),
       x .ensures .1 .0,
@@ -100,7 +100,7 @@ returns-2 c =
     let x = c .before .before .before .before .before .before .before .before .before .before .restart in
     let p = c .before .before .before .before .before .before .before .before .before .before .before .before .before .before .pointer-of in
     let e = listing-found disk (x .result) (x .ensures .0) (p .result) (p .ensures) (c .before .before .before .match .keys2) in (
-      listed (sym e)
+      printed (sym e)
           (put-front (zeros (c .before .before .before .before))
           (found-short (short (c .before .before .before .before .before .before .before .before .before .before))) (c .put-found .ensures)),
       x .ensures .1 .0,
