@@ -16,8 +16,8 @@ use Rattle.store.specs.State.{imageOf, txAt, txsOf, hasId, slotOf}
 use Rattle.store.specs.declared.choose.Choice.{Choice}
 use Rattle.store.specs.declared.admit.Admission.{Admission}
 use Rattle.store.specs.Rules.{keepsImageRules}
-use Rattle.store.specs.Numbers.{Check, firstNumber, txOf, check6, check7, check8}
-use Rattle.store.specs.Admission.{numberAfter, refusal, chosen, choice, Seen}
+use Rattle.store.specs.Numbers.{Check, firstNumber, txOf, check6, check7, check8, rangeChecks}
+use Rattle.store.specs.Admission.{numberAfter, refusal, chosen, choice, after, Seen}
 use Rattle.store.proofs.Checks.{positive, stops, passes, passed}
 use Rattle.store.proofs.Slots.{slot as find, slot-within}
 
@@ -86,8 +86,19 @@ module _ (s : State) (x : Admission) (id : ℕ) where
         pub choice-goes : firstNumber ds ≡ 0 → r ≡ choice s x id (cs ++ ds)
         choice-goes d = choice-chosen h ∙ sym (choice-none (cs ++ ds) (next ∙ d))
 
-        pub choice-refuses : (n : ℕ) → firstNumber ds ≡ n → (n ≡ 0 → ⊥) → {y : Choice} → y ≡ refusal n → y ≡ choice s x id (cs ++ ds)
-        choice-refuses n d z q = q ∙ sym (choice-some (cs ++ ds) n (next ∙ d) z)
+        pub choice-refuses : (n : ℕ) → eqb n 0 ≡ false → firstNumber ds ≡ n → {y : Choice} → y ≡ refusal n → y ≡ choice s x id (cs ++ ds)
+        choice-refuses n z d q = q ∙ sym (choice-some (cs ++ ds) n (next ∙ d) (eqb-false n 0 z))
+
+    -- the same of a choice that went on from r
+    pub choice-after : positive cs ≡ true → (ds : List Check) (y : Choice) → y ≡ after r ds → y ≡ choice s x id (cs ++ ds)
+    unfolding after
+    choice-after p ds y q = q ∙ go (eqb (r .number) 0) refl (eqb (firstNumber ds) 0) refl
+      where
+        go : (b : Bool) → eqb (r .number) 0 ≡ b → (c : Bool) → eqb (firstNumber ds) 0 ≡ c
+            → cond b (cond c r (refusal (firstNumber ds))) r ≡ choice s x id (cs ++ ds)
+        go true f true g = choice-goes p ds (eqb-true (r .number) 0 f) (eqb-true (firstNumber ds) 0 g)
+        go true f false g = choice-refuses p ds (eqb-true (r .number) 0 f) (firstNumber ds) g refl refl
+        go false f c g = choice-stops p ds (eqb-false (r .number) 0 f)
 
 -- ---- 6 and 7
 
@@ -97,32 +108,32 @@ module _ (s : State) (id slot : ℕ) (e : slot ≡ slotOf s id) where
       let x = find s id in
       x .listed (omega (arith, e, x .high, h))
 
-  pub refused-6 : (cs : List Check) → slot ≡ s .count → firstNumber (check6 s id ∷ cs) ≡ 6
-  refused-6 cs h = let x = find s id in rw (x .unlisted (sym e ∙ h ∙ omega arith))
+  pub refused-6 : slot ≡ s .count → firstNumber (check6 s id ∷ []) ≡ 6
+  refused-6 h = let x = find s id in rw (x .unlisted (sym e ∙ h ∙ omega arith))
 
-  pub passes-6 : (cs : List Check) → (slot ≡ s .count → ⊥) → firstNumber (check6 s id ∷ cs) ≡ firstNumber cs
-  passes-6 cs h = rw (is-listed h)
+  pub passes-6 : (slot ≡ s .count → ⊥) → firstNumber (check6 s id ∷ []) ≡ 0
+  passes-6 h = rw (is-listed h)
 
   pub status-of : txOf s id .status ≡ txAt s slot .status
   status-of = ap (λ (k : ℕ). txAt s k .status) (sym e)
 
-  pub refused-7 : (cs : List Check) → txAt s slot .status ≡ 2 → firstNumber (check7 s id ∷ cs) ≡ 7
-  refused-7 cs h = rw (eq-eqb _ _ (status-of ∙ h))
+  pub refused-7 : txAt s slot .status ≡ 2 → firstNumber (check7 s id ∷ []) ≡ 7
+  refused-7 h = rw (eq-eqb _ _ (status-of ∙ h))
 
-  pub passes-7 : (cs : List Check) → (txAt s slot .status ≡ 2 → ⊥) → firstNumber (check7 s id ∷ cs) ≡ firstNumber cs
-  passes-7 cs h = rw (ne-eqb _ _ (λ z. h (sym status-of ∙ z)))
+  pub passes-7 : (txAt s slot .status ≡ 2 → ⊥) → firstNumber (check7 s id ∷ []) ≡ 0
+  passes-7 h = rw (ne-eqb _ _ (λ z. h (sym status-of ∙ z)))
 
--- what may be relied on where neither the admission nor number 6 refuses
+-- what a chooser may rely on that goes on from r, where neither the admission nor the checks cs after number 6 refuse; ds are its own
 pub record Slotted (s : State) (x : Admission) (id : ℕ) (r : Choice) (cs : List Check) : Type 0 where
-  pub admits : x .number ≡ 0
   pub rules : keepsImageRules s ≡ true
   pub few : s .count ≤ 8
   pub own : firstNumber (check6 s id ∷ cs) ≡ 0
   pub listed : r .slot < s .count
   pub slot : r .slot ≡ slotOf s id
-  pub end : r .end ≡ x .end
   pub room : r .room ≡ x .room
   pub small : x .room ≤ 16384
+  pub goes : (ds : List Check) → firstNumber ds ≡ 0 → r ≡ choice s x id (check6 s id ∷ (cs ++ ds))
+  pub refuses : (ds : List Check) (n : ℕ) → eqb n 0 ≡ false → firstNumber ds ≡ n → {y : Choice} → y ≡ refusal n → y ≡ choice s x id (check6 s id ∷ (cs ++ ds))
 
 -- what number 6 says where it does not refuse
 pub listed-by-6 : (s : State) (id : ℕ) → not (any (hasId id) (txsOf s)) ≡ false → (slotOf s id < s .count) × (txOf s id .id .0 ≡ id)
@@ -130,29 +141,31 @@ listed-by-6 s id e =
     let l = slot-within s id (not-false _ e) in
     (l, sym (eqb-true _ _ (find s id .there (omega arith))))
 
-pub slotted : (s : State) (x : Admission) (id : ℕ) (r : Choice) (cs : List Check) → Seen x s → r ≡ choice s x id (check6 s id ∷ cs) → r .number ≡ 0
+pub slotted : (s : State) (x : Admission) (id : ℕ) (r : Choice) (cs : List Check) → Seen x s → positive cs ≡ true → r ≡ choice s x id (check6 s id ∷ cs)
+    → r .number ≡ 0
     → Slotted s x id r cs
-slotted s x id r cs seen e h =
-    let a = after-none x (check6 s id ∷ cs) (choice-own s x id r (check6 s id ∷ cs) e ∙ h) in
-    let c = choice-chosen s x id r (check6 s id ∷ cs) e h in
+slotted s x id r cs seen p e h =
+    let all = check6 s id ∷ cs in
+    let a = after-none x all (choice-own s x id r all e ∙ h) in
+    let c = choice-chosen s x id r all e h in
     let k : r .slot ≡ slotOf s id = ap (λ (y : Choice). y .slot) c in
     let w = seen (a .0) in
     record {
-      admits = a .0;
       rules = w .0;
       few = image-count (imageOf s) (w .0);
       own = a .1;
       listed = omega (arith, k, listed-by-6 s id (passed (check6 s id ∷ []) cs refl (a .1) .0 .0) .0);
       slot = k;
-      end = ap (λ (y : Choice). y .end) c;
       room = ap (λ (y : Choice). y .room) c;
       small = w .1;
+      goes = λ ds. choice-goes s x id r all e p ds h;
+      refuses = λ ds. choice-refuses s x id r all e p ds h;
     }
 
 -- ---- 8
 
-after : (x y : ℕ) → ltb x y ≡ not (leb y x)
-after x y = elim (decLe y x) [ yes p ↦ rw (le-ltb x y p, le-leb y x p) | no q ↦ rw (lt-ltb x y (omega (arith, q)), lt-leb y x (omega (arith, q))) ]
+beyond : (x y : ℕ) → ltb x y ≡ not (leb y x)
+beyond x y = elim (decLe y x) [ yes p ↦ rw (le-ltb x y p, le-leb y x p) | no q ↦ rw (lt-ltb x y (omega (arith, q)), lt-leb y x (omega (arith, q))) ]
 
 empty : (n : ℕ) → eqb n 0 ≡ not (leb 1 n)
 empty n =
@@ -166,7 +179,7 @@ empty n =
     ]
 
 pub out-of-range : (a n : ℕ) → (eqb n 0 || ltb 32 n || ltb 4096 (a + n)) ≡ not (inRange a n)
-out-of-range a n = rw (empty n, after 32 n, after 4096 (a + n)) (go (leb 1 n) (leb n 32) (leb (a + n) 4096))
+out-of-range a n = rw (empty n, beyond 32 n, beyond 4096 (a + n)) (go (leb 1 n) (leb n 32) (leb (a + n) 4096))
   where
     go : (x y z : Bool) → (not x || not y || not z) ≡ not (x && y && z)
     go true true true = refl
@@ -174,11 +187,11 @@ out-of-range a n = rw (empty n, after 32 n, after 4096 (a + n)) (go (leb 1 n) (l
     go true false z = refl
     go false y z = refl
 
-pub refused-8 : (a n : ℕ) (cs : List Check) → inRange a n ≡ false → firstNumber (check8 a n ∷ cs) ≡ 8
-refused-8 a n cs e = rw (out-of-range a n, e)
+pub refused-8 : (a n : ℕ) → inRange a n ≡ false → firstNumber (check8 a n ∷ []) ≡ 8
+refused-8 a n e = rw (out-of-range a n, e)
 
-pub passes-8 : (a n : ℕ) (cs : List Check) → inRange a n ≡ true → firstNumber (check8 a n ∷ cs) ≡ firstNumber cs
-passes-8 a n cs e = rw (out-of-range a n, e)
+pub passes-8 : (a n : ℕ) → inRange a n ≡ true → firstNumber (check8 a n ∷ []) ≡ 0
+passes-8 a n e = rw (out-of-range a n, e)
 
 -- what number 8 says where it does not refuse
 pub record Ranged (a n : ℕ) : Type 0 where
@@ -191,3 +204,6 @@ ranged-by-8 a n e =
     let o = not-false _ (sym (out-of-range a n) ∙ e) in
     let g = in-range a n o in
     record { ok = o; short = g .1; within = g .2 }
+
+pub chosen-range : (s : State) (id a n : ℕ) → firstNumber (rangeChecks s id a n) ≡ 0 → Ranged a n
+chosen-range s id a n z = ranged-by-8 a n (passed (rangeChecks s id a n) [] refl z .0 .1 .1 .0)

@@ -20,7 +20,7 @@ use Rattle.image.proofs.Rules.{image-count, undo-at}
 use Rattle.store.specs.declared.State.{State}
 use Rattle.store.specs.State.{txsOf, slotOf, imageOf}
 use Rattle.store.specs.Rules.{tailLength, roomUsed}
-use Rattle.store.specs.Numbers.{Check, firstNumber, numberBy, txOf, check8, check9, check10, check12, check13, beginChecks, abortChecks, settleChecks}
+use Rattle.store.specs.Numbers.{Check, firstNumber, numberBy, txOf, check8, check9, check10, check12, check13, beginChecks, rangeChecks, abortChecks, settleChecks}
 use Rattle.store.specs.Calls.{beginNumber, writeNumber, readNumber, precommitNumber, abortNumber, settleNumber}
 use Rattle.store.proofs.Checks.{passed}
 use Rattle.store.proofs.Fits.{Fit, status-at, redo-at, room-at}
@@ -134,28 +134,35 @@ module _ (s : State) (m t : List ℕ) where
         record { runs = p .0; unspent = eqb-false _ _ (passed cs [] refl (p .1) .0 .0) }
 
     module _ (a n : ℕ) where
+      -- then 8, whatever the call checks besides
+      range-passed : (cs : List Check) → numberBy s (length m) t (rangeChecks s (id .0) a n ++ cs) ≡ 0
+          → RunningPassed s m t (id .0) × Ranged a n × (firstNumber cs ≡ 0)
+      range-passed cs e =
+          let p = running-passed (check8 a n ∷ cs) e in
+          let q = passed (check8 a n ∷ []) cs refl (p .1) in
+          (p .0, ranged-by-8 a n (q .0 .0), q .1)
+
       pub read-passed : readNumber s m t id a n ≡ 0 → ReadPassed s m t (id .0) a n
       read-passed e =
-          let cs = check8 a n ∷ check9 s (id .0) a n ∷ [] in
-          let p = running-passed cs e in
-          let q = passed cs [] refl (p .1) .0 in
-          record { runs = p .0; range = ranged-by-8 a n (q .0); free = q .1 .0 }
+          let cs = check9 s (id .0) a n ∷ [] in
+          let p = range-passed cs e in
+          record { runs = p .0; range = p .1; free = passed cs [] refl (p .2) .0 .0 }
 
       pub write-passed : writeNumber s m t id a n ≡ 0 → WritePassed s m t (id .0) a n
       write-passed e =
           let x = txOf s (id .0) in
-          let cs = check8 a n ∷ check9 s (id .0) a n ∷ check10 s (id .0) ∷ check13 (roomUsed s t) n ∷ [] in
-          let p = running-passed cs e in
+          let cs = check9 s (id .0) a n ∷ check10 s (id .0) ∷ check13 (roomUsed s t) n ∷ [] in
+          let p = range-passed cs e in
           let r = p .0 in
-          let q = passed cs [] refl (p .1) .0 in
-          let few : x .undo .count < 16 = omega (arith, counted (x .undo) (r .undo), eqb-false (x .undo .count) 16 (q .1 .1 .0)) in
+          let q = passed cs [] refl (p .2) .0 in
+          let few : x .undo .count < 16 = omega (arith, counted (x .undo) (r .undo), eqb-false (x .undo .count) 16 (q .1 .0)) in
           record {
             runs = r;
-            range = ranged-by-8 a n (q .0);
-            free = q .1 .0;
+            range = p .1;
+            free = q .0;
             undo = few;
             redo = omega (arith, few, same-count (x .undo) (x .redo) (r .same));
-            room = ltb-false _ _ (q .1 .1 .1 .0);
+            room = ltb-false _ _ (q .1 .1 .0);
           }
 
     pub settle-passed : settleNumber s m t id ≡ 0 → SettlePassed s t (id .0)

@@ -63,6 +63,10 @@ chosen s x id = record { number = 0; slot = slotOf s id; end = x .end; room = x 
 unfoldable pub choice : State → Admission → ℕ → List Check → Choice
 choice s x id cs = cond (eqb (numberAfter x cs) 0) (chosen s x id) (refusal (numberAfter x cs))
 
+-- the same, with more checks after those of the choice
+unfoldable pub after : Choice → List Check → Choice
+after r cs = cond (eqb (r .number) 0) (cond (eqb (firstNumber cs) 0) r (refusal (firstNumber cs))) r
+
 -- what deciding rests on: an admission that does not refuse has seen the image rules kept, and room used that lies within the log
 abbrev pub Seen : Admission → State → Type 0
 Seen x s = x .number ≡ 0 → (keepsImageRules s ≡ true) × (x .room ≤ logLen)

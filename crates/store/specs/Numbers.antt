@@ -57,15 +57,19 @@ check10 s id = check 10 (eqb (txOf s id .undo .count) maxRecords)
 abbrev pub beginChecks : ℕ → ℕ → ℕ → List Check
 beginChecks count last room = check 11 (eqb count maxTxs) ∷ check 12 (eqb last 65535) ∷ check 13 (ltb logLen (room + commitLen)) ∷ []
 
+-- what read and write look at first
+abbrev pub rangeChecks : State → ℕ → ℕ → ℕ → List Check
+rangeChecks s id a n = check6 s id ∷ check7 s id ∷ check8 a n ∷ []
+
 abbrev pub readChecks : State → ℕ → ℕ → ℕ → List Check
-readChecks s id a n = check6 s id ∷ check7 s id ∷ check8 a n ∷ check9 s id a n ∷ []
+readChecks s id a n = rangeChecks s id a n ++ (check9 s id a n ∷ [])
 
 -- "13. .. Write: room used + 7 + length above it."
 abbrev pub check13 : ℕ → ℕ → Check
 check13 room n = check 13 (ltb logLen (room + (redoLen + n)))
 
 abbrev pub writeChecks : State → ℕ → ℕ → ℕ → ℕ → List Check
-writeChecks s room id a n = check6 s id ∷ check7 s id ∷ check8 a n ∷ check9 s id a n ∷ check10 s id ∷ check13 room n ∷ []
+writeChecks s room id a n = rangeChecks s id a n ++ (check9 s id a n ∷ check10 s id ∷ check13 room n ∷ [])
 
 -- "12. .. Precommit: last commit number 4,294,967,295."
 abbrev pub check12 : State → Check

@@ -12,14 +12,15 @@ use log::TxId;
 use log::record::in_range;
 ghost use mathlib.Core.Path.{_≡_};
 ghost use mathlib.Core.Bool.{true};
+ghost use mathlib.Core.List.{[], _∷_};
 ghost use Prim.Native.Nat.{_≤_};
 ghost use Rattle.layout.specs.{memoryLen, logLen, maxTxs, maxWrite};
 ghost use Rattle.recovery.specs.Lists.{any};
 ghost use Rattle.transaction.specs.Rules.{heldAgainst};
 ghost use Rattle.store.specs.State.{txsOf, slotOf};
 ghost use Rattle.store.specs.Rules.{keepsImageRules};
-ghost use Rattle.store.specs.Numbers.{beginChecks, readChecks, writeChecks, precommitChecks, abortChecks, settleChecks};
-ghost use Rattle.store.specs.Admission.{numberAfter, listedChecks, refusal, choice, Seen};
+ghost use Rattle.store.specs.Numbers.{check8, beginChecks, readChecks, writeChecks, precommitChecks, abortChecks, settleChecks};
+ghost use Rattle.store.specs.Admission.{numberAfter, listedChecks, refusal, choice, after, Seen};
 
 // The number that refuses, 0 for none; if none, the slot, where the tail's groups end and the log room used.
 pub(crate) struct Choice {
@@ -38,6 +39,19 @@ fn refuse(number: u8) -> Choice
         end: 0,
         room: 0,
     }
+}
+
+// Number 8, after those of the choice. The state is not asked for, as handing it over would copy it.
+fn choose_range(chosen: Choice, addr: usize, len: usize) -> Choice
+    ensures { λ r. ⌜ r ≡ after chosen (check8 addr len ∷ []) ⌝ }
+{
+    if chosen.number != 0 {
+        return chosen;
+    }
+    if !in_range(addr, len) {
+        return refuse(8);
+    }
+    chosen
 }
 
 // Numbers 11, 12 and 13.
@@ -142,16 +156,14 @@ impl State {
         ensures { λ r. ⌜ r ≡ choice self admitted (id .0) (readChecks self (id .0) addr len) ⌝ }
     {
         let running = self.choose_running(admitted, id);
-        if running.number != 0 {
-            return running;
-        }
-        if !in_range(addr, len) {
-            return refuse(8);
+        let ranged = choose_range(running, addr, len);
+        if ranged.number != 0 {
+            return ranged;
         }
         if self.held(id, addr, len) {
             return refuse(9);
         }
-        running
+        ranged
     }
 
     // Numbers 6 to 10 and 13.
@@ -165,18 +177,22 @@ impl State {
         requires { ⌜ Seen admitted self ⌝ }
         ensures { λ r. ⌜ r ≡ choice self admitted (id .0) (writeChecks self (admitted .room) (id .0) addr len) ⌝ }
     {
-        let free = self.choose_read(admitted, id, addr, len);
-        if free.number != 0 {
-            return free;
+        let running = self.choose_running(admitted, id);
+        let ranged = choose_range(running, addr, len);
+        if ranged.number != 0 {
+            return ranged;
         }
-        let slot = free.slot;
+        if self.held(id, addr, len) {
+            return refuse(9);
+        }
+        let slot = ranged.slot;
         if self.txs[slot].undo.count == RECORDS_MAX {
             return refuse(10);
         }
-        if LOG_LEN < free.room + (REDO_LEN + len) {
+        if LOG_LEN < ranged.room + (REDO_LEN + len) {
             return refuse(13);
         }
-        free
+        ranged
     }
 
     // Numbers 6, 7 and 12.

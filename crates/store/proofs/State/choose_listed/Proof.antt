@@ -1,7 +1,6 @@
 use borrow.Author.Needs.{needs}
 use Prim.Native.Nat.{ℕ}
 use native.Mathlib.Omega.{arith}
-use mathlib.Core.List.{[]}
 use mathlib.Core.Path.{sym, ap, _∙_}
 use borrow.Author.Tests.{eq-eqb, ne-eqb}
 use Rattle.image.proofs.Rules.{image-count}
@@ -38,7 +37,7 @@ returns-2 c =
     ∙ sym
     (choice-some (a .self) (a .admitted) (a .id .0) (listedChecks (a .self) (a .id .0)) 6
     (rw (eq-eqb (a .admitted .number) 0 (c .before .before .before .before .if1 .left))
-    (refused-6 (a .self) (a .id .0) (find .result) (find .ensures) [] (c .before .if2 .taken))) (λ e. omega (arith, e)))
+    (refused-6 (a .self) (a .id .0) (find .result) (find .ensures) (c .before .if2 .taken))) (λ e. omega (arith, e)))
 
 returns-3 : tie.Need-returns-3
 returns-3 c =
@@ -48,7 +47,7 @@ returns-3 c =
     ∙ sym
     (choice-none (a .self) (a .admitted) (a .id .0) (listedChecks (a .self) (a .id .0))
     (rw (eq-eqb (a .admitted .number) 0 (c .before .before .before .if1 .left))
-    (passes-6 (a .self) (a .id .0) (find .result) (find .ensures) [] (c .if2 .left))))
+    (passes-6 (a .self) (a .id .0) (find .result) (find .ensures) (c .if2 .left))))
 
 pub choose-listed-spec : {M : Type 1} → statement M
 choose-listed-spec =

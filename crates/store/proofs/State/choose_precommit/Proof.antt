@@ -1,10 +1,9 @@
 use borrow.Author.Needs.{needs}
-use native.Mathlib.Omega.{arith}
+use mathlib.Core.List.{[], _∷_}
 use mathlib.Core.Path.{refl}
 use borrow.Author.Tests.{eq-eqb, ne-eqb}
-use Rattle.store.specs.Numbers.{abortChecks, check12}
-use mathlib.Core.List.{[], _∷_}
-use Rattle.store.proofs.Choosing.{choice-stops, choice-refuses, choice-goes}
+use Rattle.store.specs.Numbers.{abortChecks, check7, check12}
+use Rattle.store.proofs.Choosing.{choice-stops, Slotted, slotted}
 use Rattle.store.proofs.State.choose_precommit.Statement.{statement}
 use Rattle.store.proofs.State.choose_precommit.Tie as tie
 
@@ -16,22 +15,25 @@ returns c =
     let a = c .before .before .before .args in
     choice-stops _ _ _ _ (abortChecks (a .self) (a .id .0)) (c .before .before .choose-running .ensures) refl (check12 (a .self) ∷ []) (c .if1 .taken)
 
+-- numbers 1, 2, 6 and 7 do not refuse
+found : (c : tie.Else1) → let a = c .before .before .before .args in
+    Slotted (a .self) (a .admitted) (a .id .0) (c .before .before .choose-running .result) (check7 (a .self) (a .id .0) ∷ [])
+found c = slotted _ _ _ _ _ (c .before .before .before .pre) refl (c .before .before .choose-running .ensures) (c .if1 .left)
+
 refuse-requires : tie.Need-refuse-requires
 refuse-requires c κs = search needs
 
 returns-2 : tie.Need-returns-2
 returns-2 c =
-    let a = c .before .before .before .before .before .before .args in
-    choice-refuses _ _ _ _ (abortChecks (a .self) (a .id .0)) (c .before .before .before .before .before .choose-running .ensures) refl
-    (check12 (a .self) ∷ []) (c .before .before .before .if1 .left) 12
-    (rw (eq-eqb (a .self .assigned .0) 4294967295 (c .before .if2 .taken))) (λ e. omega (arith, e)) (c .refuse .ensures)
+    let else = c .before .before .before in
+    let s = else .before .before .before .args .self in
+    found else .refuses (check12 s ∷ []) 12 refl (rw (eq-eqb (s .assigned .0) 4294967295 (c .before .if2 .taken))) (c .refuse .ensures)
 
 returns-3 : tie.Need-returns-3
 returns-3 c =
-    let a = c .before .before .before .before .before .args in
-    choice-goes _ _ _ _ (abortChecks (a .self) (a .id .0)) (c .before .before .before .before .choose-running .ensures) refl (check12 (a .self) ∷ [])
-    (c .before .before .if1 .left)
-    (rw (ne-eqb (a .self .assigned .0) 4294967295 (c .if2 .left)))
+    let else = c .before .before in
+    let s = else .before .before .before .args .self in
+    found else .goes (check12 s ∷ []) (rw (ne-eqb (s .assigned .0) 4294967295 (c .if2 .left)))
 
 pub choose-precommit-spec : {M : Type 1} → statement M
 choose-precommit-spec =

@@ -1,92 +1,62 @@
 use borrow.Author.Needs.{needs}
 use native.Mathlib.Omega.{arith}
+use mathlib.Core.Bool.{true, false}
 use mathlib.Core.List.{[], _∷_}
 use mathlib.Core.Path.{_≡_, refl, sym, _∙_}
-use mathlib.Core.Bool.{true, false}
-use borrow.Author.Tests.{not-true, not-false}
 use Rattle.recovery.specs.Lists.{any}
 use Rattle.transaction.specs.Rules.{heldAgainst}
-use Rattle.transaction.proofs.Ranges.{in-range}
 use Rattle.store.specs.State.{txsOf}
-use Rattle.store.specs.Numbers.{abortChecks, check8, check9}
-use Rattle.store.proofs.Choosing.{choice-stops, choice-refuses, choice-goes, slotted, refused-8, passes-8}
+use Rattle.store.specs.Numbers.{abortChecks, rangeChecks, check7, check8, check9}
+use Rattle.store.specs.Admission.{choice}
+use Rattle.store.proofs.Choosing.{choice-stops, choice-after, Slotted, slotted, chosen-range}
 use Rattle.store.proofs.State.choose_read.Statement.{statement}
 use Rattle.store.proofs.State.choose_read.Tie as tie
 
 choose-running-requires : tie.Need-choose-running-requires
 choose-running-requires c κs = c .pre
 
+choose-range-requires : tie.Need-choose-range-requires
+choose-range-requires c κs = search needs
+
+-- numbers 6 to 8
+ranged : (c : tie.After-choose-range) → let a = c .before .before .args in
+    c .choose-range .result ≡ choice (a .self) (a .admitted) (a .id .0) (rangeChecks (a .self) (a .id .0) (a .addr) (a .len))
+ranged c =
+    let a = c .before .before .args in
+    choice-after _ _ _ _ (abortChecks (a .self) (a .id .0)) (c .before .choose-running .ensures) refl (check8 (a .addr) (a .len) ∷ []) _ (c .choose-range .ensures)
+
 returns : tie.Need-returns
 returns c =
-    let a = c .before .before .before .args in
-    let s = a .self in
-    let id = a .id .0 in
-    choice-stops _ _ _ _ (abortChecks s id) (c .before .before .choose-running .ensures) refl
-    (check8 (a .addr) (a .len) ∷ check9 s id (a .addr) (a .len) ∷ []) (c .if1 .taken)
+    let a = c .before .before .before .before .args in
+    choice-stops _ _ _ _ (rangeChecks (a .self) (a .id .0) (a .addr) (a .len)) (ranged (c .before .before)) refl
+    (check9 (a .self) (a .id .0) (a .addr) (a .len) ∷ []) (c .if1 .taken)
 
-in-range-requires : tie.Need-in-range-requires
-in-range-requires c κs = search needs
+-- numbers 1, 2 and 6 to 8 do not refuse
+found : (c : tie.Else1) → let a = c .before .before .before .before .args in
+    Slotted (a .self) (a .admitted) (a .id .0) (c .before .before .choose-range .result) (check7 (a .self) (a .id .0) ∷ check8 (a .addr) (a .len) ∷ [])
+found c = slotted _ _ _ _ _ (c .before .before .before .before .pre) refl (ranged (c .before .before)) (c .if1 .left)
+
+held-requires : tie.Need-held-requires
+held-requires c κs =
+    let a = c .before .before .before .before .args in
+    let g = chosen-range (a .self) (a .id .0) (a .addr) (a .len) (found c .own) in
+    (found c .rules, omega (arith, g .within), g .short)
 
 refuse-requires : tie.Need-refuse-requires
 refuse-requires c κs = search needs
 
 returns-2 : tie.Need-returns-2
 returns-2 c =
-    let a = c .before .before .before .before .before .before .args in
-    let s = a .self in
-    let id = a .id .0 in
-    let more = check9 s id (a .addr) (a .len) ∷ [] in
-    choice-refuses _ _ _ _ (abortChecks s id) (c .before .before .before .before .before .choose-running .ensures) refl (check8 (a .addr) (a .len) ∷ more)
-    (c .before .before .before .if1 .left) 8
-    (refused-8 (a .addr) (a .len) more (sym (c .before .before .in-range .ensures) ∙ not-true _ (c .before .if2 .taken))) (λ e. omega (arith, e))
-    (c .refuse .ensures)
-
-held-requires : tie.Need-held-requires
-held-requires c κs =
-    let a = c .before .before .before .before .before .args in
-    let g = in-range (a .addr) (a .len) (sym (c .before .in-range .ensures) ∙ not-false _ (c .if2 .left)) in (
-      slotted _ _ _ _ _ (c .before .before .before .before .before .pre) (c .before .before .before .before .choose-running .ensures)
-          (c .before .before .if1 .left) .rules,
-      omega (arith, g .2),
-      g .1,
-    )
-
-refuse-requires-2 : tie.Need-refuse-requires-2
-refuse-requires-2 c κs = search needs
+    let a = c .before .before .before .before .before .before .before .args in
+    let held : any (heldAgainst (a .id .0) (a .addr) (a .len)) (txsOf (a .self)) ≡ true = sym (c .before .before .held .ensures) ∙ c .before .if2 .taken in
+    found (c .before .before .before) .refuses (check9 (a .self) (a .id .0) (a .addr) (a .len) ∷ []) 9 refl (rw held) (c .refuse .ensures)
 
 returns-3 : tie.Need-returns-3
 returns-3 c =
-    let a = c .before .before .before .before .before .before .before .before .args in
-    let s = a .self in
-    let id = a .id .0 in
-    let more = check9 s id (a .addr) (a .len) ∷ [] in
-    let held : any (heldAgainst id (a .addr) (a .len)) (txsOf s) ≡ true = sym (c .before .before .held .ensures) ∙ c .before .if3 .taken in
-    choice-refuses _ _ _ _ (abortChecks s id) (c .before .before .before .before .before .before .before .choose-running .ensures) refl
-    (check8 (a .addr) (a .len) ∷ more) (c .before .before .before .before .before .if1 .left) 9
-    (passes-8 (a .addr) (a .len) more (sym (c .before .before .before .before .in-range .ensures) ∙ not-false _ (c .before .before .before .if2 .left))
-    ∙ rw held) (λ e. omega (arith, e)) (c .refuse2 .ensures)
-
-returns-4 : tie.Need-returns-4
-returns-4 c =
-    let a = c .before .before .before .before .before .before .before .args in
-    let s = a .self in
-    let id = a .id .0 in
-    let more = check9 s id (a .addr) (a .len) ∷ [] in
-    let held : any (heldAgainst id (a .addr) (a .len)) (txsOf s) ≡ false = sym (c .before .held .ensures) ∙ c .if3 .left in
-    choice-goes _ _ _ _ (abortChecks s id) (c .before .before .before .before .before .before .choose-running .ensures) refl
-    (check8 (a .addr) (a .len) ∷ more) (c .before .before .before .before .if1 .left)
-    (passes-8 (a .addr) (a .len) more (sym (c .before .before .before .in-range .ensures) ∙ not-false _ (c .before .before .if2 .left)) ∙ rw held)
+    let a = c .before .before .before .before .before .before .args in
+    let free : any (heldAgainst (a .id .0) (a .addr) (a .len)) (txsOf (a .self)) ≡ false = sym (c .before .held .ensures) ∙ c .if2 .left in
+    found (c .before .before) .goes (check9 (a .self) (a .id .0) (a .addr) (a .len) ∷ []) (rw free)
 
 pub choose-read-spec : {M : Type 1} → statement M
 choose-read-spec =
-    tie.close
-    (tie.spec
-    choose-running-requires
-    returns
-    in-range-requires
-    refuse-requires
-    returns-2
-    held-requires
-    refuse-requires-2
-    returns-3
-    returns-4)
+    tie.close (tie.spec choose-running-requires choose-range-requires returns held-requires refuse-requires returns-2 returns-3)

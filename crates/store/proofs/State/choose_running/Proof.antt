@@ -4,7 +4,7 @@ use mathlib.Core.List.{[], _∷_}
 use mathlib.Core.Path.{refl}
 use Rattle.store.specs.Numbers.{check7}
 use Rattle.store.specs.Admission.{listedChecks}
-use Rattle.store.proofs.Choosing.{choice-stops, choice-refuses, choice-goes, Slotted, slotted, refused-7, passes-7}
+use Rattle.store.proofs.Choosing.{choice-stops, Slotted, slotted, refused-7, passes-7}
 use Rattle.store.proofs.State.choose_running.Statement.{statement}
 use Rattle.store.proofs.State.choose_running.Tie as tie
 
@@ -19,7 +19,7 @@ returns c =
 -- numbers 1, 2 and 6 do not refuse
 found : (c : tie.Else1) → let a = c .before .before .before .args in
     Slotted (a .t1) (a .admitted) (a .id .0) (c .before .before .choose-listed .result) []
-found c = slotted _ _ _ _ _ (c .before .before .before .pre) (c .before .before .choose-listed .ensures) (c .if1 .left)
+found c = slotted _ _ _ _ _ (c .before .before .before .pre) refl (c .before .before .choose-listed .ensures) (c .if1 .left)
 
 mul-if2 : tie.Need-mul-if2
 mul-if2 c = let w = found c in omega (arith, w .listed, w .few)
@@ -33,19 +33,14 @@ refuse-requires c κs = search needs
 returns-2 : tie.Need-returns-2
 returns-2 c =
     let a = c .before .before .before .before .before .args in
-    let s = a .t1 in
-    let id = a .id .0 in
-    choice-refuses _ _ _ _ (listedChecks s id) (c .before .before .before .before .choose-listed .ensures) refl (check7 s id ∷ [])
-    (c .before .before .if1 .left) 7
-    (refused-7 s id _ (found (c .before .before) .slot) [] (c .before .if2 .taken)) (λ e. omega (arith, e)) (c .refuse .ensures)
+    let w = found (c .before .before) in
+    w .refuses (check7 (a .t1) (a .id .0) ∷ []) 7 refl (refused-7 (a .t1) (a .id .0) _ (w .slot) (c .before .if2 .taken)) (c .refuse .ensures)
 
 returns-3 : tie.Need-returns-3
 returns-3 c =
     let a = c .before .before .before .before .args in
-    let s = a .t1 in
-    let id = a .id .0 in
-    choice-goes _ _ _ _ (listedChecks s id) (c .before .before .before .choose-listed .ensures) refl (check7 s id ∷ []) (c .before .if1 .left)
-    (passes-7 s id _ (found (c .before) .slot) [] (c .if2 .left))
+    let w = found (c .before) in
+    w .goes (check7 (a .t1) (a .id .0) ∷ []) (passes-7 (a .t1) (a .id .0) _ (w .slot) (c .if2 .left))
 
 pub choose-running-spec : {M : Type 1} → statement M
 choose-running-spec =

@@ -6,7 +6,7 @@ use mathlib.Core.Path.{_≡_, refl, sym, _∙_}
 use borrow.Author.Tests.{eq-eqb, ne-eqb, lt-ltb, le-ltb}
 use Rattle.store.specs.Numbers.{txOf, check14}
 use Rattle.store.specs.Admission.{listedChecks}
-use Rattle.store.proofs.Choosing.{choice-stops, choice-refuses, choice-goes, Slotted, slotted, status-of}
+use Rattle.store.proofs.Choosing.{choice-stops, Slotted, slotted, status-of}
 use Rattle.store.proofs.State.choose_settle.Statement.{statement}
 use Rattle.store.proofs.State.choose_settle.Tie as tie
 
@@ -21,7 +21,7 @@ returns c =
 -- numbers 1, 2 and 6 do not refuse
 found : (c : tie.Else1) → let a = c .before .before .before .args in
     Slotted (a .t1) (a .admitted) (a .id .0) (c .before .before .choose-listed .result) []
-found c = slotted _ _ _ _ _ (c .before .before .before .pre) (c .before .before .choose-listed .ensures) (c .if1 .left)
+found c = slotted _ _ _ _ _ (c .before .before .before .pre) refl (c .before .before .choose-listed .ensures) (c .if1 .left)
 
 mul-if2 : tie.Need-mul-if2
 mul-if2 c = let w = found c in omega (arith, w .listed, w .few)
@@ -37,10 +37,9 @@ returns-2 c =
     let a = c .before .before .before .before .before .args in
     let s = a .t1 in
     let id = a .id .0 in
-    let e : txOf s id .status ≡ 1 = status-of s id _ (found (c .before .before) .slot) ∙ c .before .if2 .taken in
-    choice-refuses _ _ _ _ (listedChecks s id) (c .before .before .before .before .choose-listed .ensures) refl (check14 s id ∷ [])
-    (c .before .before .if1 .left) 14
-    (rw (eq-eqb (txOf s id .status) 1 e)) (λ z. omega (arith, z)) (c .refuse .ensures)
+    let w = found (c .before .before) in
+    let e : txOf s id .status ≡ 1 = status-of s id _ (w .slot) ∙ c .before .if2 .taken in
+    w .refuses (check14 s id ∷ []) 14 refl (rw (eq-eqb (txOf s id .status) 1 e)) (c .refuse .ensures)
 
 mul-if3 : tie.Need-mul-if3
 mul-if3 c = let w = found (c .before) in omega (arith, w .listed, w .few)
@@ -62,19 +61,18 @@ returns-3 c =
     let a = c .before .before .before .before .before .before .args in
     let s = a .t1 in
     let id = a .id .0 in
-    let f : s .ondisk .0 < txOf s id .csn .0 = rw (found (c .before .before .before) .slot) at (c .before .if3 .taken) in
-    choice-refuses _ _ _ _ (listedChecks s id) (c .before .before .before .before .before .choose-listed .ensures) refl (check14 s id ∷ [])
-    (c .before .before .before .if1 .left) 14
-    (rw (ne-eqb (txOf s id .status) 1 (settling (c .before .before)), lt-ltb _ _ f)) (λ z. omega (arith, z)) (c .refuse2 .ensures)
+    let w = found (c .before .before .before) in
+    let f : s .ondisk .0 < txOf s id .csn .0 = rw (w .slot) at (c .before .if3 .taken) in
+    w .refuses (check14 s id ∷ []) 14 refl (rw (ne-eqb (txOf s id .status) 1 (settling (c .before .before)), lt-ltb _ _ f)) (c .refuse2 .ensures)
 
 returns-4 : tie.Need-returns-4
 returns-4 c =
     let a = c .before .before .before .before .before .args in
     let s = a .t1 in
     let id = a .id .0 in
-    let f : txOf s id .csn .0 ≤ s .ondisk .0 = rw (found (c .before .before) .slot) at (c .if3 .left) in
-    choice-goes _ _ _ _ (listedChecks s id) (c .before .before .before .before .choose-listed .ensures) refl (check14 s id ∷ []) (c .before .before .if1 .left)
-    (rw (ne-eqb (txOf s id .status) 1 (settling (c .before)), le-ltb _ _ f))
+    let w = found (c .before .before) in
+    let f : txOf s id .csn .0 ≤ s .ondisk .0 = rw (w .slot) at (c .if3 .left) in
+    w .goes (check14 s id ∷ []) (rw (ne-eqb (txOf s id .status) 1 (settling (c .before)), le-ltb _ _ f))
 
 pub choose-settle-spec : {M : Type 1} → statement M
 choose-settle-spec =

@@ -1,106 +1,139 @@
 use borrow.Author.Needs.{needs}
 use Prim.Native.Nat.{ℕ, _+_, _≤_, _<_}
 use native.Mathlib.Omega.{arith}
+use mathlib.Core.Bool.{true, false}
 use mathlib.Core.List.{List, [], _∷_}
 use mathlib.Core.Path.{_≡_, refl, sym, ap, _∙_}
 use borrow.Author.Tests.{eq-eqb, ne-eqb, lt-ltb, le-ltb}
-use Rattle.store.specs.State.{txAt}
-use Rattle.store.specs.Numbers.{Check, txOf, check7, check8, check9, check10, check13, readChecks}
-use Rattle.store.proofs.Checks.{passed}
-use Rattle.store.proofs.Choosing.{choice-stops, choice-refuses, choice-goes, Slotted, slotted, ranged-by-8}
+use Rattle.recovery.specs.Lists.{any}
+use Rattle.transaction.specs.Rules.{heldAgainst}
+use Rattle.store.specs.State.{txAt, txsOf}
+use Rattle.store.specs.Numbers.{Check, txOf, check7, check8, check9, check10, check13, abortChecks, rangeChecks}
+use Rattle.store.specs.Admission.{choice}
+use Rattle.store.proofs.Choosing.{choice-stops, choice-after, Slotted, slotted, Ranged, chosen-range}
 use Rattle.store.proofs.State.choose_write.Statement.{statement}
 use Rattle.store.proofs.State.choose_write.Tie as tie
 
--- what is checked after a read's numbers
+-- what is checked after the range
 abbrev last : tie.Start → List Check
-last c = let a = c .args in check10 (a .t1) (a .id .0) ∷ check13 (a .admitted .room) (a .len) ∷ []
+last c = let a = c .args in check9 (a .t1) (a .id .0) (a .addr) (a .len) ∷ check10 (a .t1) (a .id .0) ∷ check13 (a .admitted .room) (a .len) ∷ []
 
-choose-read-requires : tie.Need-choose-read-requires
-choose-read-requires c κs = c .pre
+choose-running-requires : tie.Need-choose-running-requires
+choose-running-requires c κs = c .pre
+
+choose-range-requires : tie.Need-choose-range-requires
+choose-range-requires c κs = search needs
+
+-- numbers 6 to 8
+ranged : (c : tie.After-choose-range) → let a = c .before .before .args in
+    c .choose-range .result ≡ choice (a .t1) (a .admitted) (a .id .0) (rangeChecks (a .t1) (a .id .0) (a .addr) (a .len))
+ranged c =
+    let a = c .before .before .args in
+    choice-after _ _ _ _ (abortChecks (a .t1) (a .id .0)) (c .before .choose-running .ensures) refl (check8 (a .addr) (a .len) ∷ []) _ (c .choose-range .ensures)
 
 returns : tie.Need-returns
 returns c =
-    let start = c .before .before .before in
+    let start = c .before .before .before .before in
     let a = start .args in
-    choice-stops _ _ _ _ (readChecks (a .t1) (a .id .0) (a .addr) (a .len)) (c .before .before .choose-read .ensures) refl (last start) (c .if1 .taken)
+    choice-stops _ _ _ _ (rangeChecks (a .t1) (a .id .0) (a .addr) (a .len)) (ranged (c .before .before)) refl (last start) (c .if1 .taken)
 
--- numbers 1, 2 and 6 to 9 do not refuse
-found : (c : tie.Else1) → let a = c .before .before .before .args in
-    Slotted (a .t1) (a .admitted) (a .id .0) (c .before .before .choose-read .result)
-    (check7 (a .t1) (a .id .0) ∷ check8 (a .addr) (a .len) ∷ check9 (a .t1) (a .id .0) (a .addr) (a .len) ∷ [])
-found c = slotted _ _ _ _ _ (c .before .before .before .pre) (c .before .before .choose-read .ensures) (c .if1 .left)
+-- numbers 1, 2 and 6 to 8 do not refuse
+found : (c : tie.Else1) → let a = c .before .before .before .before .args in
+    Slotted (a .t1) (a .admitted) (a .id .0) (c .before .before .choose-range .result) (check7 (a .t1) (a .id .0) ∷ check8 (a .addr) (a .len) ∷ [])
+found c = slotted _ _ _ _ _ (c .before .before .before .before .pre) refl (ranged (c .before .before)) (c .if1 .left)
 
-short : (c : tie.Else1) → c .before .before .before .args .len ≤ 32
-short c =
-    let a = c .before .before .before .args in
-    ranged-by-8 (a .addr) (a .len) (passed (readChecks (a .t1) (a .id .0) (a .addr) (a .len)) [] refl (found c .own) .0 .1 .1 .0) .short
+range : (c : tie.Else1) → let a = c .before .before .before .before .args in Ranged (a .addr) (a .len)
+range c = let a = c .before .before .before .before .args in chosen-range (a .t1) (a .id .0) (a .addr) (a .len) (found c .own)
 
--- its undo records are those in the slot chosen
-records : (c : tie.Else1) → let a = c .before .before .before .args in
-    txAt (a .t1) (c .before .before .choose-read .result .slot) .undo .count ≡ txOf (a .t1) (a .id .0) .undo .count
-records c = ap (λ (k : ℕ). txAt (c .before .before .before .args .t1) k .undo .count) (found c .slot)
-
-mul-if2 : tie.Need-mul-if2
-mul-if2 c = let w = found c in omega (arith, w .listed, w .few)
-
-element-copy-out-if2 : tie.Need-element-copy-out-if2
-element-copy-out-if2 c = let w = found c in omega (arith, w .listed, w .few)
+held-requires : tie.Need-held-requires
+held-requires c κs = (found c .rules, omega (arith, range c .within), range c .short)
 
 refuse-requires : tie.Need-refuse-requires
 refuse-requires c κs = search needs
 
 returns-2 : tie.Need-returns-2
 returns-2 c =
-    let start = c .before .before .before .before .before in
+    let else = c .before .before .before in
+    let start = else .before .before .before .before in
     let a = start .args in
-    choice-refuses _ _ _ _ (readChecks (a .t1) (a .id .0) (a .addr) (a .len)) (c .before .before .before .before .choose-read .ensures) refl (last start)
-    (c .before .before .if1 .left) 10
-    (rw (eq-eqb (txOf (a .t1) (a .id .0) .undo .count) 16 (sym (records (c .before .before)) ∙ c .before .if2 .taken))) (λ e. omega (arith, e))
-    (c .refuse .ensures)
+    let held : any (heldAgainst (a .id .0) (a .addr) (a .len)) (txsOf (a .t1)) ≡ true = sym (c .before .before .held .ensures) ∙ c .before .if2 .taken in
+    found else .refuses (last start) 9 refl (rw held) (c .refuse .ensures)
 
-add-if3 : tie.Need-add-if3
-add-if3 c = omega (arith, short (c .before))
+-- its undo records are those in the slot chosen
+records : (c : tie.Else1) → let a = c .before .before .before .before .args in
+    txAt (a .t1) (c .before .before .choose-range .result .slot) .undo .count ≡ txOf (a .t1) (a .id .0) .undo .count
+records c = ap (λ (k : ℕ). txAt (c .before .before .before .before .args .t1) k .undo .count) (found c .slot)
 
-add-if3-2 : tie.Need-add-if3-2
-add-if3-2 c = let w = found (c .before .before) in omega (arith, short (c .before .before), w .room, w .small)
+mul-if3 : tie.Need-mul-if3
+mul-if3 c = let w = found (c .before .before) in omega (arith, w .listed, w .few)
+
+element-copy-out-if3 : tie.Need-element-copy-out-if3
+element-copy-out-if3 c = let w = found (c .before .before) in omega (arith, w .listed, w .few)
 
 refuse-requires-2 : tie.Need-refuse-requires-2
 refuse-requires-2 c κs = search needs
 
--- it has fewer than 16
-few : (c : tie.Else2) → let a = c .before .before .before .before .args in txOf (a .t1) (a .id .0) .undo .count ≡ 16 → ⊥
-few c e = c .if2 .left (records (c .before) ∙ e)
+-- no other holds a byte of the range
+free : (c : tie.Else2) → let a = c .before .before .before .before .before .before .args in
+    any (heldAgainst (a .id .0) (a .addr) (a .len)) (txsOf (a .t1)) ≡ false
+free c = sym (c .before .held .ensures) ∙ c .if2 .left
 
 returns-3 : tie.Need-returns-3
 returns-3 c =
-    let start = c .before .before .before .before .before .before .before in
+    let else = c .before .before .before .before in
+    let start = else .before .before .before .before in
     let a = start .args in
-    let full : 16384 < a .admitted .room + (7 + a .len) = omega (arith, found (c .before .before .before .before) .room, c .before .if3 .taken) in
-    choice-refuses _ _ _ _ (readChecks (a .t1) (a .id .0) (a .addr) (a .len)) (c .before .before .before .before .before .before .choose-read .ensures) refl
-    (last start) (c .before .before .before .before .if1 .left) 13
-    (rw (ne-eqb (txOf (a .t1) (a .id .0) .undo .count) 16 (few (c .before .before .before)), lt-ltb _ _ full)) (λ e. omega (arith, e)) (c .refuse2 .ensures)
+    found else .refuses (last start) 10 refl
+    (rw (free (c .before .before), eq-eqb (txOf (a .t1) (a .id .0) .undo .count) 16 (sym (records else) ∙ c .before .if3 .taken))) (c .refuse2 .ensures)
+
+add-if4 : tie.Need-add-if4
+add-if4 c = omega (arith, range (c .before .before .before) .short)
+
+add-if4-2 : tie.Need-add-if4-2
+add-if4-2 c = let else = c .before .before .before .before in let w = found else in omega (arith, range else .short, w .room, w .small)
+
+refuse-requires-3 : tie.Need-refuse-requires-3
+refuse-requires-3 c κs = search needs
+
+-- it has fewer than 16
+few : (c : tie.Else3) → let a = c .before .before .before .before .before .before .before .args in txOf (a .t1) (a .id .0) .undo .count ≡ 16 → ⊥
+few c e = c .if3 .left (records (c .before .before .before) ∙ e)
 
 returns-4 : tie.Need-returns-4
 returns-4 c =
-    let start = c .before .before .before .before .before .before in
+    let third = c .before .before .before in
+    let else = third .before .before .before in
+    let start = else .before .before .before .before in
     let a = start .args in
-    let free : a .admitted .room + (7 + a .len) ≤ 16384 = omega (arith, found (c .before .before .before) .room, c .if3 .left) in
-    choice-goes _ _ _ _ (readChecks (a .t1) (a .id .0) (a .addr) (a .len)) (c .before .before .before .before .before .choose-read .ensures) refl
-    (last start) (c .before .before .before .if1 .left)
-    (rw (ne-eqb (txOf (a .t1) (a .id .0) .undo .count) 16 (few (c .before .before)), le-ltb _ _ free))
+    let full : 16384 < a .admitted .room + (7 + a .len) = omega (arith, found else .room, c .before .if4 .taken) in
+    found else .refuses (last start) 13 refl (rw (free (third .before), ne-eqb (txOf (a .t1) (a .id .0) .undo .count) 16 (few third), lt-ltb _ _ full))
+    (c .refuse3 .ensures)
+
+returns-5 : tie.Need-returns-5
+returns-5 c =
+    let third = c .before .before in
+    let else = third .before .before .before in
+    let start = else .before .before .before .before in
+    let a = start .args in
+    let enough : a .admitted .room + (7 + a .len) ≤ 16384 = omega (arith, found else .room, c .if4 .left) in
+    found else .goes (last start) (rw (free (third .before), ne-eqb (txOf (a .t1) (a .id .0) .undo .count) 16 (few third), le-ltb _ _ enough))
 
 pub choose-write-spec : {M : Type 1} → statement M
 choose-write-spec =
     tie.close
     (tie.spec
-    choose-read-requires
+    choose-running-requires
+    choose-range-requires
     returns
-    mul-if2
-    element-copy-out-if2
+    held-requires
     refuse-requires
     returns-2
-    add-if3
-    add-if3-2
+    mul-if3
+    element-copy-out-if3
     refuse-requires-2
     returns-3
-    returns-4)
+    add-if4
+    add-if4-2
+    refuse-requires-3
+    returns-4
+    returns-5)
