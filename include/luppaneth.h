@@ -8,7 +8,7 @@
  * What the caller owes, since no proof reaches it:
  * - A pointer points to at least as many bytes as the length beside it says, and is not NULL, even beside a length of 0.
  * - A buffer that a call may change overlaps no other argument, and nobody else touches the buffers during a call.
- * - A state is one that a call gave back or `luppaneth_unrecovered` made. Its bytes are not for reading or changing.
+ * - A state is one that a call gave back or `luppaneth_unrecovered` made. Its bytes are not for reading, comparing or changing.
  * - The disk buffer stands for the disk: bytes that a call changed in it have to reach the real one, in the order stated at `luppaneth_flush`,
  *   `luppaneth_checkpoint` and `luppaneth_restart` (examples/bench.c shows it for a file).
  * Wrong lengths, addresses, ids, disks and stale states are no fault of that kind: the call refuses them by a number and changes nothing.

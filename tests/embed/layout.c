@@ -122,7 +122,25 @@ static int zeros(const unsigned char *bytes, size_t count)
     return count == 0;
 }
 
-/* "Restart of a fresh disk needs 16,384 stores; 16,383 is cut." Of the state's bytes the first alone is 1. */
+/* Padding in a state, of which nothing is said: in its own fields, in each of its eight transactions of 1,132 bytes, in a transaction's two lists
+ * of records. */
+static int padding(size_t i)
+{
+    size_t in = i < 16 ? 0 : (i - 16) % 1132;
+    return i == 1 || i == 15 || in == 3 || in == 9 || in == 571;
+}
+
+/* A state of which no field but `recovered` is set: its first byte. */
+static int blank(const struct luppaneth_state *s, int recovered)
+{
+    size_t i;
+    for (i = 1; i < STATE; i++)
+        if (!padding(i) && s->opaque.bytes[i] != 0)
+            return 0;
+    return s->opaque.bytes[0] == recovered;
+}
+
+/* "Restart of a fresh disk needs 16,384 stores; 16,383 is cut." */
 static void test_fresh(struct luppaneth *l)
 {
     struct luppaneth_reply r;
@@ -130,12 +148,12 @@ static void test_fresh(struct luppaneth *l)
     memset(l->memory, 7, sizeof l->memory);
     r = luppaneth_restart(l->disk, sizeof l->disk, l->memory, sizeof l->memory, l->tail, sizeof l->tail, 16383);
     expect(told(&r, LUPPANETH_CUT, 0, 0, 16383), "restart of a fresh disk with 16,383 stores");
-    expect(memcmp(&r.state, &l->state, sizeof r.state) == 0, "a cut restart's state is not the unrecovered one");
+    expect(blank(&l->state, 0) && blank(&r.state, 0), "the unrecovered state");
     r = luppaneth_restart(l->disk, sizeof l->disk, l->memory, sizeof l->memory, l->tail, sizeof l->tail, 16384);
     expect(told(&r, LUPPANETH_DONE, 0, 0, 16384), "restart of a fresh disk");
     expect(zeros(l->memory, sizeof l->memory) && zeros(l->tail, sizeof l->tail) && zeros(l->disk, sizeof l->disk),
            "a fresh disk's buffers are not zero");
-    expect(r.state.opaque.bytes[0] == 1 && zeros(r.state.opaque.bytes + 2, STATE - 2), "a fresh disk's state");
+    expect(blank(&r.state, 1), "a fresh disk's state");
     l->state = r.state;
 }
 
