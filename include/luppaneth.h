@@ -8,12 +8,12 @@
  * What the caller owes, since no proof reaches it:
  * - A pointer points to at least as many bytes as the length beside it says, and is not NULL, even beside a length of 0.
  * - A buffer that a call may change overlaps no other argument, and nobody else touches the buffers during a call.
- * - A state is one that a call gave back or `luppaneth_unrecovered` made. Its bytes are not for reading, comparing or changing.
+ * - Each call is handed the state and the buffers that the call before it left. A state's bytes are not for reading, comparing or changing.
  * - The disk buffer stands for the disk: bytes that a call changed in it have to reach the real one, in the order stated at `luppaneth_flush`,
  *   `luppaneth_checkpoint` and `luppaneth_restart` (examples/bench.c shows it for a file).
- * Wrong lengths, addresses, ids, disks and stale states are no fault of that kind: the call refuses them by a number and changes nothing.
+ * Wrong lengths, addresses, ids and disks are no fault of that kind: the call refuses them by a number.
  *
- * A call takes up to about 64 KB of stack. It keeps nothing between calls, uses no heap, and calls nothing but memcpy, memset and their like.
+ * A call takes up to about 100 KB of stack. It keeps nothing between calls, uses no heap, and calls nothing but memcpy, memmove and memset.
  * For x86-64 (System V calling convention). C99 or newer, or C++.
  */
 #ifndef LUPPANETH_H
@@ -46,7 +46,7 @@ extern "C" {
 #define LUPPANETH_MAX_WRITES 16
 #define LUPPANETH_MAX_TRANSACTIONS 8
 
-/* As many stores as the call needs. Fewer are for rehearsing a power cut. */
+/* As many stores as the call needs, or all the groups of the tail. Fewer stores are for rehearsing a power cut. */
 #define LUPPANETH_ALL SIZE_MAX
 
 /* ---- Answers */
@@ -55,7 +55,7 @@ extern "C" {
 enum luppaneth_answer {
     LUPPANETH_DONE = 0,
     LUPPANETH_CUT = 1,    /* the stores allowed ran out: memory and tail are zero, the state is unrecovered; restart */
-    LUPPANETH_REFUSED = 2 /* by `number`; nothing was changed */
+    LUPPANETH_REFUSED = 2 /* by `number`; nothing was changed, but for memory and tail, which restart's 3 to 5 set to zero */
 };
 
 /* A reply's `number` where refused, in the order in which a call tests them. */
@@ -204,7 +204,7 @@ static inline int lup_write(struct luppaneth *l, uint16_t id, size_t addr, const
     return lup_take(l, &r);
 }
 
-/* *part: the len bytes of memory themselves, as they are until the next write, abort or restart. */
+/* *part: the len bytes of memory themselves; a later call may change them. */
 static inline int lup_read(struct luppaneth *l, uint16_t id, size_t addr, size_t len, const unsigned char **part)
 {
     struct luppaneth_reply r;

@@ -21,7 +21,8 @@ same-length-3 c = search needs
 
 returns : tie.Need-returns
 returns c =
-    let x = c .before .before .before .before .before .before .before .before .checkpoint in (c .answered .ensures ∙ ap replyOf (x .ensures .0), x .ensures .1)
+    let x = c .before .before .before .before .before .before .before .before .checkpoint in
+    let told = c .answered .ensures ∙ ap replyOf (x .ensures .0) in (told, x .ensures .1)
 
 pub luppaneth-checkpoint-spec : {M : Type 1} → statement M
 luppaneth-checkpoint-spec =

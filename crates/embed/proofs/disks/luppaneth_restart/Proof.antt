@@ -33,7 +33,8 @@ same-length-3 c = search needs
 
 returns : tie.Need-returns
 returns c =
-    let x = c .before .before .before .before .before .before .before .before .before .restart in (c .answered .ensures ∙ ap replyOf (x .ensures .0), x .ensures .1)
+    let x = c .before .before .before .before .before .before .before .before .before .restart in
+    let told = c .answered .ensures ∙ ap replyOf (x .ensures .0) in (told, x .ensures .1)
 
 pub luppaneth-restart-spec : {M : Type 1} → statement M
 luppaneth-restart-spec =

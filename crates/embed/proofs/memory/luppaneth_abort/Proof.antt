@@ -18,7 +18,8 @@ same-length-2 c = search needs
 
 returns : tie.Need-returns
 returns c =
-    let x = c .before .before .before .before .before .before .abort in (c .answered .ensures ∙ ap replyOf (x .ensures .0), x .ensures .1)
+    let x = c .before .before .before .before .before .before .abort in
+    let told = c .answered .ensures ∙ ap replyOf (x .ensures .0) in (told, x .ensures .1)
 
 pub luppaneth-abort-spec : {M : Type 1} → statement M
 luppaneth-abort-spec =

@@ -15,7 +15,8 @@ same-length c = search needs
 
 returns : tie.Need-returns
 returns c =
-    let x = c .before .before .before .before .precommit in (c .answered .ensures ∙ ap replyOf (x .ensures .0), x .ensures .1)
+    let x = c .before .before .before .before .precommit in
+    let told = c .answered .ensures ∙ ap replyOf (x .ensures .0) in (told, x .ensures .1)
 
 pub luppaneth-precommit-spec : {M : Type 1} → statement M
 luppaneth-precommit-spec =

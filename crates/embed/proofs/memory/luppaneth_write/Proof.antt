@@ -15,7 +15,8 @@ same-length c = search needs
 
 returns : tie.Need-returns
 returns c =
-    let x = c .before .before .before .before .write in (c .answered .ensures ∙ ap replyOf (x .ensures .0), x .ensures .1)
+    let x = c .before .before .before .before .write in
+    let told = c .answered .ensures ∙ ap replyOf (x .ensures .0) in (told, x .ensures .1)
 
 pub luppaneth-write-spec : {M : Type 1} → statement M
 luppaneth-write-spec = tie.close (tie.spec write-requires answered-requires same-length returns)
