@@ -53,27 +53,27 @@ extern "C" {
 
 /* A reply's `answer`. */
 enum luppaneth_answer {
-    LUPPANETH_DONE = 0,
-    LUPPANETH_CUT = 1,    /* the stores allowed ran out: memory and tail are zero, the state is unrecovered; restart */
-    LUPPANETH_REFUSED = 2 /* by `number`; nothing was changed, but for memory and tail, which restart's 3 to 5 set to zero */
+    LUPPANETH_ANSWER_DONE = 0,
+    LUPPANETH_ANSWER_CUT = 1,    /* the stores allowed ran out: memory and tail are zero, the state is unrecovered; restart */
+    LUPPANETH_ANSWER_REFUSED = 2 /* by `number`; nothing was changed, but for memory and tail, which restart's 3 to 5 set to zero */
 };
 
 /* A reply's `number` where refused, in the order in which a call tests them. */
 enum luppaneth_number {
-    LUPPANETH_WRONG_LENGTH = 1,          /* any call: a lent buffer hasn't its length */
-    LUPPANETH_UNFIT = 2,                 /* any call but restart: the state is unrecovered or broken, or the tail isn't its own */
-    LUPPANETH_BAD_POINTER = 3,           /* restart: the pointer byte is above 2 */
-    LUPPANETH_BAD_IMAGE = 4,             /* restart: the image that the pointer byte names breaks a rule */
-    LUPPANETH_NO_ROOM_TO_UNDO = 5,       /* restart: the log has no room for the abort records */
-    LUPPANETH_NOT_LISTED = 6,            /* write, read, precommit, abort, settle: no transaction has this id */
-    LUPPANETH_COMMITTING = 7,            /* write, read, precommit, abort: it has precommitted */
-    LUPPANETH_BAD_RANGE = 8,             /* write, read: length 0 or above 32, or the range leaves memory */
-    LUPPANETH_HELD = 9,                  /* write, read: another running transaction wrote a byte of the range */
-    LUPPANETH_TOO_MANY_WRITES = 10,      /* write: it has 16 */
+    LUPPANETH_WRONG_LENGTH = 1,           /* any call: a lent buffer hasn't its length */
+    LUPPANETH_UNFIT = 2,                  /* any call but restart: the state is unrecovered or broken, or the tail isn't its own */
+    LUPPANETH_BAD_POINTER = 3,            /* restart: the pointer byte is above 2 */
+    LUPPANETH_BAD_IMAGE = 4,              /* restart: the image that the pointer byte names breaks a rule */
+    LUPPANETH_NO_ROOM_TO_UNDO = 5,        /* restart: the log has no room for the abort records */
+    LUPPANETH_NOT_LISTED = 6,             /* write, read, precommit, abort, settle: no transaction has this id */
+    LUPPANETH_COMMITTING = 7,             /* write, read, precommit, abort: it has precommitted */
+    LUPPANETH_BAD_RANGE = 8,              /* write, read: length 0 or above 32, or the range leaves memory */
+    LUPPANETH_HELD = 9,                   /* write, read: another running transaction wrote a byte of the range */
+    LUPPANETH_TOO_MANY_WRITES = 10,       /* write: it has 16 */
     LUPPANETH_TOO_MANY_TRANSACTIONS = 11, /* begin: there are 8 */
-    LUPPANETH_COUNTER_AT_END = 12,       /* begin: id 65,535 was given. Precommit: commit number 4,294,967,295 was given */
-    LUPPANETH_LOG_FULL = 13,             /* begin, write: the log has no room for it */
-    LUPPANETH_NOT_DURABLE = 14           /* settle: it is running, or its commit isn't on disk yet */
+    LUPPANETH_COUNTER_AT_END = 12,        /* begin: id 65,535 was given. Precommit: commit number 4,294,967,295 was given */
+    LUPPANETH_LOG_FULL = 13,              /* begin, write: the log has no room for it */
+    LUPPANETH_NOT_DURABLE = 14            /* settle: it is running, or its commit isn't on disk yet */
 };
 
 /* The state between calls. Opaque; the union is there for its alignment of 4. */
@@ -172,7 +172,7 @@ static inline int lup_take(struct luppaneth *l, const struct luppaneth_reply *r)
 {
     l->state = r->state;
     l->stores = r->stores;
-    return r->answer == LUPPANETH_CUT ? LUP_CUT : r->number;
+    return r->answer == LUPPANETH_ANSWER_CUT ? LUP_CUT : r->number;
 }
 
 /* An all-zero disk, unrecovered: read the real disk into l->disk and restart. */

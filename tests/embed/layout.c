@@ -147,10 +147,10 @@ static void test_fresh(struct luppaneth *l)
     lup_init(l);
     memset(l->memory, 7, sizeof l->memory);
     r = luppaneth_restart(l->disk, sizeof l->disk, l->memory, sizeof l->memory, l->tail, sizeof l->tail, 16383);
-    expect(told(&r, LUPPANETH_CUT, 0, 0, 16383), "restart of a fresh disk with 16,383 stores");
+    expect(told(&r, LUPPANETH_ANSWER_CUT, 0, 0, 16383), "restart of a fresh disk with 16,383 stores");
     expect(blank(&l->state, 0) && blank(&r.state, 0), "the unrecovered state");
     r = luppaneth_restart(l->disk, sizeof l->disk, l->memory, sizeof l->memory, l->tail, sizeof l->tail, 16384);
-    expect(told(&r, LUPPANETH_DONE, 0, 0, 16384), "restart of a fresh disk");
+    expect(told(&r, LUPPANETH_ANSWER_DONE, 0, 0, 16384), "restart of a fresh disk");
     expect(zeros(l->memory, sizeof l->memory) && zeros(l->tail, sizeof l->tail) && zeros(l->disk, sizeof l->disk),
            "a fresh disk's buffers are not zero");
     expect(blank(&r.state, 1), "a fresh disk's state");
@@ -164,21 +164,21 @@ static void test_booking(struct luppaneth *l)
     static const unsigned char record[17] = {1, 0, 1, 0, 10, 2, 0x41, 0x42, 1, 2, 0, 1, 0, 0, 0, 1, 2};
     static const unsigned char bytes[2] = {0x41, 0x42};
     struct luppaneth_reply r = luppaneth_begin(l->state, l->memory, sizeof l->memory, l->tail, sizeof l->tail);
-    expect(told(&r, LUPPANETH_DONE, 0, 1, 0), "begin");
+    expect(told(&r, LUPPANETH_ANSWER_DONE, 0, 1, 0), "begin");
     r = luppaneth_write(r.state, l->memory, sizeof l->memory, l->tail, sizeof l->tail, 1, 10, bytes, 2);
-    expect(told(&r, LUPPANETH_DONE, 0, 0, 0) && memcmp(l->memory + 10, bytes, 2) == 0, "write");
+    expect(told(&r, LUPPANETH_ANSWER_DONE, 0, 0, 0) && memcmp(l->memory + 10, bytes, 2) == 0, "write");
     expect(luppaneth_read(r.state, l->memory, sizeof l->memory, l->tail, sizeof l->tail, 1, 10, 2) == 2, "read");
     expect(luppaneth_read(r.state, l->memory, sizeof l->memory, l->tail, sizeof l->tail, 1, 4095, 2) == 0, "a refused read");
     r = luppaneth_read_answer(r.state, l->memory, sizeof l->memory, l->tail, sizeof l->tail, 1, 4095, 2);
-    expect(told(&r, LUPPANETH_REFUSED, LUPPANETH_BAD_RANGE, 0, 0), "the number of a refused read");
+    expect(told(&r, LUPPANETH_ANSWER_REFUSED, LUPPANETH_BAD_RANGE, 0, 0), "the number of a refused read");
     r = luppaneth_precommit(r.state, l->memory, sizeof l->memory, l->tail, sizeof l->tail, 1);
-    expect(told(&r, LUPPANETH_DONE, 0, 1, 0), "precommit");
+    expect(told(&r, LUPPANETH_ANSWER_DONE, 0, 1, 0), "precommit");
     r = luppaneth_settle(r.state, l->memory, sizeof l->memory, l->tail, sizeof l->tail, 1);
-    expect(told(&r, LUPPANETH_REFUSED, LUPPANETH_NOT_DURABLE, 0, 0), "settle before the flush");
+    expect(told(&r, LUPPANETH_ANSWER_REFUSED, LUPPANETH_NOT_DURABLE, 0, 0), "settle before the flush");
     r = luppaneth_flush(r.state, l->disk, sizeof l->disk, l->memory, sizeof l->memory, l->tail, sizeof l->tail, 1, 17);
-    expect(told(&r, LUPPANETH_DONE, 0, 0, 17) && memcmp(l->disk + LUPPANETH_LOG, record, 17) == 0, "flush");
+    expect(told(&r, LUPPANETH_ANSWER_DONE, 0, 0, 17) && memcmp(l->disk + LUPPANETH_LOG, record, 17) == 0, "flush");
     r = luppaneth_settle(r.state, l->memory, sizeof l->memory, l->tail, sizeof l->tail, 1);
-    expect(told(&r, LUPPANETH_DONE, 0, 0, 0), "settle");
+    expect(told(&r, LUPPANETH_ANSWER_DONE, 0, 0, 0), "settle");
     l->state = r.state;
 }
 
