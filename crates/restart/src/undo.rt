@@ -127,7 +127,8 @@ pub(crate) fn undo_left(
         let t = image.txs[i];
         let undo = t.undo;
         undo.lay_back(memory);
-        put_abort(tail, k * ABORT_LEN, ids[i]);
+        let id = ids[i];
+        put_abort(tail, k * ABORT_LEN, id);
         k += 1;
         found[i] = 2;
     }

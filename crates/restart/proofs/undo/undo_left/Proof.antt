@@ -101,14 +101,14 @@ lay-back-requires c κs =
     let p = c .before .before .before .before .before .before .before .before .before .before .before .before .before .before .pre in
     (p .0 .0 .ranged _ (next (c .before .before .before .before) .0), c .before .before .before .before .before .before .before .loop .inv .1 ∙ p .1 .0)
 
+mul-id : tie.Need-mul-id Inv-loop μ-loop
+mul-id c = omega (arith, few (c .before .before .before .before .before .before .before))
+
+array-copy-out-id : tie.Need-array-copy-out-id Inv-loop μ-loop
+array-copy-out-id c = few (c .before .before .before .before .before .before .before)
+
 mul-put-abort : tie.Need-mul-put-abort Inv-loop μ-loop
-mul-put-abort c = omega (arith, room (c .before .before .before .before .before .before .before .before), c .before .before .before .before .before .before .before .before .before .before .before .loop .inv .2, c .before .before .before .before .before .before .before .before .before .before .before .before .before .before .before .before .before .before .pre .1 .1)
-
-mul-put-abort-2 : tie.Need-mul-put-abort-2 Inv-loop μ-loop
-mul-put-abort-2 c = omega (arith, few (c .before .before .before .before .before .before .before .before))
-
-array-copy-out-put-abort : tie.Need-array-copy-out-put-abort Inv-loop μ-loop
-array-copy-out-put-abort c = few (c .before .before .before .before .before .before .before .before)
+mul-put-abort c = omega (arith, room (c .before .before .before .before .before .before .before .before .before), c .before .before .before .before .before .before .before .before .before .before .before .before .loop .inv .2, c .before .before .before .before .before .before .before .before .before .before .before .before .before .before .before .before .before .before .before .pre .1 .1)
 
 put-abort-requires : tie.Need-put-abort-requires Inv-loop μ-loop
 put-abort-requires c κs = room (c .before .before .before .before .before .before .before .before .before)
@@ -163,9 +163,9 @@ undo-left-spec =
     mul-t
     element-copy-out-t
     lay-back-requires
+    mul-id
+    array-copy-out-id
     mul-put-abort
-    mul-put-abort-2
-    array-copy-out-put-abort
     put-abort-requires
     add-k
     array-write-found
