@@ -11,7 +11,7 @@ ghost use Rattle.store.specs.Flush.{flushOf};
 ghost use Rattle.store.specs.Checkpoint.{checkpointOf};
 ghost use Rattle.disk.specs.Restart.{restartOf};
 ghost use Rattle.disk.specs.Equal.{equalOf};
-ghost use Rattle.listing.specs.Listing.{restartWhole, listingOf, Listed};
+ghost use Rattle.listing.specs.Listing.{restartWhole, listingOf, Printed};
 ghost use Rattle.embed.specs.Reply.{replyOf};
 
 #[no_mangle]
@@ -81,7 +81,7 @@ pub extern "C" fn luppaneth_equal(a: &[u8], b: &[u8]) -> bool
 // Of a copy of a disk, which is restarted. The text goes to the front, zeros after it; its length is returned.
 #[no_mangle]
 pub extern "C" fn luppaneth_list(disk: &mut [u8], text: &mut [u8; TEXT_LEN]) -> usize
-    ensures { λ r. ⌜ Listed (listingOf (now (disk .entry))) r (now (text .exit)) ⌝ }
+    ensures { λ r. ⌜ Printed (listingOf (now (disk .entry))) r (now (text .exit)) ⌝ }
     ensures { λ _. ⌜ now (disk .exit) ≡ restartWhole (now (disk .entry)) .disk ⌝ }
 {
     list(disk, text)
