@@ -1,15 +1,15 @@
-//! Time, measured in batches that are made anew and compared by their medians.
+//! Time, by the medians of many short batches.
 
 use std::hint::black_box;
 use std::time::Instant;
 
-const BATCHES: usize = 15;
-/// A batch is as long as fits into this, within the two limits.
-const BATCH_NANOS: f64 = 2_000_000.0;
-const FEWEST: usize = 11;
-const MOST: usize = 301;
+const BATCHES: usize = 40;
+/// A batch has as many goes as fit into this, within the two limits: short, so
+/// that some batches meet no other work of the machine.
+const BATCH_NANOS: f64 = 500_000.0;
+const FEWEST: usize = 5;
+const MOST: usize = 101;
 
-/// How a run is split.
 pub struct Clock {
     /// What two looks at the clock take without anything between them.
     empty: f64,
@@ -41,7 +41,7 @@ impl Clock {
     ) -> Vec<f64> {
         let mut least = vec![f64::INFINITY; works.len()];
         let mut sizes = vec![FEWEST; works.len()];
-        for _ in 0..=BATCHES {
+        for _ in 0..BATCHES {
             for (i, work) in works.iter_mut().enumerate() {
                 let time = self.batch(sizes[i], work, &mut prepare, &mut go);
                 sizes[i] = ((BATCH_NANOS / time.max(1.0)) as usize).clamp(FEWEST, MOST);

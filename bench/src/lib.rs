@@ -3,6 +3,7 @@
 
 pub mod clock;
 pub mod curves;
+pub mod floor;
 pub mod measure;
 pub mod peers;
 pub mod plot;

@@ -1,11 +1,12 @@
-//! What is timed: a call of each program, a whole step, the floor.
+//! What is timed: a call of each program, and whole steps.
 
 use crate::clock::Clock;
+use crate::floor;
 use crate::peers::Peer;
 use crate::programs::{step_writes, Program};
 use crate::rows::opened;
-use crate::tuned::log::all_zero;
 use second::trace::{Call, World};
+use std::hint::black_box;
 
 /// The nanoseconds of a call, for each program.
 pub fn call(
@@ -25,25 +26,17 @@ pub fn call(
         programs,
         |program| program.load(world, disks),
         |program| {
-            std::hint::black_box(program.run(call));
+            black_box(program.run(call));
         },
     )
-}
-
-/// The machine's floor: the least that looking at a whole tail takes.
-pub fn scan(clock: &Clock) -> f64 {
-    let zeros = World::fresh().tail;
-    clock.each(
-        &mut [zeros.clone()],
-        |tail| tail.copy_from_slice(&zeros),
-        |tail| assert!(all_zero(tail)),
-    )[0]
 }
 
 /// Who makes steps.
 pub enum Stepper {
     Program(Box<dyn Program>),
     Peer(Box<dyn Peer>),
+    /// Instead of a step, the floor: a scan of a tail.
+    Scan,
 }
 
 /// As many steps as fit into a log, from a fresh store on.
@@ -54,6 +47,7 @@ impl Stepper {
         match self {
             Stepper::Program(program) => program.name().to_string(),
             Stepper::Peer(peer) => peer.name(),
+            Stepper::Scan => "a scan of 16,384 bytes".to_string(),
         }
     }
 
@@ -63,11 +57,12 @@ impl Stepper {
         }
     }
 
-    fn step(&mut self, turn: usize) {
+    fn step(&mut self, turn: usize, tail: &[u8]) {
         let writes = step_writes(turn);
         match self {
             Stepper::Program(program) => assert!(program.step(&writes), "a step was refused"),
             Stepper::Peer(peer) => peer.step(&writes),
+            Stepper::Scan => floor::scan(tail),
         }
     }
 }
@@ -78,7 +73,7 @@ pub fn steps(clock: &Clock, steppers: &mut [Stepper]) -> Vec<f64> {
     let times = clock.each(
         steppers,
         |stepper| stepper.prepare(&world),
-        |stepper| (0..STEPS).for_each(|turn| stepper.step(turn)),
+        |stepper| (0..STEPS).for_each(|turn| stepper.step(turn, black_box(&world.tail))),
     );
     times.iter().map(|time| time / STEPS as f64).collect()
 }

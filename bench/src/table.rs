@@ -17,6 +17,9 @@ pub const CALLS_HEAD: &str =
     "| call | with | ours, ns | second, ns | tuned, ns | ours / second | ours / tuned | misses |
 |---|---|---:|---:|---:|---:|---:|---|";
 
+pub const FLOOR_HEAD: &str = "| floor | ns |
+|---|---:|";
+
 pub const STEPS_HEAD: &str = "| a step of | ns | ours / it | scans | misses |
 |---|---:|---:|---:|---|";
 
@@ -59,19 +62,36 @@ pub fn call_line(row: &Row, times: &[f64]) -> String {
     )
 }
 
-pub fn step_line(name: &str, time: f64, ours: f64, floor: f64) -> String {
+/// The steps' rows, of names and nanoseconds: first the scan, then the programs.
+pub fn step_lines(named: &[(String, f64)]) -> Vec<String> {
+    let scan = named[0].1;
+    let ours = named.iter().find(|(name, _)| name == "ours");
+    let line = |(name, time): &(String, f64)| {
+        let (ratio, why) = match ours {
+            Some((_, ours)) => (
+                format!("{:.2}", ours / time),
+                step_misses(name, *time, *ours, scan),
+            ),
+            None => (String::new(), String::new()),
+        };
+        let scans = time / scan;
+        format!(
+            "| {name} | {} | {ratio} | {scans:.1} | {why} |",
+            nanos(*time)
+        )
+    };
+    named.iter().map(line).collect()
+}
+
+fn step_misses(name: &str, time: f64, ours: f64, scan: f64) -> String {
     let missed: &[&str] = match name {
-        "ours" if time > SCANS * floor => &["15 scans"],
+        "ours" if ours > SCANS * scan => &["15 scans"],
         "second" if ours > time * OF_SECOND => &["second"],
         _ if name.starts_with("SQLite") && ours > time * OF_SQLITE => &["SQLite"],
         _ => &[],
     };
-    let (ratio, scans) = (ours / time, time / floor);
-    let why = why(missed, &format!("step, {name}"));
-    format!(
-        "| {name} | {} | {ratio:.2} | {scans:.1} | {why} |",
-        nanos(time)
-    )
+    let who = name.split_whitespace().next().unwrap_or(name);
+    why(missed, &format!("step, {who}"))
 }
 
 /// The goals missed, with the reason written for the row; empty if none is.

@@ -82,7 +82,10 @@ fn break_state(world: &mut World, rng: &mut Rng) {
         3 => state.csn_assigned.0 = small as u32,
         4 => state.last_id.0 = small as u16,
         5 => world.tail[rng.below(40)] ^= 1 << small,
-        6 => world.tail[rng.below(16_384)] = 3,
+        6 => {
+            let anywhere = rng.below(16_384);
+            world.tail[rng.pick(&[anywhere, 16_383])] = 3;
+        }
         _ if state.txs.is_empty() => {}
         field => {
             let slot = rng.below(state.txs.len());
