@@ -3,7 +3,7 @@
 use std::hint::black_box;
 use std::time::Instant;
 
-const BATCHES: usize = 40;
+const BATCHES: usize = 12;
 /// A batch has as many goes as fit into this, within the two limits: short, so
 /// that some batches meet no other work of the machine.
 const BATCH_NANOS: f64 = 500_000.0;

@@ -29,7 +29,7 @@ pub fn write_all(
     programs: &mut [Box<dyn Program>],
 ) -> std::io::Result<()> {
     let restart = Plot {
-        title: "Restart over the length of the log".to_string(),
+        title: "Restart over the length of the log, time on a logarithmic scale".to_string(),
         x_title: "bytes of groups in the log".to_string(),
         curves: [
             curves(clock, programs, "632-byte groups", &RESTART, &full_logs()),
@@ -38,7 +38,7 @@ pub fn write_all(
         .concat(),
     };
     let begin = Plot {
-        title: "Begin over the length of the tail".to_string(),
+        title: "Begin over the length of the tail, time on a logarithmic scale".to_string(),
         x_title: "bytes of groups in the tail".to_string(),
         curves: [
             curves(
@@ -98,8 +98,7 @@ fn abort_tails() -> Worlds {
     worlds
 }
 
-/// A curve for each program; those of the longest log are dashed, since they
-/// have the most groups to the byte.
+/// A curve for each program, dashed where the groups are small.
 fn curves(
     clock: &Clock,
     programs: &mut [Box<dyn Program>],
@@ -107,21 +106,20 @@ fn curves(
     call: &Call,
     worlds: &Worlds,
 ) -> Vec<Curve> {
-    let label = |program: &Box<dyn Program>| format!("{}, {what}", program.name());
     let mut curves: Vec<Curve> = programs
         .iter()
         .map(|program| Curve {
-            label: label(program),
+            label: format!("{}, {what}", program.name()),
             colour: colour(program.name()),
             dashed: what != "632-byte groups",
             points: Vec::new(),
         })
         .collect();
-    for (bytes, world) in worlds {
-        let times = measure::call(clock, programs, world, call);
-        for (curve, time) in curves.iter_mut().zip(times) {
-            curve.points.push((*bytes as f64, time));
-        }
+    let calls: Vec<_> = worlds.iter().map(|(_, world)| (world, call)).collect();
+    let times = measure::calls(clock, programs, &calls);
+    for (curve, i) in curves.iter_mut().zip(0..) {
+        let place = |((bytes, _), times): (&(usize, World), &Vec<f64>)| (*bytes as f64, times[i]);
+        curve.points = worlds.iter().zip(&times).map(place).collect();
     }
     curves
 }

@@ -14,38 +14,36 @@ use std::path::Path;
 fn main() -> std::io::Result<()> {
     let clock = Clock::set();
     let mut programs = programs::all();
-    println!("{}", table::FLOOR_HEAD);
-    for (name, time) in floor::all(&clock) {
-        println!("| {name} | {} |", table::nanos(time));
-    }
     if programs.len() < 3 {
-        println!("\nLeft out: the proved library (LUPPANETH_LIB names no folder).");
-    }
-    println!("\n{}", table::CALLS_HEAD);
-    for row in rows::all() {
-        let times = measure::call(&clock, &mut programs, &row.world, &row.call);
-        println!("{}", table::call_line(&row, &times));
+        println!("Left out: the proved library (LUPPANETH_LIB names no folder).\n");
     }
     steps(&clock)?;
+    println!("\n{}", table::CALLS_HEAD);
+    let rows = rows::all();
+    let calls: Vec<_> = rows.iter().map(|row| (&row.world, &row.call)).collect();
+    let times = measure::calls(&clock, &mut programs, &calls);
+    for (row, times) in rows.iter().zip(&times) {
+        println!("{}", table::call_line(row, times));
+    }
     match std::env::args().nth(1) {
         Some(folder) => curves::write_all(Path::new(&folder), &clock, &mut programs),
         None => Ok(()),
     }
 }
 
-/// The table of whole steps; the databases' files stand in a folder of a memory
+/// The table of the floor and of whole steps; the databases' files stand in a folder of a memory
 /// file system, which is removed.
 fn steps(clock: &Clock) -> std::io::Result<()> {
     let shared = std::env::var("BENCH_SHM").unwrap_or("/dev/shm".to_string());
     let folder = Path::new(&shared).join(format!("luppaneth-bench-{}", std::process::id()));
     std::fs::create_dir(&folder)?;
     let (peers, missing) = peers::all(&folder);
-    let mut steppers = vec![Stepper::Scan];
+    let mut steppers: Vec<Stepper> = floor::FLOORS.map(Stepper::Floor).into();
     steppers.extend(programs::all().into_iter().map(Stepper::Program));
     steppers.extend(peers.into_iter().map(Stepper::Peer));
     let times = measure::steps(clock, &mut steppers);
     let named: Vec<(String, f64)> = steppers.iter().map(Stepper::name).zip(times).collect();
-    println!("\n{}", table::STEPS_HEAD);
+    println!("{}", table::STEPS_HEAD);
     for line in table::step_lines(&named) {
         println!("{line}");
     }

@@ -1,5 +1,6 @@
 //! The tables, as Markdown.
 
+use crate::floor::FLOORS;
 use crate::rows::Row;
 
 /// Why rows miss a goal: `name, case: reason` on a line each.
@@ -17,10 +18,7 @@ pub const CALLS_HEAD: &str =
     "| call | with | ours, ns | second, ns | tuned, ns | ours / second | ours / tuned | misses |
 |---|---|---:|---:|---:|---:|---:|---|";
 
-pub const FLOOR_HEAD: &str = "| floor | ns |
-|---|---:|";
-
-pub const STEPS_HEAD: &str = "| a step of | ns | ours / it | scans | misses |
+pub const STEPS_HEAD: &str = "| floor, or a step of | ns | ours / it | scans | misses |
 |---|---:|---:|---:|---|";
 
 /// Nanoseconds, with a comma between the thousands.
@@ -62,12 +60,14 @@ pub fn call_line(row: &Row, times: &[f64]) -> String {
     )
 }
 
-/// The steps' rows, of names and nanoseconds: first the scan, then the programs.
+/// The rows of the floor and the steps, by names and nanoseconds; a scan is the
+/// first.
 pub fn step_lines(named: &[(String, f64)]) -> Vec<String> {
     let scan = named[0].1;
     let ours = named.iter().find(|(name, _)| name == "ours");
     let line = |(name, time): &(String, f64)| {
-        let (ratio, why) = match ours {
+        let is_floor = FLOORS.iter().any(|floor| floor.name == name);
+        let (ratio, why) = match ours.filter(|_| !is_floor) {
             Some((_, ours)) => (
                 format!("{:.2}", ours / time),
                 step_misses(name, *time, *ours, scan),

@@ -68,7 +68,8 @@ pub struct Image<'a> {
     pub log_end: usize,
     pub ondisk: u32,
     pub lastid: u16,
-    pub memory: &'a [u8],
+    /// None for a disk without an image: zeros.
+    pub memory: Option<&'a [u8; MEMORY_LEN]>,
     count: usize,
     listed: [Listed<'a>; MAX_TXS],
 }
@@ -83,16 +84,14 @@ impl<'a> Image<'a> {
     }
 }
 
-/// The image of these 8,653 bytes; none if it breaks a rule.
-pub fn decode(bytes: &[u8]) -> Option<Image<'_>> {
-    let mut image = Image {
-        log_end: be16(bytes) as usize,
-        ondisk: be32(&bytes[2..]),
-        lastid: be16(&bytes[10..]),
-        memory: &bytes[13..13 + MEMORY_LEN],
-        count: bytes[12] as usize,
-        listed: Default::default(),
-    };
+/// Reads the image of these 8,653 bytes into an empty one, in place: it is large
+/// to move. None if it breaks a rule.
+pub fn decode<'a>(bytes: &'a [u8], image: &mut Image<'a>) -> Option<()> {
+    image.log_end = be16(bytes) as usize;
+    image.ondisk = be32(&bytes[2..]);
+    image.lastid = be16(&bytes[10..]);
+    image.count = bytes[12] as usize;
+    image.memory = bytes[13..].first_chunk();
     let counters = Counters {
         lastid: image.lastid,
         assigned: be32(&bytes[6..]),
@@ -102,13 +101,14 @@ pub fn decode(bytes: &[u8]) -> Option<Image<'_>> {
     }
     let mut keys = [(0, 0); MAX_TXS];
     let mut at = 13 + MEMORY_LEN;
-    for i in 0..image.count {
+    let slots = image.listed[..image.count].iter_mut();
+    for (slot, key) in slots.zip(&mut keys) {
         let (listed, size) = decode_tx(&bytes[at..IMAGE_LEN], counters)?;
-        keys[i] = (listed.id, listed.csn);
-        image.listed[i] = listed;
+        *key = (listed.id, listed.csn);
+        *slot = listed;
         at += size;
     }
-    distinct(&keys[..image.count]).then_some(image)
+    distinct(&keys[..image.count]).then_some(())
 }
 
 /// The transaction at the front of the bytes, and its size.

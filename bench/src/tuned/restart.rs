@@ -18,20 +18,20 @@ pub struct Found {
     undone_count: usize,
 }
 
-/// Steps 1 to 5: memory is left as restart leaves it, if not refused.
-pub fn recover(disk: &[u8], memory: &mut [u8]) -> Result<Found, Refusal> {
-    let mut image = match disk[POINTER] {
-        0 => Image::default(),
-        1 => decode(&disk[IMAGE_A..][..IMAGE_LEN]).ok_or(4)?,
-        2 => decode(&disk[IMAGE_B..][..IMAGE_LEN]).ok_or(4)?,
-        _ => return Err(3),
-    };
-    match image.memory {
-        [] => memory.fill(0),
-        bytes => memory.copy_from_slice(bytes),
+/// Step 1, but for memory; numbers 3 and 4.
+fn named_image<'a>(disk: &'a [u8], image: &mut Image<'a>) -> Result<(), Refusal> {
+    match disk[POINTER] {
+        0 => Ok(()),
+        1 => decode(&disk[IMAGE_A..][..IMAGE_LEN], image).ok_or(4),
+        2 => decode(&disk[IMAGE_B..][..IMAGE_LEN], image).ok_or(4),
+        _ => Err(3),
     }
-    let mut found = forward(&disk[LOG..], &mut image, memory);
-    undo_unfinished(&image, &mut found, memory);
+}
+
+/// Steps 2 to 5 over the image's memory; number 5.
+fn recover(image: &mut Image, log: &[u8], memory: &mut [u8]) -> Result<Found, Refusal> {
+    let mut found = forward(log, image, memory);
+    undo_unfinished(image, &mut found, memory);
     if found.end + 4 * found.undone_count > LOG_LEN {
         return Err(5);
     }
@@ -122,7 +122,7 @@ pub fn restart(
         return Err(1);
     }
     tail.fill(0);
-    let found = recover(disk, memory).inspect_err(|_| memory.fill(0))?;
+    let found = recover_into(disk, memory).inspect_err(|_| memory.fill(0))?;
     let need = LOG_LEN - found.end;
     let stores = need.min(allowed);
     disk[DISK_LEN - stores..].fill(0);
@@ -137,10 +137,35 @@ pub fn restart(
     Ok((Stored { cut: false, stores }, found.undone_count))
 }
 
+/// Steps 1 to 5: memory is left as restart leaves it, if not refused.
+fn recover_into(disk: &[u8], memory: &mut [u8]) -> Result<Found, Refusal> {
+    let mut image = Image::default();
+    named_image(disk, &mut image)?;
+    match image.memory {
+        Some(bytes) => memory.copy_from_slice(bytes),
+        None => memory.fill(0),
+    }
+    recover(&mut image, &disk[LOG..], memory)
+}
+
+/// The memory that restart leaves; none if it refuses the disk.
+fn meaning(disk: &[u8]) -> Option<Vec<u8>> {
+    let mut image = Image::default();
+    named_image(disk, &mut image).ok()?;
+    let mut memory = match image.memory {
+        Some(bytes) => bytes.to_vec(),
+        None => vec![0; MEMORY_LEN],
+    };
+    recover(&mut image, &disk[LOG..], &mut memory).ok()?;
+    Some(memory)
+}
+
 pub fn equal_in_meaning(one: &[u8], other: &[u8]) -> bool {
     if one.len() != DISK_LEN || other.len() != DISK_LEN {
         return false;
     }
-    let (mut a, mut b) = ([0; MEMORY_LEN], [0; MEMORY_LEN]);
-    recover(one, &mut a).is_ok() && recover(other, &mut b).is_ok() && a == b
+    match (meaning(one), meaning(other)) {
+        (Some(one), Some(other)) => one == other,
+        _ => false,
+    }
 }
