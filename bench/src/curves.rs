@@ -59,9 +59,10 @@ pub fn write_all(
 /// Worlds with so many bytes of groups.
 type Worlds = Vec<(usize, World)>;
 
-/// Even parts of a number, from none to all of it.
+/// Parts of a number, from none to all of it, close together at first: there
+/// the curves bend most.
 fn parts(whole: usize) -> impl Iterator<Item = usize> {
-    (0..=POINTS).map(move |i| whole * i / POINTS)
+    (0..=POINTS).map(move |i| whole * i * i / (POINTS * POINTS))
 }
 
 fn full_logs() -> Worlds {
