@@ -17,7 +17,7 @@ use Rattle.image.specs.Reading.{memoryOf}
 use Rattle.image.specs.Content.{transactionsIn}
 use Rattle.restart.specs.Forward.{groupsOf, forwardOf}
 use Rattle.restart.specs.Undo.{undoneOf}
-use Rattle.restart.specs.Restart.{Outcome, recoverOf}
+use Rattle.restart.specs.Restart.{AfterSteps, recoverOf}
 use Rattle.restart.proofs.Recovery.{memory-is}
 use Rattle.disk.specs.Layout.{pointerOf, imageAt, imagePart, logFrom}
 use Rattle.disk.specs.Examine.{noImage, imageNamed, loadOf, Meaning, refusedBy, stepsOf, meant, examineOf}
@@ -34,7 +34,7 @@ memoryIn disk = loadOf (pointerOf disk) disk .memory
 abbrev pub logIn : List ℕ → List ℕ
 logIn disk = logFrom (imageIn disk .logend) disk
 
-abbrev pub stepsIn : List ℕ → Outcome
+abbrev pub stepsIn : List ℕ → AfterSteps
 stepsIn disk = stepsOf (imageIn disk) (memoryIn disk) disk
 
 pub record Accepted (disk : List ℕ) : Type 0 where

@@ -18,7 +18,7 @@ use Rattle.log.proofs.StoreLaws.{length-clears, take-clears, apply-clears, leng
 use Rattle.log.proofs.Torn.{log-torn}
 use Rattle.image.specs.declared.Image.{Image}
 use Rattle.restart.specs.Forward.{startOf, groupsOf, goOver, forwardOf}
-use Rattle.restart.specs.Restart.{Outcome, outcome, recoverOf}
+use Rattle.restart.specs.Restart.{AfterSteps, afterSteps, recoverOf}
 use Rattle.restart.proofs.Recovery.{end-is}
 use Rattle.store.specs.Stored.{DiskOutcome, carriedOut}
 use Rattle.disk.specs.Layout.{pointerOf, imageAt, logFrom}
@@ -93,7 +93,7 @@ module _ (p k : ℕ) (disk : List ℕ) (h : p ≤ length disk) where
 -- steps 2 to 5 look at the log's groups alone
 steps-same : (i : Image) (log log' m t : List ℕ) → groupsOf i log' ≡ groupsOf i log → recoverOf i log' m t ≡ recoverOf i log m t
 unfolding recoverOf forwardOf
-steps-same i log log' m t e = ap (λ (gs : List Group). outcome i (goOver i gs (startOf i m)) t) e
+steps-same i log log' m t e = ap (λ (gs : List Group). afterSteps i (goOver i gs (startOf i m)) t) e
 
 module _ (disk : List ℕ) (d : length disk ≡ 33691) (a : Accepted disk) where
   groups-size : imageIn disk .logend + groupsSize (groupsOf (imageIn disk) (logIn disk)) ≡ examineOf disk .result .end
@@ -123,7 +123,7 @@ module _ (disk : List ℕ) (d : length disk ≡ 33691) (a : Accepted disk) where
         let low = a .low in
         means b (omega arith) (loadOf (pointerOf disk) disk .decoded) (memoryIn disk) (sym (ap (λ (x : Loaded). x .decoded) f))
         (sym (ap (λ (x : Loaded). x .memory) f)) (a .ok)
-        (subst (λ (o : Outcome). imageIn disk .logend + o .answer .end + 4 * o .answer .undone ≤ 16384) (sym s) fits)
+        (subst (λ (o : AfterSteps). imageIn disk .logend + o .answer .end + 4 * o .answer .undone ≤ 16384) (sym s) fits)
         ∙ ap (meant (imageIn disk .logend)) s
         ∙ sym (a .is)
 

@@ -15,7 +15,7 @@ use Rattle.image.specs.Rules.{keepsRules}
 use Rattle.image.specs.Pack.{emptyImage}
 use Rattle.image.proofs.Rules.{image-logend, image-count}
 use Rattle.image.proofs.Soundness.{decode-keeps}
-use Rattle.restart.specs.Restart.{Outcome, recoverOf}
+use Rattle.restart.specs.Restart.{AfterSteps, recoverOf}
 use Rattle.restart.proofs.Recovery.{end-is, count-is, undone-few}
 use Rattle.disk.specs.declared.examine.Examined.{Examined}
 use Rattle.disk.specs.Layout.{pointerOf, imagePart, logFrom}
@@ -100,7 +100,7 @@ either : (b : Bool) (x y : Meaning) → Roomy x → Roomy y → Roomy (cond b x 
 either true x y p q = p
 either false x y p q = q
 
-fitting-roomy : (logend : ℕ) (o : Outcome) → Roomy (ifFits logend o)
+fitting-roomy : (logend : ℕ) (o : AfterSteps) → Roomy (ifFits logend o)
 fitting-roomy logend o = go (ltb 16384 (logend + o .answer .end + 4 * o .answer .undone)) refl
   where
     go : (b : Bool) → ltb 16384 (logend + o .answer .end + 4 * o .answer .undone) ≡ b → Roomy (cond b (refusedBy 5) (meant logend o))

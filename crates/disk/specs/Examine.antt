@@ -10,7 +10,7 @@ use Rattle.image.specs.declared.read.Decoded.{Decoded}
 use Rattle.image.specs.Reading.{memoryOf}
 use Rattle.image.specs.Pack.{emptyImage}
 use Rattle.image.specs.Decode.{decodeOf}
-use Rattle.restart.specs.Restart.{Outcome, recoverOf}
+use Rattle.restart.specs.Restart.{AfterSteps, recoverOf}
 use Rattle.disk.specs.declared.examine.Examined.{Examined}
 use Rattle.disk.specs.Layout.{pointerOf, imagePart, logFrom}
 
@@ -44,11 +44,11 @@ refusedBy n =
     }
 
 -- steps 2 to 5 from an image and its memory on, with a tail of zeros
-unfoldable pub stepsOf : Image → List ℕ → List ℕ → Outcome
+unfoldable pub stepsOf : Image → List ℕ → List ℕ → AfterSteps
 stepsOf image memory disk = recoverOf image (logFrom (image .logend) disk) memory (replicate tailLen 0)
 
 -- the end is counted from the log's first byte
-abbrev pub meant : ℕ → Outcome → Meaning
+abbrev pub meant : ℕ → AfterSteps → Meaning
 meant logend o =
     record {
       result =
@@ -65,7 +65,7 @@ meant logend o =
     }
 
 -- "5. Restart: end found + 4 × transactions undone in step 4 exceeds 16,384."
-abbrev pub ifFits : ℕ → Outcome → Meaning
+abbrev pub ifFits : ℕ → AfterSteps → Meaning
 ifFits logend o = cond (ltb logLen (logend + o .answer .end + abortLen * o .answer .undone)) (refusedBy 5) (meant logend o)
 
 -- "4. Restart: the image breaks a rule."

@@ -27,7 +27,7 @@ use Rattle.disk.specs.Examine.{loadOf, refusedBy, stepsOf, examineOf}
 use Rattle.disk.specs.Restart.{recoveredState, restartOf}
 use Rattle.listing.specs.Text.{decimal, line, foundText}
 use Rattle.listing.specs.Listing.{listingOf}
-use Rattle.history.specs.Calls.{World, fresh, runOf}
+use Rattle.history.specs.Calls.{World, freshWorld, runOf}
 use Rattle.history.specs.Cases.{Shown, Row, rows, showing, shown, Worked}
 use Rattle.history.proofs.Quick.{Short, widened, Lengths}
 use Rattle.history.proofs.QuickRun.{QuickRan, quickRun, RightRun, right-run}
@@ -56,7 +56,7 @@ right-shown r x = go (quickRun (r .calls) start) (right-run (r .calls) start len
     lengths : Lengths (replicate 33691 0) (replicate 4096 0) []
     lengths = record { disk = length-replicate {A = ℕ} 33691 0; memory = length-replicate {A = ℕ} 4096 0; tail = omega arith }
 
-    go : (o : Option QuickRan) → RightRun (runOf (r .calls) fresh) o → quickShowing (r .look) o ≡ some x → shown r ≡ x
+    go : (o : Option QuickRan) → RightRun (runOf (r .calls) freshWorld) o → quickShowing (r .look) o ≡ some x → shown r ≡ x
     go none p e = clash (cc)
     go (some y) p e = ap (showing (r .look)) p ∙ cc
 

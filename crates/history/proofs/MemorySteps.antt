@@ -38,7 +38,7 @@ use Rattle.store.proofs.Choosing as choosing
 use Rattle.store.proofs.Choosing.{Running, listed-slot, ranged-by-8}
 use Rattle.store.proofs.Calling.{begin-done, write-done, precommit-done, abort-done, settle-done}
 use Rattle.store.proofs.Stepping.{same-or-other}
-use Rattle.store.proofs.Admitting.{accepted}
+use Rattle.store.proofs.Admitting.{unrefused}
 use Rattle.store.proofs.Views.{begin-free, listed-view, tail-csn, commitOf, commit-appends, abort-appends, begin-live, write-live, precommit-live}
 use Rattle.store.proofs.Views.{abort-live, settle-live}
 use Rattle.store.proofs.Premises.{held-view, room-view}
@@ -118,7 +118,7 @@ module _ (w : World) (d : Disk) (l : Live) (o : OnDisk (w .disk) d) (v : LiveOn 
   begin-follows =
       same-or-other (beginNumber s m t) 0
       (λ z.
-      let x = accepted s (length m) t (beginChecks (s .count) (s .lastid .0) (roomUsed s t)) z in
+      let x = unrefused s (length m) t (beginChecks (s .count) (s .lastid .0) (roomUsed s t)) z in
       let b = begin-free s (roomUsed s t) (image-count (imageOf s) (x .fits .image)) (x .own) in
       let e = begin-done s m t z in
       follows begin (returned w _) (ledger.begun (suc (l .lastId))) (afterBegin l) (ap (returned w) e)
@@ -150,7 +150,7 @@ module _ (w : World) (d : Disk) (l : Live) (o : OnDisk (w .disk) d) (v : LiveOn 
         (λ z.
         let n = length bs in
         let new : Write = record { addr = a; bytes = bs } in
-        let x = accepted s (length m) t (writeChecks s (roomUsed s t) id a n) z in
+        let x = unrefused s (length m) t (writeChecks s (roomUsed s t) id a n) z in
         let last = check10 s id ∷ check 13 (ltb 16384 (roomUsed s t + (7 + n))) ∷ [] in
         let p = choosing.running s id (check8 a n ∷ check9 s id a n ∷ last) (x .own) in
         let r = p .0 in
@@ -177,7 +177,7 @@ module _ (w : World) (d : Disk) (l : Live) (o : OnDisk (w .disk) d) (v : LiveOn 
     precommit-follows =
         same-or-other (precommitNumber s m t tid) 0
         (λ z.
-        let x = accepted s (length m) t (precommitChecks s id) z in
+        let x = unrefused s (length m) t (precommitChecks s id) z in
         let r = choosing.running s id (check 12 (eqb (s .assigned .0) 4294967295) ∷ []) (x .own) .0 in
         let y = commit-appends s t id (v .sizes) (v .tail) fits r in
         let n : s .assigned .0 + 1 ≡ suc (lastAssigned l) =
@@ -198,7 +198,7 @@ module _ (w : World) (d : Disk) (l : Live) (o : OnDisk (w .disk) d) (v : LiveOn 
     abort-follows =
         same-or-other (abortNumber s m t tid) 0
         (λ z.
-        let x = accepted s (length m) t (abortChecks s id) z in
+        let x = unrefused s (length m) t (abortChecks s id) z in
         let r = choosing.running s id [] (x .own) .0 in
         let y = abort-appends s t id (v .tail) fits r in
         let e = abort-done s m t tid z in
@@ -217,7 +217,7 @@ module _ (w : World) (d : Disk) (l : Live) (o : OnDisk (w .disk) d) (v : LiveOn 
     settle-follows =
         same-or-other (settleNumber s m t tid) 0
         (λ z.
-        let x = accepted s (length m) t (settleChecks s id) z in
+        let x = unrefused s (length m) t (settleChecks s id) z in
         let one = eqb (txOf s id .status) 1 in
         let late = ltb (s .ondisk .0) (txOf s id .csn .0) in
         let p = listed-slot s id (check 14 (one || late) ∷ []) (x .own) in

@@ -11,7 +11,7 @@ use Rattle.recovery.specs.Group.{Group, groupsSize, lastCsn}
 use Rattle.recovery.specs.Transaction.{Tx}
 use Rattle.recovery.specs.Replay.{layBytes}
 use Rattle.recovery.specs.Restart.{undone, aborts, recover}
-use Rattle.recovery.specs.Machine.{Opening, fresh, Disk, openingDisk, undoneBy, recovered}
+use Rattle.recovery.specs.Machine.{Opening, freshOpening, Disk, openingDisk, undoneBy, recovered}
 use Rattle.recovery.proofs.Groups.{groupsSize-append}
 use Rattle.log.specs.Log.{readLog, encodeLog}
 use Rattle.log.proofs.Parts.{log-split}
@@ -44,7 +44,7 @@ pub record OnDisk (disk : List ℕ) (d : Disk) : Type 0 where
 
 -- the opening of demand 3's lists: 4,096 bytes of memory, 16,384 of log, all zero
 abbrev pub opens : Opening
-opens = fresh 4096 16384
+opens = freshOpening 4096 16384
 
 pub fresh-shows : OnDisk (replicate 33691 0) (openingDisk opens)
 unfolding loadOf emptyImage

@@ -38,8 +38,8 @@ pub record World : Type 0 where
   pub state : State
 
 -- "An all-zero disk is a fresh one", and no call was made yet
-abbrev pub fresh : World
-fresh = record { disk = replicate 33691 0; memory = replicate 4096 0; tail = replicate 16384 0; state = unrecovered }
+abbrev pub freshWorld : World
+freshWorld = record { disk = replicate 33691 0; memory = replicate 4096 0; tail = replicate 16384 0; state = unrecovered }
 
 abbrev pub withState : State → World → World
 withState s w = record { disk = w .disk; memory = w .memory; tail = w .tail; state = s }

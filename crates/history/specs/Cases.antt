@@ -14,7 +14,7 @@ use Rattle.disk.specs.Examine.{Loaded, loadOf}
 use Rattle.listing.specs.Text.{ascii}
 use Rattle.listing.specs.Listing.{listingOf}
 use Rattle.history.specs.Calls.{Call, begin, write, read, readAnswer, precommit, abort, flush, settle, checkpoint, restart}
-use Rattle.history.specs.Calls.{Reply, told, part, World, fresh, Ran, runOf}
+use Rattle.history.specs.Calls.{Reply, told, part, World, freshWorld, Ran, runOf}
 
 -- what is told, call by call, and what is looked at in the end
 pub record Shown : Type 0 where
@@ -213,7 +213,7 @@ abbrev pub showing : (World → List ℕ) → Ran → Shown
 showing look x = record { replies = x .replies; seen = look (x .world) }
 
 abbrev pub shown : Row → Shown
-shown r = showing (r .look) (runOf (r .calls) fresh)
+shown r = showing (r .look) (runOf (r .calls) freshWorld)
 
 -- each row shows what it should
 abbrev pub Worked : Type 0

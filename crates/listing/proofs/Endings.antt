@@ -25,7 +25,7 @@ use Rattle.disk.specs.Restart.{ofRestarted, refusedRestart, restartOf}
 use Rattle.disk.proofs.Examining.{roomy}
 use Rattle.disk.proofs.Restarting.{doneFrom, restart-1, restart-refused, restart-done}
 use Rattle.listing.specs.Text.{foundText, refusedText}
-use Rattle.listing.specs.Listing.{restartWhole, listingOf, Listed}
+use Rattle.listing.specs.Listing.{restartWhole, listingOf, Printed}
 
 pub data Ending (disk : List ℕ) : Type 0 where
   refused : (n : ℕ) → restartWhole disk .result ≡ refusedRestart n → Ending disk
@@ -102,8 +102,8 @@ module _ (disk : List ℕ) (r : Restarted) (e : ofRestarted r ≡ restartWhole d
       go (refused n x) = absurd (refused-tag n (r .answer) (ap (λ (y : Told). y .says) (e ∙ x)) k)
       go (done x) = listing-done pointer p (ap (λ (y : Told). y .says) e ∙ ap (λ (o : DiskOutcome). o .result .says) x)
 
-pub listed : {x y out : List ℕ} {r : ℕ} → x ≡ y → Listed x r out → Listed y r out
-listed {out = out} {r} e l = subst (λ (text : List ℕ). Listed text r out) e l
+pub printed : {x y out : List ℕ} {r : ℕ} → x ≡ y → Printed x r out → Printed y r out
+printed {out = out} {r} e l = subst (λ (text : List ℕ). Printed text r out) e l
 
 -- ---- an input of any length, read into a buffer
 

@@ -8,7 +8,7 @@ use lib.Seq.{sets, sets-eq, take-append-seam}
 use Rattle.log.proofs.StoreLaws.{sets-append}
 use Rattle.log.proofs.StoreLaws.{drop-zeros}
 use Rattle.listing.specs.Text.{Put, ascii, line, foundText, refusedText}
-use Rattle.listing.specs.Listing.{padded, Listed}
+use Rattle.listing.specs.Listing.{padded, Printed}
 use Rattle.listing.proofs.Decimal.{line-short}
 
 pub put-one : (b : List ℕ) (at v : ℕ) → Put b at (v ∷ []) (at + 1) (set b at v)
@@ -25,7 +25,7 @@ pub put-copy : (b : List ℕ) (at : ℕ) (text b′ : List ℕ) → b′ ≡ set
 put-copy b at text b′ e = record { bytes = e; ends = refl }
 
 -- a text at the front of 64 zeros
-pub put-front : {b text out : List ℕ} {r : ℕ} → b ≡ replicate 64 0 → length text ≤ 64 → Put b 0 text r out → Listed text r out
+pub put-front : {b text out : List ℕ} {r : ℕ} → b ≡ replicate 64 0 → length text ≤ 64 → Put b 0 text r out → Printed text r out
 put-front {b} {text} {out} {r} e h p =
     let l : length b ≡ 64 = ap length e ∙ length-replicate {A = ℕ} 64 0 in
     let z : 0 + length text ≡ length text = omega arith in

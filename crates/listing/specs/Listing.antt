@@ -30,12 +30,12 @@ padded text = text ++ replicate (64 - length text) 0
 
 -- the text stands at the front of out and r is its length. `within` and `part` follow from the others; they are stated so that the proof that
 -- Rattle makes of `&out[..r]` finds them.
-pub record Listed (text : List ℕ) (r : ℕ) (out : List ℕ) : Type 0 where
+pub record Printed (text : List ℕ) (r : ℕ) (out : List ℕ) : Type 0 where
   pub size : r ≡ length text
   pub bytes : out ≡ padded text
   pub within : r ≤ length out
   pub part : r ≡ length (take r out)
 
 -- whatever the whole input is, if the first `count` bytes of the buffer are it, or as much of it as the buffer holds: its text
-abbrev pub ListedWhole : List ℕ → ℕ → ℕ → List ℕ → Type 0
-ListedWhole buffer count r out = (whole : List ℕ) → take count buffer ≡ take (length buffer) whole → Listed (listingOf whole) r out
+abbrev pub PrintedWhole : List ℕ → ℕ → ℕ → List ℕ → Type 0
+PrintedWhole buffer count r out = (whole : List ℕ) → take count buffer ≡ take (length buffer) whole → Printed (listingOf whole) r out

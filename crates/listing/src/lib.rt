@@ -14,7 +14,7 @@ ghost use mathlib.Core.List.{_++_};
 ghost use mathlib.Core.Path.{_≡_};
 ghost use lib.ListN.{take, drop};
 ghost use Rattle.disk.specs.Layout.{pointerOf};
-ghost use Rattle.listing.specs.Listing.{restartWhole, listingOf, Listed, ListedWhole};
+ghost use Rattle.listing.specs.Listing.{restartWhole, listingOf, Printed, PrintedWhole};
 
 // 0 of no bytes at all, which restart refuses.
 fn pointer_of(disk: &[u8]) -> u8
@@ -28,7 +28,7 @@ fn pointer_of(disk: &[u8]) -> u8
 
 // Runs restart on the copy that is lent, with stores enough. The text goes to the front of out, zeros after it; its length is returned.
 pub fn list(disk: &mut [u8], out: &mut [u8; 64]) -> usize
-    ensures { λ r. ⌜ Listed (listingOf (now (disk .entry))) r (now (out .exit)) ⌝ }
+    ensures { λ r. ⌜ Printed (listingOf (now (disk .entry))) r (now (out .exit)) ⌝ }
     ensures { λ _. ⌜ now (disk .exit) ≡ restartWhole (now (disk .entry)) .disk ⌝ }
 {
     let pointer = pointer_of(&*disk);
@@ -46,7 +46,7 @@ pub fn list(disk: &mut [u8], out: &mut [u8; 64]) -> usize
 
 // The text of the first count bytes, or of all if there are fewer.
 fn list_front(buffer: &mut [u8], count: usize, out: &mut [u8; 64]) -> usize
-    ensures { λ r. ⌜ Listed (listingOf (take count (now (buffer .entry)))) r (now (out .exit)) ⌝ }
+    ensures { λ r. ⌜ Printed (listingOf (take count (now (buffer .entry)))) r (now (out .exit)) ⌝ }
     ensures { λ _. ⌜ now (buffer .exit) ≡ restartWhole (take count (now (buffer .entry))) .disk ++ drop count (now (buffer .entry)) ⌝ }
 {
     if buffer.len() <= count {
@@ -60,8 +60,8 @@ pub const INPUT_LEN: usize = DISK_LEN + 1;
 
 // The text of a whole input, of which count bytes were read into the front of the buffer.
 pub fn list_input(buffer: &mut [u8; INPUT_LEN], count: usize, out: &mut [u8; 64]) -> usize
-    ensures { λ r. ⌜ ListedWhole (now (buffer .entry)) count r (now (out .exit)) ⌝ }
-    ensures { λ r. ⌜ Listed (listingOf (take count (now (buffer .entry)))) r (now (out .exit)) ⌝ }
+    ensures { λ r. ⌜ PrintedWhole (now (buffer .entry)) count r (now (out .exit)) ⌝ }
+    ensures { λ r. ⌜ Printed (listingOf (take count (now (buffer .entry)))) r (now (out .exit)) ⌝ }
     ensures { λ _. ⌜ now (buffer .exit) ≡ restartWhole (take count (now (buffer .entry))) .disk ++ drop count (now (buffer .entry)) ⌝ }
 {
     list_front(buffer, count, out)

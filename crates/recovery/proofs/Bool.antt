@@ -8,8 +8,8 @@ use native.Mathlib.Omega.{arith}
 use lib.Dec.{eqb}
 use borrow.Author.Tests.{eq-eqb}
 
-pub clash : {b : Bool} → b ≡ true → b ≡ false → ⊥
-clash p q = true≢false (sym p ∙ q)
+pub opposed : {b : Bool} → b ≡ true → b ≡ false → ⊥
+opposed p q = true≢false (sym p ∙ q)
 
 pub eqb-same : (i : ℕ) → eqb i i ≡ true
 eqb-same i = eq-eqb i i refl

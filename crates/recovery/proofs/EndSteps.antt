@@ -13,7 +13,7 @@ use Rattle.recovery.specs.Lists.{All, nil, cons}
 use Rattle.recovery.specs.Transaction.{Tx, running, committing, reserved}
 use Rattle.recovery.specs.Replay.{replay}
 use Rattle.recovery.specs.Restart.{groupId, above, sortDesc}
-use Rattle.recovery.specs.Ledger.{Ledger, OpenTx, Commit, Entry, writesOf, others, enterPrecommitted, enterRolledBack}
+use Rattle.recovery.specs.Ledger.{Ledger, OpenTx, Commit, Entry, openWrites, others, enterPrecommitted, enterRolledBack}
 use Rattle.recovery.specs.Machine.{Opening, Disk, Live, Listed, lastAssigned, inCommit, afterPrecommit, afterAbort}
 use Rattle.recovery.specs.Claim.{commits}
 use Rattle.recovery.proofs.Lists.{all-map, all-zip, all-append, all-here, all-less, all-more, all-edit, all-filter, filter-in, filter-append}
@@ -275,9 +275,9 @@ module _ (o : Opening) (d : Disk) (l : Live) (k : Ledger) (r : Tx) (listed : Lis
         (all-more (committing (found .before)) r′ (committing (found .after)) (omega arith) (all-map (λ t h. omega arith) (rw committings at (s .csns))));
   }
 
-  precommit-entry : record { id = r .id; csn = newCsn; writes = writesOf (r .id) (k .active) } ≡ entry
+  precommit-entry : record { id = r .id; csn = newCsn; writes = openWrites (r .id) (k .active) } ≡ entry
   precommit-entry = ap (λ (ws : List Write). record { id = r .id; csn = newCsn; writes = ws })
-      (ap (λ (ss : List OpenTx). writesOf (r .id) ss) actives ∙ writes-one r xs ys apart)
+      (ap (λ (ss : List OpenTx). openWrites (r .id) ss) actives ∙ writes-one r xs ys apart)
 
   -- soFar commits assigned so far, and the new one
   abbrev soFar : List Commit

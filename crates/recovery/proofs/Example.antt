@@ -7,14 +7,14 @@ use Rattle.recovery.specs.Group.{Write}
 use Rattle.recovery.specs.Lists.{nil}
 use Rattle.recovery.specs.Restart.{undoOrder}
 use Rattle.recovery.specs.Ledger.{Commit, Ledger}
-use Rattle.recovery.specs.Machine.{Opening, fresh, System, diskOf, recovered, newTx, withWrite, inCommit, begins, writes, precommits, rollsBack}
+use Rattle.recovery.specs.Machine.{Opening, freshOpening, System, diskOf, recovered, newTx, withWrite, inCommit, begins, writes, precommits, rollsBack}
 use Rattle.recovery.specs.Machine.{flushes, flushIsCut, settles, checkpoints, restarts, Run, opened, next}
 use Rattle.recovery.specs.Claim.{layCommits}
 use Rattle.recovery.proofs.Cases.{byte10}
 use Rattle.recovery.proofs.Theorem.{theorem}
 
 abbrev store : Opening
-store = fresh 4096 16384
+store = freshOpening 4096 16384
 
 -- a list of calls, where it leads, and what it leaves durable
 pub record History : Type 0 where

@@ -13,7 +13,7 @@ use Rattle.recovery.specs.Group.{Group, csnAfter, lastCsn}
 use Rattle.recovery.specs.Lists.{All, cons, has}
 use Rattle.recovery.specs.Transaction.{Tx, running, committing}
 use Rattle.recovery.specs.Restart.{groupId, finished, unfinished, sortDesc, above, undoOrder, undone}
-use Rattle.recovery.proofs.Bool.{clash, eqb-same, or-both}
+use Rattle.recovery.proofs.Bool.{opposed, eqb-same, or-both}
 use Rattle.recovery.proofs.Lists.{all-map, all-zip, all-less, all-passing, filter-none, filter-append}
 use Rattle.recovery.proofs.Transactions.{isAbove, isUnfinished}
 use Rattle.recovery.proofs.Sorting.{sort-all}
@@ -110,5 +110,5 @@ module _ (itxs : List Tx) (d : ℕ) (G : List Group) (xs : List Tx) (r : Tx) (ys
         old c (inr h) = inr (omega arith)
 
         other : (t : Tx) → isUnfinished (r .id ∷ []) t ≡ true → Kin r (xs ++ ys) t → Linked t (xs ++ ys)
-        other t e (itself i o) = absurd (clash e (rw (i, eqb-same (r .id))))
+        other t e (itself i o) = absurd (opposed e (rw (i, eqb-same (r .id))))
         other t e (another n l) = l

@@ -11,7 +11,7 @@ use Rattle.recovery.specs.Lists.{All, nil, cons, has}
 use Rattle.recovery.specs.Transaction.{Tx, running, committing, lookup}
 use Rattle.recovery.specs.Replay.{undoAll, undoEach, replay}
 use Rattle.recovery.specs.Restart.{groupId, finished, undoRecords, undoOf, unfinished, undone, forward, recover}
-use Rattle.recovery.proofs.Bool.{clash, eqb-same}
+use Rattle.recovery.proofs.Bool.{opposed, eqb-same}
 use Rattle.recovery.proofs.Lists.{all-map, all-left, all-right, all-here, all-filter, all-unfilter, all-passing}
 use Rattle.recovery.proofs.Distinct.{distinct-filter}
 use Rattle.recovery.proofs.Transactions.{DistinctIds, lookup-none, lookup-own, isRunning, isCommitting, isUnfinished, Found, find, lookup-misses}
@@ -37,7 +37,7 @@ module _ (a x mem v : ℕ) (xs : List Tx) (r : Tx) (ys L : List Tx) (at : Runnin
   rest-still q = all-passing (isUnfinished (r .id ∷ [])) (all-map (λ t p o. go t o p) kins)
     where
       go : (t : Tx) → isUnfinished (r .id ∷ []) t ≡ true → Kin r (xs ++ ys) t → Still a t
-      go t o (itself i ov) = absurd (clash o (rw (i, eqb-same (r .id))))
+      go t o (itself i ov) = absurd (opposed o (rw (i, eqb-same (r .id))))
       go t o (another n l) = linked-still q l
 
   same-over : (t : Tx) → t .id ≡ r .id → Kin r (xs ++ ys) t → Over t r

@@ -12,7 +12,7 @@ use borrow.Author.Tests.{ne-eqb, leb-true, leb-false, ltb-true, ltb-false}
 use Rattle.recovery.specs.Group.{Write}
 use Rattle.recovery.specs.Lists.{All, nil, cons, any}
 use Rattle.recovery.specs.Transaction.{Tx, running, overlap, heldByOther}
-use Rattle.recovery.proofs.Bool.{clash, and-cases}
+use Rattle.recovery.proofs.Bool.{opposed, and-cases}
 use Rattle.recovery.proofs.Lists.{all-map, all-passing, none-any}
 use Rattle.recovery.proofs.Transactions.{isRunning}
 use Rattle.recovery.proofs.Byte.{seen, seenAt, oldest}
@@ -55,5 +55,5 @@ unheld i w txs a h s = all-passing isRunning
 
     go : (t : Tx) → t .id ≢ i → not (t .committing) ≡ true → (not (eqb i (t .id)) ≡ false) ⊎ ((not (t .committing) && over t) ≡ false)
         → oldest a (t .undo) ≡ none
-    go t n run (inl e) = absurd (clash (ap not (ne-eqb i (t .id) (λ q. n (sym q)))) e)
+    go t n run (inl e) = absurd (opposed (ap not (ne-eqb i (t .id) (λ q. n (sym q)))) e)
     go t n run (inr e) = apart-oldest a w s (none-any (λ u. overlap u w) (t .undo) (rw run at e))

@@ -14,7 +14,7 @@ use Rattle.recovery.specs.Lists.{All, nil, cons, orElse}
 use Rattle.recovery.specs.Transaction.{Tx, running, committing}
 use Rattle.recovery.specs.Replay.{redoAll, replay, layBytes}
 use Rattle.recovery.specs.Restart.{aborts}
-use Rattle.recovery.specs.Ledger.{OpenTx, Commit, Entry, commit, abort, Ledger, entrySize, fittingEntries, committedIn, writesOf, others, addWrite}
+use Rattle.recovery.specs.Ledger.{OpenTx, Commit, Entry, commit, abort, Ledger, entrySize, fittingEntries, committedIn, openWrites, others, addWrite}
 use Rattle.recovery.specs.Ledger.{latest}
 use Rattle.recovery.specs.Machine.{Disk, Live, withWrite}
 use Rattle.recovery.specs.Claim.{commits, layCommits}
@@ -87,7 +87,7 @@ module _ (r : Tx) where
   others-one [] ys h = rw (eqb-same (r .id)) (others-none h)
   others-one (x ∷ xs) ys (cons n ns) = rw (ne-eqb (r .id) (x .id) (λ e. n (sym e))) (ap (λ (l : List OpenTx). openOf x ∷ l) (others-one xs ys ns))
 
-  pub writes-one : (xs ys : List Tx) → All (λ t. t .id ≢ r .id) (xs ++ ys) → writesOf (r .id) (opens (xs ++ r ∷ ys)) ≡ r .redo
+  pub writes-one : (xs ys : List Tx) → All (λ t. t .id ≢ r .id) (xs ++ ys) → openWrites (r .id) (opens (xs ++ r ∷ ys)) ≡ r .redo
   writes-one [] ys h = rw (eqb-same (r .id))
   writes-one (x ∷ xs) ys (cons n ns) = rw (ne-eqb (r .id) (x .id) (λ e. n (sym e))) (writes-one xs ys ns)
 

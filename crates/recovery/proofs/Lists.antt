@@ -7,7 +7,7 @@ use Prim.Native.Nat.{ℕ, zero, suc}
 use lib.ListN.{take}
 use lib.Seq.{take-nil}
 use Rattle.recovery.specs.Lists.{All, nil, cons, any, filter, orElse}
-use Rattle.recovery.proofs.Bool.{clash, or-left, or-right}
+use Rattle.recovery.proofs.Bool.{opposed, or-left, or-right}
 
 module _ {A : Type 0} where
   -- one thing or another
@@ -111,7 +111,7 @@ module _ {A : Type 0} where
       go : (b : Bool) → p x ≡ b → All q (cond b (x ∷ filter p xs) (filter p xs)) → (All q (filter p xs) → All (λ y. p y ≡ true → q y) xs)
           → All (λ y. p y ≡ true → q y) (x ∷ xs)
       go true e (cons k ks) f = cons (λ _. k) (f ks)
-      go false e k f = cons (λ e′. absurd (clash e′ e)) (f k)
+      go false e k f = cons (λ e′. absurd (opposed e′ e)) (f k)
 
   -- a property of those that pass, from one of all that pass
   pub all-passing : {q : A → Type 0} (p : A → Bool) {xs : List A} → All (λ x. p x ≡ true → q x) xs → All q (filter p xs)

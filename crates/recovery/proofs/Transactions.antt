@@ -9,7 +9,7 @@ use lib.Dec.{eqb, ltb}
 use borrow.Author.Tests.{eqb-true, eqb-false, ne-eqb}
 use Rattle.recovery.specs.Lists.{All, nil, cons, has}
 use Rattle.recovery.specs.Transaction.{Tx, running, committing, lookup, edit, remove}
-use Rattle.recovery.proofs.Bool.{some-none, eqb-same, clash}
+use Rattle.recovery.proofs.Bool.{some-none, eqb-same, opposed}
 use Rattle.recovery.proofs.Lists.{all-filter, filter-in, filter-out, filter-append}
 use Rattle.recovery.proofs.Distinct.{Distinct, empty, more, distinct-others, distinct-parts}
 
@@ -109,7 +109,7 @@ committing-append xs ys = filter-append isCommitting xs ys
 
 -- no id is both
 pub running-committing : {txs : List Tx} → DistinctIds txs → All (λ t. All (λ c. c .id ≢ t .id) (committing txs)) (running txs)
-running-committing d = distinct-parts isRunning isCommitting (λ x p q. clash p (rw q)) d
+running-committing d = distinct-parts isRunning isCommitting (λ x p q. opposed p (rw q)) d
 
 -- a listed running transaction, among the running ones
 module _ {txs : List Tx} (r : Tx) (run : r .committing ≡ false) (f : Found (r .id) r txs) where

@@ -52,9 +52,9 @@ committedIn (commit c ∷ es) = c ∷ committedIn es
 committedIn (abort ∷ es) = committedIn es
 
 -- by id: the write set, the other open transactions, one more write
-abbrev pub writesOf : ℕ → List OpenTx → List Write
-writesOf i [] = []
-writesOf i (s ∷ ss) = cond (eqb i (s .id)) (s .writes) (writesOf i ss)
+abbrev pub openWrites : ℕ → List OpenTx → List Write
+openWrites i [] = []
+openWrites i (s ∷ ss) = cond (eqb i (s .id)) (s .writes) (openWrites i ss)
 
 abbrev pub others : ℕ → List OpenTx → List OpenTx
 others i ss = filter (λ s. not (eqb i (s .id))) ss
@@ -100,7 +100,7 @@ enterWrote i w l = withActive (map (addWrite i w) (l .active)) l
 -- Precommit: the write set goes last in the queue, as a committed transaction with that number; it is assigned from now on.
 abbrev pub enterPrecommitted : ℕ → ℕ → Ledger → Ledger
 enterPrecommitted i n l =
-    let c : Commit = record { id = i; csn = n; writes = writesOf i (l .active) } in
+    let c : Commit = record { id = i; csn = n; writes = openWrites i (l .active) } in
     record {
       active = others i (l .active);
       queue = l .queue ++ (commit c ∷ []);

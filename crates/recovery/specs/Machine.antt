@@ -23,8 +23,8 @@ pub record Opening : Type 0 where
   pub sized : length memory ≡ size
 
 -- a fresh disk: zeros, and commit numbers from 1 on
-abbrev pub fresh : ℕ → ℕ → Opening
-fresh size capacity = record { size = size; capacity = capacity; memory = replicate size 0; csn = 0; sized = length-replicate size 0 }
+abbrev pub freshOpening : ℕ → ℕ → Opening
+freshOpening size capacity = record { size = size; capacity = capacity; memory = replicate size 0; csn = 0; sized = length-replicate size 0 }
 
 -- what recovery needs of a checkpoint image; csn: the last commit number on disk
 pub record Image : Type 0 where

@@ -12,7 +12,7 @@ use Rattle.restart.specs.declared.Recovered.{Recovered}
 use Rattle.restart.specs.Forward.{Went, forwardOf}
 use Rattle.restart.specs.Undo.{undoneOf}
 
-pub record Outcome : Type 0 where
+pub record AfterSteps : Type 0 where
   pub answer : Recovered
   pub memory : List ℕ
   pub tail : List ℕ
@@ -23,13 +23,13 @@ abbrev pub answerOf : Image → Pass → Recovered
 answerOf image p = record { end = p .end; csn = p .csn; last = p .last; undone = length (undoneOf image p); found = p .found }
 
 -- Step 4: they are undone in that order. "Each adds an abort record to the tail"
-abbrev pub outcome : Image → Went → List ℕ → Outcome
-outcome image w tail =
+abbrev pub afterSteps : Image → Went → List ℕ → AfterSteps
+afterSteps image w tail =
     record {
       answer = answerOf image (w .pass);
       memory = undoEach layBytes (undoneOf image (w .pass)) (w .memory);
       tail = sets tail 0 (encodeLog (aborts (undoneOf image (w .pass))));
     }
 
-unfoldable pub recoverOf : Image → List ℕ → List ℕ → List ℕ → Outcome
-recoverOf image log m tail = outcome image (forwardOf image log m) tail
+unfoldable pub recoverOf : Image → List ℕ → List ℕ → List ℕ → AfterSteps
+recoverOf image log m tail = afterSteps image (forwardOf image log m) tail

@@ -213,14 +213,14 @@ module _ (s : State) (lent : ℕ) (t : List ℕ) where
     admit-fit h = rw (eq-eqb lent 4096 e, eq-eqb (length t) 16384 f, h)
 
   -- what a call has passed whose own checks are cs
-  pub record Accepted (cs : List Check) : Type 0 where
+  pub record Unrefused (cs : List Check) : Type 0 where
     pub memory : lent ≡ 4096
     pub tail : length t ≡ 16384
     pub fits : Fit s t
     pub own : firstNumber cs ≡ 0
 
-  pub accepted : (cs : List Check) → numberBy s lent t cs ≡ 0 → Accepted cs
-  accepted cs e =
+  pub unrefused : (cs : List Check) → numberBy s lent t cs ≡ 0 → Unrefused cs
+  unrefused cs e =
       let a = passed 1 (not (eqb lent 4096 && eqb (length t) 16384)) (check 2 (unfit s t) ∷ cs) (omega arith) e in
       let b = passed 2 (unfit s t) cs (omega arith) (a .1) in
       let l : eqb lent 4096 && eqb (length t) 16384 ≡ true = not-false _ (a .0) in
@@ -248,7 +248,7 @@ module _ (s : State) (lent : ℕ) (t : List ℕ) where
     admitted h =
         let z : firstNumber (sharedChecks s lent t) ≡ 0 = sym number-is ∙ h in
         record {
-          fits = accepted [] z .fits;
+          fits = unrefused [] z .fits;
           own = λ cs. passes (sharedChecks s lent t) cs refl z;
           end = ap (λ (y : Admission). y .end) e ∙ rw z;
           room = ap (λ (y : Admission). y .room) e ∙ rw z;

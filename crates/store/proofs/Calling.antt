@@ -32,7 +32,7 @@ use Rattle.store.specs.Calls.{refusing, beginNumber, beginOf, writeNumbe
 use Rattle.store.specs.Calls.{precommitOf, abortNumber, abortOf, settleNumber, settleOf}
 use Rattle.store.proofs.Checks.{passed}
 use Rattle.store.proofs.Fits.{Fit, status-at, redo-at, room-at}
-use Rattle.store.proofs.Admitting.{accepted, admitted, seen}
+use Rattle.store.proofs.Admitting.{unrefused, admitted, seen}
 use Rattle.store.proofs.Choosing.{slotted, Running, running, ranged-by-8}
 
 -- ---- outcomes, by the number
@@ -155,7 +155,7 @@ pub placed : (s : State) (m : ℕ) (t : List ℕ) (id : ℕ) (x : Admission) (r 
 placed s m t id x r cs e f h =
     let w = slotted s x id r (cs (x .room)) (seen s m t x e) f h in
     let a = admitted s m t x e (w .admits) in
-    let b = accepted s m t [] (a .own []) in
+    let b = unrefused s m t [] (a .own []) in
     record {
       memory = b .memory;
       tail = b .tail;

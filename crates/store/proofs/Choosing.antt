@@ -5,7 +5,7 @@ use mathlib.Core.Bool.{Bool, true, false, cond, not, _&&_, _||_}
 use mathlib.Core.List.{List, [], _∷_, _++_}
 use mathlib.Core.Path.{_≡_, refl, sym, ap, _∙_}
 use lib.Dec.{eqb, leb, ltb}
-use native.Mathlib.Decide.{decLe, decLt}
+use native.Mathlib.Decide.{decLe}
 use borrow.Author.Tests.{eq-eqb, ne-eqb, eqb-true, eqb-false, le-leb, lt-leb, le-ltb, lt-ltb, not-false}
 use Rattle.recovery.specs.Lists.{any}
 use Rattle.log.specs.Record.{inRange}
@@ -19,7 +19,7 @@ use Rattle.store.specs.Rules.{keepsImageRules}
 use Rattle.store.specs.Numbers.{Check, firstNumber, txOf, check6, check7, check8}
 use Rattle.store.specs.Admission.{numberAfter, refusal, chosen, choice, Seen}
 use Rattle.store.proofs.Checks.{positive, stops, passes, passed}
-use Rattle.store.proofs.Slots.{slot as find}
+use Rattle.store.proofs.Slots.{slot as find, slot-within}
 
 -- ---- numbers after an admission
 
@@ -135,12 +135,7 @@ pub listed-slot : (s : State) (id : ℕ) (cs : List Check) → firstNumber (chec
 listed-slot s id cs z =
     let x = find s id in
     let p = passed 6 (not (any (hasId id) (txsOf s))) cs (omega arith) z in
-    let h : any (hasId id) (txsOf s) ≡ true = not-false _ (p .0) in
-    let l : slotOf s id < s .count =
-    elim (decLt (slotOf s id) (s .count)) [
-      | yes q ↦ q
-      | no q ↦ let f : any (hasId id) (txsOf s) ≡ false = x .unlisted (omega (arith, q, x .high)) in let z : _≡_ {A = ℕ} 0 1 = cc in absurd (omega arith)
-    ] in
+    let l = slot-within s id (not-false _ (p .0)) in
     (l, sym (eqb-true _ _ (x .there (omega arith))), p .1)
 
 pub slotted : (s : State) (x : Admission) (id : ℕ) (r : Choice) (cs : List Check) → Seen x s → r ≡ choice s x id (check6 s id ∷ cs) → r .number ≡ 0

@@ -22,7 +22,7 @@ use Rattle.store.specs.Calls.{Outcome, appended, beginNumber, beginOf, w
 use Rattle.store.specs.Calls.{settleNumber, settleOf}
 use Rattle.store.proofs.Checks.{passed}
 use Rattle.store.proofs.Fits.{unfit-no, status-at}
-use Rattle.store.proofs.Admitting.{accepted}
+use Rattle.store.proofs.Admitting.{unrefused}
 use Rattle.store.proofs.Choosing.{running, listed-slot, ranged-by-8}
 use Rattle.store.proofs.Calling.{writable, begin-done, write-done, precommit-done, abort-done, settle-done}
 use Rattle.store.proofs.Views.{begin-free, commitOf}
@@ -40,7 +40,7 @@ pub record Kept (s : State) (t : List ℕ) : Type 0 where
 module _ (s : State) (m t : List ℕ) (z : SizedState s) where
   pub begin-keeps : beginNumber s m t ≡ 0 → Kept (beginOf s m t .state) t
   begin-keeps e =
-      let a = accepted s (length m) t (beginChecks (s .count) (s .lastid .0) (roomUsed s t)) e in
+      let a = unrefused s (length m) t (beginChecks (s .count) (s .lastid .0) (roomUsed s t)) e in
       let b = begin-free s (roomUsed s t) (image-count (imageOf s) (a .fits .image)) (a .own) in
       subst (λ (o : Told). Kept (o .state) t) (sym (begin-done s m t e))
       (record { fits = unfit-no (begunState s) t (begun-fits s t z (a .fits) (b .0) (b .1)); sizes = begun-sized s z (b .0) })
@@ -52,7 +52,7 @@ module _ (s : State) (m t : List ℕ) (z : SizedState s) where
     pub write-keeps : (a : ℕ) (bs : List ℕ) → writeNumber s m t id a (length bs) ≡ 0 → Kept (writeOf s m t id a bs .result .state) (writeOf s m t id a bs .tail)
     write-keeps a bs e =
         let n = length bs in
-        let x = accepted s (length m) t (writeChecks s (roomUsed s t) (id .0) a n) e in
+        let x = unrefused s (length m) t (writeChecks s (roomUsed s t) (id .0) a n) e in
         let last = check10 s (id .0) ∷ check 13 (ltb 16384 (roomUsed s t + (7 + n))) ∷ [] in
         let p = running s (id .0) (check8 a n ∷ check9 s (id .0) a n ∷ last) (x .own) in
         let r = p .0 in
@@ -69,7 +69,7 @@ module _ (s : State) (m t : List ℕ) (z : SizedState s) where
 
     pub precommit-keeps : precommitNumber s m t id ≡ 0 → Kept (precommitOf s m t id .result .state) (precommitOf s m t id .tail)
     precommit-keeps e =
-        let x = accepted s (length m) t (precommitChecks s (id .0)) e in
+        let x = unrefused s (length m) t (precommitChecks s (id .0)) e in
         let r = running s (id .0) (check 12 (eqb (s .assigned .0) 4294967295) ∷ []) (x .own) .0 in
         subst (λ (o : Outcome). Kept (o .result .state) (o .tail)) (sym (precommit-done s m t id e))
         (record {
@@ -79,7 +79,7 @@ module _ (s : State) (m t : List ℕ) (z : SizedState s) where
 
     pub abort-keeps : abortNumber s m t id ≡ 0 → Kept (abortOf s m t id .result .state) (abortOf s m t id .tail)
     abort-keeps e =
-        let x = accepted s (length m) t (abortChecks s (id .0)) e in
+        let x = unrefused s (length m) t (abortChecks s (id .0)) e in
         let r = running s (id .0) [] (x .own) .0 in
         subst (λ (o : Outcome). Kept (o .result .state) (o .tail)) (sym (abort-done s m t id e))
         (record {
@@ -89,7 +89,7 @@ module _ (s : State) (m t : List ℕ) (z : SizedState s) where
 
     pub settle-keeps : settleNumber s m t id ≡ 0 → Kept (settleOf s m t id .state) t
     settle-keeps e =
-        let x = accepted s (length m) t (settleChecks s (id .0)) e in
+        let x = unrefused s (length m) t (settleChecks s (id .0)) e in
         let l = listed-slot s (id .0) (check 14 (eqb (txOf s (id .0) .status) 1 || ltb (s .ondisk .0) (txOf s (id .0) .csn .0)) ∷ []) (x .own) in
         subst (λ (o : Told). Kept (o .state) t) (sym (settle-done s m t id e))
         (record {

@@ -22,5 +22,7 @@ pub mod Flushing
 pub mod Checkpointing
 pub mod Premises
 pub mod Sameness
-pub mod SameCalls
-pub mod SameWrite
+pub mod SameNumbers
+pub mod SameSteps
+pub mod SameOutcomes
+pub mod SameStored

@@ -1,5 +1,6 @@
 -- Laws of finding a transaction's slot by its id.
 use Prim.Native.Nat.{ℕ, zero, suc, _+_, _-_, _≤_, _<_}
+use native.Mathlib.Decide.{decLt}
 use native.Mathlib.Omega.{arith}
 use native.Mathlib.Numerals.{add-one}
 use mathlib.Core.Bool.{Bool, true, false, cond, _||_}
@@ -76,6 +77,15 @@ slot-from s id (suc k) i = go (hasId id (txAt s i)) refl (slot-from s id k (suc 
 
 pub slot : (s : State) (id : ℕ) → Slot s id 0 (s .count) (slotOf s id) (any (hasId id) (txsOf s))
 slot s id = slot-from s id (s .count) 0
+
+-- the slot of a listed id is one that counts
+pub slot-within : (s : State) (id : ℕ) → any (hasId id) (txsOf s) ≡ true → slotOf s id < s .count
+slot-within s id e =
+    let x = slot s id in
+    elim (decLt (slotOf s id) (s .count)) [
+      | yes q ↦ q
+      | no q ↦ let f : any (hasId id) (txsOf s) ≡ false = x .unlisted (omega (arith, q, x .high)) in let z : _≡_ {A = ℕ} 0 1 = cc in absurd (omega arith)
+    ]
 
 -- ---- the array of slots
 

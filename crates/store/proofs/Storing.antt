@@ -17,7 +17,7 @@ use Rattle.store.specs.Calls.{refusing}
 use Rattle.store.specs.Stored.{diskChecks, DiskOutcome, Plan, cutShort, madeWhole, carriedOut, storedBy}
 use Rattle.store.proofs.Fits.{Fit, unfit-no}
 use Rattle.store.proofs.Checks.{passed}
-use Rattle.store.proofs.Admitting.{accepted}
+use Rattle.store.proofs.Admitting.{unrefused}
 
 -- ---- stores into the part of a disk from an offset on
 
@@ -84,7 +84,7 @@ module _ (s : State) (d m t : List ℕ) where
   pub disk-admitted : diskNumber ≡ 0 → DiskAdmitted s d m t
   disk-admitted z =
       let p = passed 1 (not (eqb (length d) 33691)) (sharedChecks s (length m) t) (omega arith) z in
-      let x = accepted s (length m) t [] (p .1) in
+      let x = unrefused s (length m) t [] (p .1) in
       record { disk = eqb-true _ _ (not-false _ (p .0)); memory = x .memory; tail = x .tail; fits = x .fits }
 
   pub disk-passes : DiskAdmitted s d m t → diskNumber ≡ 0

@@ -44,7 +44,7 @@ use Rattle.store.specs.View.{viewAt, live}
 use Rattle.store.proofs.Slots.{slot}
 use Rattle.store.proofs.Checks.{passed}
 use Rattle.store.proofs.Fits.{Fit}
-use Rattle.store.proofs.Admitting.{accepted}
+use Rattle.store.proofs.Admitting.{unrefused}
 use Rattle.store.proofs.Choosing.{Running, running, listed-slot}
 use Rattle.store.proofs.Calling.{usable, writable, begin-done, write-done, precommit-done, abort-done, settle-done}
 use Rattle.store.proofs.Positions.{Changed, Dropped, First, found, edited, removed}
@@ -191,7 +191,7 @@ module _ (s : State) (m t : List ℕ) (z : SizedState s) where
   -- Begin adds a running transaction without records, of the next id.
   pub begin-live : beginNumber s m t ≡ 0 → live (beginOf s m t .state) m t ≡ afterBegin (live s m t)
   begin-live e =
-      let a = accepted s (length m) t (beginChecks (s .count) (s .lastid .0) (roomUsed s t)) e in
+      let a = unrefused s (length m) t (beginChecks (s .count) (s .lastid .0) (roomUsed s t)) e in
       ap (λ (r : State). live r m t) (ap (λ (b : Told). b .state) (begin-done s m t e))
       ∙ begun-live (begin-free s (roomUsed s t) (image-count (imageOf s) (a .fits .image)) (a .own) .0)
 
@@ -207,7 +207,7 @@ module _ (s : State) (m t : List ℕ) (z : SizedState s) where
         → live (writeOf s m t id a bs .result .state) (writeOf s m t id a bs .memory) (writeOf s m t id a bs .tail)
         ≡ afterWrite tx (record { addr = a; bytes = bs }) (live s m t)
     write-live a bs e =
-        let x = accepted s (length m) t (writeChecks s (roomUsed s t) (id .0) a (length bs)) e in
+        let x = unrefused s (length m) t (writeChecks s (roomUsed s t) (id .0) a (length bs)) e in
         let last = check9 s (id .0) a (length bs) ∷ check10 s (id .0) ∷ check 13 (ltb 16384 (roomUsed s t + (7 + length bs))) ∷ [] in
         let r = running s (id .0) (check8 a (length bs) ∷ last) (x .own) .0 in
         let u = usable s t (id .0) (x .fits) r in
@@ -237,7 +237,7 @@ module _ (s : State) (m t : List ℕ) (z : SizedState s) where
     pub precommit-live : precommitNumber s m t id ≡ 0
         → live (precommitOf s m t id .result .state) (precommitOf s m t id .memory) (precommitOf s m t id .tail) ≡ afterPrecommit tx (live s m t)
     precommit-live e =
-        let x = accepted s (length m) t (precommitChecks s (id .0)) e in
+        let x = unrefused s (length m) t (precommitChecks s (id .0)) e in
         let r = running s (id .0) (check 12 (eqb (s .assigned .0) 4294967295) ∷ []) (x .own) .0 in
         let u = usable s t (id .0) (x .fits) r in
         let y = commit-appends s t (id .0) z (x .tail) (x .fits) r in
@@ -259,7 +259,7 @@ module _ (s : State) (m t : List ℕ) (z : SizedState s) where
     pub abort-live : abortNumber s m t id ≡ 0
         → live (abortOf s m t id .result .state) (abortOf s m t id .memory) (abortOf s m t id .tail) ≡ afterAbort tx (live s m t)
     abort-live e =
-        let x = accepted s (length m) t (abortChecks s (id .0)) e in
+        let x = unrefused s (length m) t (abortChecks s (id .0)) e in
         let r = running s (id .0) [] (x .own) .0 in
         let u = usable s t (id .0) (x .fits) r in
         let y = abort-appends s t (id .0) (x .tail) (x .fits) r in
@@ -274,7 +274,7 @@ module _ (s : State) (m t : List ℕ) (z : SizedState s) where
     -- Settle drops the transaction.
     pub settle-live : settleNumber s m t id ≡ 0 → live (settleOf s m t id .state) m t ≡ afterSettle tx (live s m t)
     settle-live e =
-        let x = accepted s (length m) t (settleChecks s (id .0)) e in
+        let x = unrefused s (length m) t (settleChecks s (id .0)) e in
         let l = listed-slot s (id .0) (check 14 (eqb (txOf s (id .0) .status) 1 || ltb (s .ondisk .0) (txOf s (id .0) .csn .0)) ∷ []) (x .own) in
         ap (λ (o : Told). live (o .state) m t) (settle-done s m t id e)
         ∙ dropped-numbers s m t j

@@ -7,7 +7,7 @@ pub mod Numbers
 pub mod Steps
 pub mod Calls
 pub mod View
-pub mod Same
 pub mod Stored
 pub mod Flush
 pub mod Checkpoint
+pub mod Same

@@ -1,4 +1,4 @@
--- A record of the stream (Record), Adler-32 (Adler), and what a call's line tells (Outcome).
+-- A record of the stream (Record), Adler-32 (Adler), and what a call's line tells (Report).
 pub mod Adler
 pub mod Record
-pub mod Outcome
+pub mod Report

@@ -4,7 +4,7 @@ use store::Answer;
 use store::State;
 ghost use mathlib.Core.Path.{_≡_};
 ghost use Rattle.trace.specs.Adler.{adlerOf};
-ghost use Rattle.trace.specs.Outcome.{storedOf, readOf, comparedOf};
+ghost use Rattle.trace.specs.Report.{storedOf, readOf, comparedOf};
 
 // A line's second field: a call's answer, the length of read's part, or whether two disks are equal in meaning.
 pub enum Verdict {
@@ -13,18 +13,18 @@ pub enum Verdict {
     Equal(bool),
 }
 
-pub struct Outcome {
+pub struct Report {
     pub verdict: Verdict,
     pub value: usize,
     pub stores: usize,
     pub state: State,
 }
 
-impl Outcome {
+impl Report {
     pub(crate) fn stored(answer: Answer, value: usize, stores: usize, state: State) -> Self
         ensures { λ r. ⌜ r ≡ storedOf answer value stores state ⌝ }
     {
-        Outcome {
+        Report {
             verdict: Verdict::Answered(answer),
             value: value,
             stores: stores,
@@ -35,7 +35,7 @@ impl Outcome {
     pub(crate) fn read(part: &[u8], state: State) -> Self
         ensures { λ r. ⌜ r ≡ readOf (now (part .entry)) state ⌝ }
     {
-        Outcome {
+        Report {
             verdict: Verdict::Part(part.len()),
             value: adler(part) as usize,
             stores: 0,
@@ -46,7 +46,7 @@ impl Outcome {
     pub(crate) fn compared(equal: bool, state: State) -> Self
         ensures { λ r. ⌜ r ≡ comparedOf equal state ⌝ }
     {
-        Outcome {
+        Report {
             verdict: Verdict::Equal(equal),
             value: 0,
             stores: 0,
@@ -147,7 +147,7 @@ fn print_state(s: State) {
     text(b"\n");
 }
 
-pub(crate) fn print_line(call: u8, out: Outcome, disk: &[u8], memory: &[u8], tail: &[u8]) {
+pub(crate) fn print_line(call: u8, out: Report, disk: &[u8], memory: &[u8], tail: &[u8]) {
     number(call as usize);
     let verdict = out.verdict;
     print_verdict(verdict);

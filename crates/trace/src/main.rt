@@ -2,7 +2,7 @@
 mod line;
 mod record;
 
-use crate::line::Outcome;
+use crate::line::Report;
 use crate::line::print_line;
 use crate::line::print_unknown;
 use crate::record::Record;
@@ -37,23 +37,23 @@ fn lay(dst: &mut [u8], at: usize, src: &[u8])
 }
 
 // The calls that store on the disk.
-fn disk_call(r: Record, s: State, disk: &mut [u8], memory: &mut [u8], tail: &mut [u8]) -> Outcome {
+fn disk_call(r: Record, s: State, disk: &mut [u8], memory: &mut [u8], tail: &mut [u8]) -> Report {
     if r.call == 7 {
         let x = s.flush(disk, memory, tail, r.groups, r.allowed);
         let answer = x.answer;
         let state = x.state;
-        return Outcome::stored(answer, 0, x.stores, state);
+        return Report::stored(answer, 0, x.stores, state);
     }
     if r.call == 9 {
         let x = s.checkpoint(disk, memory, tail, r.allowed);
         let answer = x.answer;
         let state = x.state;
-        return Outcome::stored(answer, 0, x.stores, state);
+        return Report::stored(answer, 0, x.stores, state);
     }
     let x = restart(disk, memory, tail, r.allowed);
     let answer = x.answer;
     let state = x.state;
-    Outcome::stored(answer, x.undone, x.stores, state)
+    Report::stored(answer, x.undone, x.stores, state)
 }
 
 // What befalls the store between calls, and whether its disk means what the kept one does.
@@ -65,65 +65,65 @@ fn stream_call(
     kept: &mut [u8],
     memory: &mut [u8],
     tail: &mut [u8],
-) -> Outcome {
+) -> Report {
     if r.call == 11 {
         fill(memory, 165);
         fill(tail, 165);
         let none = State::unrecovered();
-        return Outcome::stored(Answer::Done, 0, 0, none);
+        return Report::stored(Answer::Done, 0, 0, none);
     }
     if r.call == 12 {
         lay(disk, r.addr, data);
-        return Outcome::stored(Answer::Done, 0, 0, s);
+        return Report::stored(Answer::Done, 0, 0, s);
     }
     if r.call == 13 {
         lay(kept, 0, &*disk);
-        return Outcome::stored(Answer::Done, 0, 0, s);
+        return Report::stored(Answer::Done, 0, 0, s);
     }
-    Outcome::compared(equal(&*disk, &*kept), s)
+    Report::compared(equal(&*disk, &*kept), s)
 }
 
 // The calls that work in memory.
-fn memory_call(r: Record, data: &[u8], s: State, memory: &mut [u8], tail: &mut [u8]) -> Outcome {
+fn memory_call(r: Record, data: &[u8], s: State, memory: &mut [u8], tail: &mut [u8]) -> Report {
     let id = r.id;
     if r.call == 1 {
         let x = s.begin(&*memory, &*tail);
         let answer = x.answer;
         let state = x.state;
-        return Outcome::stored(answer, x.id.0 as usize, 0, state);
+        return Report::stored(answer, x.id.0 as usize, 0, state);
     }
     if r.call == 2 {
         let x = s.write(memory, &*tail, id, r.addr, data);
         let answer = x.answer;
         let state = x.state;
-        return Outcome::stored(answer, 0, 0, state);
+        return Report::stored(answer, 0, 0, state);
     }
     if r.call == 3 {
         let part = s.read(&*memory, &*tail, id, r.addr, r.len);
-        return Outcome::read(part, s);
+        return Report::read(part, s);
     }
     if r.call == 4 {
         let x = s.read_answer(&*memory, &*tail, id, r.addr, r.len);
         let answer = x.answer;
         let state = x.state;
-        return Outcome::stored(answer, 0, 0, state);
+        return Report::stored(answer, 0, 0, state);
     }
     if r.call == 5 {
         let x = s.precommit(&*memory, tail, id);
         let answer = x.answer;
         let state = x.state;
-        return Outcome::stored(answer, x.csn.0 as usize, 0, state);
+        return Report::stored(answer, x.csn.0 as usize, 0, state);
     }
     if r.call == 6 {
         let x = s.abort(memory, tail, id);
         let answer = x.answer;
         let state = x.state;
-        return Outcome::stored(answer, 0, 0, state);
+        return Report::stored(answer, 0, 0, state);
     }
     let x = s.settle(&*memory, &*tail, id);
     let answer = x.answer;
     let state = x.state;
-    Outcome::stored(answer, 0, 0, state)
+    Report::stored(answer, 0, 0, state)
 }
 
 // One record: the call, its line, and the state that it leaves.

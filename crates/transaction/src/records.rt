@@ -17,6 +17,7 @@ ghost use Rattle.transaction.specs.Rules.{recordsOk, sameRanges, meets, 
 ghost use Rattle.transaction.specs.Steps.{pushed};
 
 // Undo or redo records, oldest first: the i-th has the len[i] bytes from MAX_WRITE * i on.
+#[repr(C)]
 pub struct Records {
     pub count: u8,
     pub addr: [u16; MAX_RECORDS],

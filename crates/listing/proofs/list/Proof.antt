@@ -6,9 +6,26 @@ use borrow.Author.Needs.{needs}
 use Rattle.store.specs.Answer.{Told}
 use Rattle.listing.specs.Text.{refusedText}
 use Rattle.listing.proofs.Putting.{Short, lines-short, found-short, refused-short, put-front}
-use Rattle.listing.proofs.Endings.{few-undone, listing-refused, listing-found, listed}
+use Rattle.listing.proofs.Endings.{few-undone, listing-refused, listing-found, printed}
 use Rattle.listing.proofs.list.Statement.{statement}
 use Rattle.listing.proofs.list.Tie as tie
+
+-- places of the code by name
+
+abbrev afterRestartFromPutFoundArg : tie.After-put-found-arg → tie.After-restart
+afterRestartFromPutFoundArg c = c .before .before .before .before .before .before .before .before .before
+
+abbrev afterRestartFromPutFound : tie.After-put-found → tie.After-restart
+afterRestartFromPutFound c = afterRestartFromPutFoundArg (c .before)
+
+abbrev afterRestartFromPutLine : tie.After-put-line → tie.After-restart
+afterRestartFromPutLine c = c .before .before .before .before .before .before .before .before .before .before .before .before
+
+abbrev entryFromFillZero : tie.After-fill-zero → tie.Start
+entryFromFillZero c = c .before .before .before .before .before .before .before .before .before .before .before .before .before
+
+abbrev afterPointerOfFromPutFound : tie.After-put-found → tie.After-pointer-of
+afterPointerOfFromPutFound c = c .before .before .before .before .before .before .before .before .before .before .before .before .before .before
 
 pointer-of-requires : tie.Need-pointer-of-requires
 pointer-of-requires c κs = search needs
@@ -28,7 +45,7 @@ fill-zero-requires c κs = search needs
 -- out is all zeros then
 zeros : (c : tie.After-fill-zero) → c .fill-zero .last .0 ≡ replicate 64 0
 zeros c =
-    let l : length (c .before .before .before .before .before .before .before .before .before .before .before .before .before .args .out .now)
+    let l : length (entryFromFillZero c .args .out .now)
     ≡ 64 = search needs in c .fill-zero .ensures ∙ ap (λ (n : ℕ). replicate n 0) l
 
 zeros-length : (c : tie.After-fill-zero) → length (c .fill-zero .last .0) ≡ 64
@@ -63,12 +80,12 @@ same-length c = search needs
 returns : tie.Need-returns
 unfolding refusedText
 returns c =
-    let restarted = c .before .before .before .before .before .before .before .before .before .before .before .before in
+    let restarted = afterRestartFromPutLine c in
     let disk = restarted .before .before .before .before .before .before .before .args .disk .now in
-    let x = c .before .before .before .before .before .before .before .before .before .before .before .before .restart in
+    let x = afterRestartFromPutLine c .restart in
     let n = c .before .before .before .before .answer .given .0 .0 in
     let e = listing-refused disk (x .result) (x .ensures .0) n (c .before .before .before .before .answer .given .1) in (
-      listed (sym e)
+      printed (sym e)
           (put-front (zeros (c .before .before .before .before .before .before)) (refused-short n (byte (c .before .before .before)))
           (c .put-line .ensures)),
       x .ensures .1 .0,
@@ -88,21 +105,21 @@ short c =
     (search needs) (search needs) (search needs) (search needs) (few c)
 
 put-found-requires : tie.Need-put-found-requires
-put-found-requires c κs = (zeros-length (c .before .before .before), few (c .before .before .before .before .before .before .before .before .before))
+put-found-requires c κs = (zeros-length (c .before .before .before), few (afterRestartFromPutFoundArg c))
 
 same-length-2 : tie.Need-same-length-2
 same-length-2 c = search needs
 
 returns-2 : tie.Need-returns-2
 returns-2 c =
-    let restarted = c .before .before .before .before .before .before .before .before .before .before in
+    let restarted = afterRestartFromPutFound c in
     let disk = restarted .before .before .before .before .before .before .before .args .disk .now in
-    let x = c .before .before .before .before .before .before .before .before .before .before .restart in
-    let p = c .before .before .before .before .before .before .before .before .before .before .before .before .before .before .pointer-of in
+    let x = afterRestartFromPutFound c .restart in
+    let p = afterPointerOfFromPutFound c .pointer-of in
     let e = listing-found disk (x .result) (x .ensures .0) (p .result) (p .ensures) (c .before .before .before .match .keys2) in (
-      listed (sym e)
+      printed (sym e)
           (put-front (zeros (c .before .before .before .before))
-          (found-short (short (c .before .before .before .before .before .before .before .before .before .before))) (c .put-found .ensures)),
+          (found-short (short (afterRestartFromPutFound c))) (c .put-found .ensures)),
       x .ensures .1 .0,
     )
 

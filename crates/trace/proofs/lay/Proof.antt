@@ -7,6 +7,11 @@ use Rattle.trace.proofs.PastEnd.{sets-out, sets-room}
 use Rattle.trace.proofs.lay.Statement.{statement}
 use Rattle.trace.proofs.lay.Tie as tie
 
+-- places of the code by name
+
+abbrev entryFromSliceKnown2 : tie.After-slice-known2 → tie.Start
+entryFromSliceKnown2 c = c .before .before .before .before .before .before .before .before .before
+
 returns : tie.Need-returns
 returns c =
     sym (sets-out (c .before .before .before .args .dst .now) (c .before .before .before .args .at) (c .before .before .before .args .src .now) (c .if1 .taken))
@@ -25,7 +30,7 @@ same-length c = search needs
 
 returns-2 : tie.Need-returns-2
 returns-2 c =
-    let a = c .before .before .before .before .before .before .before .before .before .args in
+    let a = entryFromSliceKnown2 c .args in
     c .before .before .copy .ensures
     ∙ sets-room (a .dst .now) (a .at) (a .src .now) (length (a .dst .now) - a .at) (omega (arith, c .before .before .before .before .before .if2 .taken))
     (omega (arith, c .before .before .before .before .before .before .if1 .left))

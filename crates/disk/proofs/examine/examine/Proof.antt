@@ -10,7 +10,7 @@ use Rattle.image.specs.declared.Image.{Image}
 use Rattle.image.specs.Rules.{keepsRules}
 use Rattle.image.proofs.Rules.{image-logend}
 use Rattle.restart.specs.declared.Recovered.{Recovered}
-use Rattle.restart.specs.Restart.{Outcome, recoverOf}
+use Rattle.restart.specs.Restart.{AfterSteps, recoverOf}
 use Rattle.disk.specs.Examine.{stepsOf}
 use Rattle.disk.proofs.Examining.{keeps, steps-are, end-within, undone-within, answered, means-3, means-4, means-5, means}
 use Rattle.disk.proofs.examine.examine.Statement.{statement}
@@ -126,13 +126,13 @@ steps c =
     (cleared c .fill-zero .ensures ∙ ap (λ (n : ℕ). replicate n 0) (begun c .pre .2))
 
 found : (c : tie.After-recover) → c .recover .result ≡ stepsOf (imageAt c) (memoryAt c) (diskAt c) .answer
-found c = c .recover .ensures .0 ∙ ap (λ (o : Outcome). o .answer) (steps c)
+found c = c .recover .ensures .0 ∙ ap (λ (o : AfterSteps). o .answer) (steps c)
 
 remembered : (c : tie.After-recover) → c .recover .last .1 .1 .0 ≡ stepsOf (imageAt c) (memoryAt c) (diskAt c) .memory
-remembered c = c .recover .ensures .1 .0 ∙ ap (λ (o : Outcome). o .memory) (steps c)
+remembered c = c .recover .ensures .1 .0 ∙ ap (λ (o : AfterSteps). o .memory) (steps c)
 
 appended : (c : tie.After-recover) → c .recover .last .1 .1 .1 .0 ≡ stepsOf (imageAt c) (memoryAt c) (diskAt c) .tail
-appended c = c .recover .ensures .1 .1 ∙ ap (λ (o : Outcome). o .tail) (steps c)
+appended c = c .recover .ensures .1 .1 ∙ ap (λ (o : AfterSteps). o .tail) (steps c)
 
 ends : (c : tie.After-recover) → imageAt c .logend + c .recover .result .end ≤ 16384
 ends c = omega (arith, end-within (imageAt c) (kept (passed c)) (memoryAt c) (diskAt c) (begun c .pre .0), ap (λ (r : Recovered). r .end) (found c))

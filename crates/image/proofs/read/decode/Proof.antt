@@ -19,6 +19,23 @@ use borrow.Author.Needs.{needs}
 use Rattle.image.proofs.read.decode.Statement.{statement}
 use Rattle.image.proofs.read.decode.Tie as tie
 
+-- places of the code by name
+
+abbrev entryFromNotDecoded3 : tie.After-not-decoded3 → tie.Start
+entryFromNotDecoded3 c = c .before .before .before .before .before .before .before .before
+
+abbrev entryFromTxs : tie.After-txs → tie.Start
+entryFromTxs c = c .before .before .before .before .before .before .before .before .before .before .before .before
+
+abbrev entryFromOk : tie.After-ok → tie.Start
+entryFromOk c = entryFromTxs (c .before)
+
+abbrev entryFromElse4 : tie.Else4 → tie.Start
+entryFromElse4 c = entryFromOk (c .before)
+
+abbrev entryFromNotDecoded4 : tie.After-not-decoded4 → tie.Start
+entryFromNotDecoded4 c = entryFromOk (c .before .before)
+
 not-decoded-requires : tie.Need-not-decoded-requires
 not-decoded-requires c κs = search needs
 
@@ -69,7 +86,7 @@ not-decoded-requires-3 c κs = search needs
 
 returns-3 : tie.Need-returns-3
 returns-3 c =
-    let s = c .before .before .before .before .before .before .before .before .args .s .now in
+    let s = entryFromNotDecoded3 c .args .s .now in
     let x = c .before .before .read-txs .result in
     c .not-decoded3 .ensures
     ∙ sym (decode-none s (content-none s (c .before .before .before .before .before .before .if1 .left) (c .before .before .before .before .if2 .left) x
@@ -95,14 +112,14 @@ abbrev made : tie.After-txs → Image
 made c =
     imageWith (c .before .before .before .before .be16 .result) (c .before .before .before .be32 .result) (c .before .before .be322 .result)
     (c .before .be162 .result) (getD
-    (c .before .before .before .before .before .before .before .before .before .before .before .before .args .s .now) 12 0)
+    (entryFromTxs c .args .s .now) 12 0)
     (c .before .before .before .before .before .before .read-txs .result .txs)
 
 made-here : (c : tie.After-txs)
-    → made c ≡ imageHere (c .before .before .before .before .before .before .before .before .before .before .before .before .args .s .now)
+    → made c ≡ imageHere (entryFromTxs c .args .s .now)
     (c .before .before .before .before .before .before .read-txs .result .txs)
 made-here c =
-    let s = c .before .before .before .before .before .before .before .before .before .before .before .before .args .s .now in
+    let s = entryFromTxs c .args .s .now in
     let n = getD s 12 0 in
     let txs = c .before .before .before .before .before .before .read-txs .result .txs in
     ap₂ (λ (e d : ℕ). imageWith e d (c .before .before .be322 .result) (c .before .be162 .result) n txs)
@@ -111,7 +128,7 @@ made-here c =
 
 -- the content that was read, its layout, and what the rules say of it
 found : (c : tie.After-ok)
-    → let s = c .before .before .before .before .before .before .before .before .before .before .before .before .before .args .s .now in
+    → let s = entryFromOk c .args .s .now in
     (x : Content) × (readContent s ≡ some x) × (made (c .before) ≡ packed x) × (c .ok .result ≡ contentOk x)
 found c =
     let h = made-here (c .before) in
@@ -127,14 +144,14 @@ returns-4 : tie.Need-returns-4
 returns-4 c =
     let w = found (c .before .before) in
     c .not-decoded4 .ensures ∙ sym (decode-bad
-    (c .before .before .before .before .before .before .before .before .before .before .before .before .before .before .before .args .s .now) (w .0)
+    (entryFromNotDecoded4 c .args .s .now) (w .0)
     (w .1) (sym (w .3) ∙ not-true _ (c .before .if4 .taken)))
 
 returns-5 : tie.Need-returns-5
 returns-5 c =
     let w = found (c .before) in
     ap (λ (i : Image). record { ok = true; image = i }) (w .2)
-    ∙ sym (decode-good (c .before .before .before .before .before .before .before .before .before .before .before .before .before .before .args .s .now)
+    ∙ sym (decode-good (entryFromElse4 c .args .s .now)
     (w .0) (w .1) (sym (w .3) ∙ not-false _ (c .if4 .left)))
 
 pub decode-spec : {M : Type 1} → statement M

@@ -22,6 +22,20 @@ use borrow.Author.Needs.{needs}
 use Rattle.image.proofs.read.read_tx.Statement.{statement}
 use Rattle.image.proofs.read.read_tx.Tie as tie
 
+-- places of the code by name
+
+abbrev entryFromElse3 : tie.Else3 → tie.Start
+entryFromElse3 c = c .before .before .before .before .before .before .before .before
+
+abbrev afterReadUndosFromStructKnown2 : tie.After-struct-known2 → tie.After-read-undos
+afterReadUndosFromStructKnown2 c = c .before .before .before .before .before .before .before .before
+
+abbrev entryFromNoTx3 : tie.After-no-tx3 → tie.Start
+entryFromNoTx3 c = c .before .before .before .before .before .before .before .before .before
+
+abbrev entryFromStructKnown2 : tie.After-struct-known2 → tie.Start
+entryFromStructKnown2 c = entryFromElse3 (c .before .before .before .before .before .before)
+
 no-tx-requires : tie.Need-no-tx-requires
 no-tx-requires c κs = search needs
 
@@ -70,11 +84,11 @@ head-read c = tx-undos (c .before .before .before .before .before .before .args 
     (c .before .before .if2 .left)
 
 found : (c : tie.Else3)
-    → let s = c .before .before .before .before .before .before .before .before .args .s .now in
+    → let s = entryFromElse3 c .args .s .now in
     let x = c .before .before .read-undos .result in
     (us : List Write) × (readUndos (getD s 7 0) (drop 8 s) ≡ some us) × (x .undo ≡ pushedAll emptyRecords us) × (x .size ≡ undosSize us)
 found c =
-    let s = c .before .before .before .before .before .before .before .before .args .s .now in
+    let s = entryFromElse3 c .args .s .now in
     undos-some (readUndos (getD s 7 0) (drop 8 s)) (c .before .before .read-undos .result) (read-at (c .before .before)) (not-false _ (c .if3 .left))
 
 no-tx-requires-3 : tie.Need-no-tx-requires-3
@@ -82,7 +96,7 @@ no-tx-requires-3 c κs = search needs
 
 returns-3 : tie.Need-returns-3
 returns-3 c =
-    let s = c .before .before .before .before .before .before .before .before .before .args .s .now in
+    let s = entryFromNoTx3 c .args .s .now in
     let y = undos-none (readUndos (getD s 7 0) (drop 8 s)) (c .before .before .before .read-undos .result) (read-at (c .before .before .before))
     (not-true _ (c .before .if3 .taken)) in
     c .no-tx3 .ensures ∙ sym (ap txRead (head-read (c .before .before .before) ∙ ap (savedIf (be16 s 0) (getD s 2 0) (be32 s 3)) y))
@@ -101,24 +115,24 @@ loaded-requires c κs = search needs
 
 add-t8 : tie.Need-add-t8
 add-t8 c =
-    let s = c .before .before .before .before .before .before .before .before .before .before .before .before .before .before .args .s .now in
+    let s = entryFromStructKnown2 c .args .s .now in
     let w = found (c .before .before .before .before .before .before) in
     let i = undos-inv (getD s 7 0) (drop 8 s) (w .0) (w .1) in
     let d : undosSize (w .0) ≤ length s - 8 = rw length-drop at (undos-kept (drop 8 s) (w .0) (i .1) .0) in
-    omega (arith, w .3, d, c .before .before .before .before .before .before .before .before .before .before .before .before .before .before .good)
+    omega (arith, w .3, d, entryFromStructKnown2 c .good)
 
 returns-4 : tie.Need-returns-4
 returns-4 c =
-    let s = c .before .before .before .before .before .before .before .before .before .before .before .before .before .before .args .s .now in
+    let s = entryFromStructKnown2 c .args .s .now in
     let w = found (c .before .before .before .before .before .before) in
-    let r = c .before .before .before .before .before .before .before .before .read-undos .result .undo in
+    let r = afterReadUndosFromStructKnown2 c .read-undos .result .undo in
     let p : c .before .loaded .result ≡ packedTx (saved (be16 s 0) (getD s 2 0) (be32 s 3) (w .0)) =
     c .before .loaded .ensures
     ∙ ap₂ (λ (i n : ℕ). loaded i (getD s 2 0) n r) (c .before .before .before .before .be16 .ensures) (c .before .before .before .be32 .ensures)
     ∙ ap (loaded (be16 s 0) (getD s 2 0) (be32 s 3)) (w .2) in
-    let z : 8 + c .before .before .before .before .before .before .before .before .read-undos .result .size ≡ 8 + undosSize (w .0) = omega (arith, w .3) in
+    let z : 8 + afterReadUndosFromStructKnown2 c .read-undos .result .size ≡ 8 + undosSize (w .0) = omega (arith, w .3) in
     let q : readTx s ≡ some (saved (be16 s 0) (getD s 2 0) (be32 s 3) (w .0)) =
-    head-read (c .before .before .before .before .before .before .before .before) ∙ ap (savedIf (be16 s 0) (getD s 2 0) (be32 s 3)) (w .1) in
+    head-read (afterReadUndosFromStructKnown2 c) ∙ ap (savedIf (be16 s 0) (getD s 2 0) (be32 s 3)) (w .1) in
     ap₂ (λ (t : Tx) (m : ℕ). record { ok = true; tx = t; size = m }) p z ∙ sym (ap txRead q)
 
 pub read-tx-spec : {M : Type 1} → statement M

@@ -22,6 +22,17 @@ Inv-loop s n txs₀ at₀ k₀ txs at k =
 abbrev μ-loop : tie.MeasureT-loop
 μ-loop s n txs₀ at₀ k₀ txs at k = n - k
 
+-- places of the code by name
+
+abbrev entryFromElse1 : tie.Else1 Inv-loop μ-loop → tie.Start Inv-loop μ-loop
+entryFromElse1 c = c .before .before .before .before .before .before .before .before
+
+abbrev entryFromNoTxs : tie.After-no-txs Inv-loop μ-loop → tie.Start Inv-loop μ-loop
+entryFromNoTxs c = c .before .before .before .before .before .before .before .before .before
+
+abbrev entryFromStructKnown2 : tie.After-struct-known2 Inv-loop μ-loop → tie.Start Inv-loop μ-loop
+entryFromStructKnown2 c = entryFromElse1 (c .before .before)
+
 empty-requires : tie.Need-empty-requires Inv-loop μ-loop
 empty-requires c κs = search needs
 
@@ -54,11 +65,11 @@ read-at c = c .read-tx .ensures
 
 within : (c : tie.Else1 Inv-loop μ-loop)
     → c .before .before .before .before .before .loop .at + c .before .before .read-tx .result .size ≤ length
-    (c .before .before .before .before .before .before .before .before .args .s .now)
+    (entryFromElse1 c .args .s .now)
 within c =
     let l = c .before .before .before .before .before .loop in
-    txs-within (c .before .before .before .before .before .before .before .before .args .s .now) (l .at)
-    (c .before .before .before .before .before .before .before .before .args .n) (l .k) (c .before .before .before .before .loop-test .taken)
+    txs-within (entryFromElse1 c .args .s .now) (l .at)
+    (entryFromElse1 c .args .n) (l .k) (c .before .before .before .before .loop-test .taken)
     (c .before .before .read-tx .result) (read-at (c .before .before)) (l .inv .1) (not-false _ (c .if1 .left))
 
 no-txs-requires : tie.Need-no-txs-requires Inv-loop μ-loop
@@ -66,7 +77,7 @@ no-txs-requires c κs = search needs
 
 returns : tie.Need-returns Inv-loop μ-loop
 returns c =
-    let a = c .before .before .before .before .before .before .before .before .before .args in
+    let a = entryFromNoTxs c .args in
     let l = c .before .before .before .before .before .before .loop in
     c .no-txs .ensures
     ∙ sym (l .inv .2 ∙ txs-stop (a .s .now) (l .at) (a .n) (l .k) (c .before .before .before .before .before .loop-test .taken)
@@ -79,7 +90,7 @@ array-set-from-txs : tie.Need-array-set-from-txs Inv-loop μ-loop
 array-set-from-txs c = search needs
 
 add-at : tie.Need-add-at Inv-loop μ-loop
-add-at c = omega (arith, within (c .before .before), c .before .before .before .before .before .before .before .before .before .before .good)
+add-at c = omega (arith, within (c .before .before), entryFromStructKnown2 c .good)
 
 add-k : tie.Need-add-k Inv-loop μ-loop
 add-k c = search needs
@@ -89,7 +100,7 @@ loop-less c = search needs
 
 loop-again : tie.Need-loop-again Inv-loop μ-loop
 loop-again c =
-    let a = c .before .before .before .before .before .before .before .before .before .before .args in
+    let a = entryFromStructKnown2 c .args in
     let l = c .before .before .before .before .before .before .before .loop in
     let h = c .before .before .before .before .before .before .loop-test .taken in (
       omega arith,

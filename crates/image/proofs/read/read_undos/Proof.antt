@@ -24,6 +24,17 @@ Inv-loop s n undo₀ at₀ k₀ undo at k =
 abbrev μ-loop : tie.MeasureT-loop
 μ-loop s n undo₀ at₀ k₀ undo at k = n - k
 
+-- places of the code by name
+
+abbrev entryFromElse1 : tie.Else1 Inv-loop μ-loop → tie.Start Inv-loop μ-loop
+entryFromElse1 c = c .before .before .before .before .before .before .before .before
+
+abbrev entryFromThen1 : tie.Then1 Inv-loop μ-loop → tie.Start Inv-loop μ-loop
+entryFromThen1 c = c .before .before .before .before .before .before .before .before
+
+abbrev entryFromStructKnown2 : tie.After-struct-known2 Inv-loop μ-loop → tie.Start Inv-loop μ-loop
+entryFromStructKnown2 c = entryFromElse1 (c .before .before)
+
 empty-requires : tie.Need-empty-requires Inv-loop μ-loop
 empty-requires c κs = search needs
 
@@ -60,22 +71,22 @@ read-at c = c .undo-step .ensures
 
 within : (c : tie.Else1 Inv-loop μ-loop)
     → c .before .before .before .before .before .loop .at + c .before .before .undo-step .result .size ≤ length
-    (c .before .before .before .before .before .before .before .before .args .s .now)
+    (entryFromElse1 c .args .s .now)
 within c =
     let l = c .before .before .before .before .before .loop in
-    undos-within (c .before .before .before .before .before .before .before .before .args .s .now) (l .at) (l .undo)
-    (c .before .before .before .before .before .before .before .before .args .n) (l .k) (c .before .before .before .before .loop-test .taken)
+    undos-within (entryFromElse1 c .args .s .now) (l .at) (l .undo)
+    (entryFromElse1 c .args .n) (l .k) (c .before .before .before .before .loop-test .taken)
     (c .before .before .undo-step .result) (read-at (c .before .before)) (l .inv .1) (not-false _ (c .if1 .left))
 
 returns : tie.Need-returns Inv-loop μ-loop
 returns c =
-    let a = c .before .before .before .before .before .before .before .before .args in
+    let a = entryFromThen1 c .args in
     let l = c .before .before .before .before .before .loop in
     undos-stop (a .s .now) (l .at) (l .undo) (a .n) (l .k) (c .before .before .before .before .loop-test .taken) (c .before .before .undo-step .result)
     (read-at (c .before .before)) (not-true _ (c .if1 .taken)) ∙ sym (l .inv .3)
 
 add-at : tie.Need-add-at Inv-loop μ-loop
-add-at c = omega (arith, within (c .before .before), c .before .before .before .before .before .before .before .before .before .before .good)
+add-at c = omega (arith, within (c .before .before), entryFromStructKnown2 c .good)
 
 add-k : tie.Need-add-k Inv-loop μ-loop
 add-k c = search needs
@@ -85,7 +96,7 @@ loop-less c = search needs
 
 loop-again : tie.Need-loop-again Inv-loop μ-loop
 loop-again c =
-    let a = c .before .before .before .before .before .before .before .before .before .before .args in
+    let a = entryFromStructKnown2 c .args in
     let l = c .before .before .before .before .before .before .before .loop in
     let h = c .before .before .before .before .before .before .loop-test .taken in
     let x = c .before .before .before .before .undo-step .result in

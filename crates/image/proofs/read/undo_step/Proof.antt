@@ -12,6 +12,17 @@ use borrow.Author.Needs.{needs}
 use Rattle.image.proofs.read.undo_step.Statement.{statement}
 use Rattle.image.proofs.read.undo_step.Tie as tie
 
+-- places of the code by name
+
+abbrev entryFromNoUndos3 : tie.After-no-undos3 → tie.Start
+entryFromNoUndos3 c = c .before .before .before .before .before .before .before .before
+
+abbrev entryFromPushArg : tie.After-push-arg → tie.Start
+entryFromPushArg c = c .before .before .before .before .before .before .before .before
+
+abbrev entryFromPush : tie.After-push → tie.Start
+entryFromPush c = entryFromPushArg (c .before)
+
 no-undos-requires : tie.Need-no-undos-requires
 no-undos-requires c κs = search needs
 
@@ -56,7 +67,7 @@ no-undos-requires-3 c κs = search needs
 
 returns-3 : tie.Need-returns-3
 returns-3 c =
-    let a = c .before .before .before .before .before .before .before .before .args in
+    let a = entryFromNoUndos3 c .args in
     c .no-undos3 .ensures ∙ sym (step-no (a .undo) (a .s .now) (here-cut (a .s .now) (c .before .if3 .taken)))
 
 sub-push : tie.Need-sub-push
@@ -70,13 +81,13 @@ part-push-end c = search needs
 
 push-requires : tie.Need-push-requires
 push-requires c κs =
-    let s = c .before .before .before .before .before .before .before .before .args .s .now in
+    let s = entryFromPushArg c .args .s .now in
     let m = in-range (be16 s 0) (getD s 2 0) (sym (ranged (c .before .before .before)) ∙ not-false _ (c .before .before .if2 .left)) in
     (omega (arith, c .push-arg .given .2, m), omega arith)
 
 returns-4 : tie.Need-returns-4
 returns-4 c =
-    let a = c .before .before .before .before .before .before .before .before .before .args in
+    let a = entryFromPush c .args in
     let s = a .s .now in
     let n = getD s 2 0 in
     let g = here-yes s (sym (ranged (c .before .before .before .before)) ∙ not-false _ (c .before .before .before .if2 .left)) (c .before .before .if3 .left) in

@@ -10,6 +10,17 @@ use borrow.Author.Needs.{needs}
 use Rattle.image.proofs.write.encode.Statement.{statement}
 use Rattle.image.proofs.write.encode.Tie as tie
 
+-- places of the code by name
+
+abbrev afterPutHeadFromSliceKnown4 : tie.After-slice-known4 → tie.After-put-head
+afterPutHeadFromSliceKnown4 c = c .before .before .before .before .before .before .before .before .before .before
+
+abbrev entryFromPutTxsArg : tie.After-put-txs-arg → tie.Start
+entryFromPutTxsArg c = c .before .before .before .before .before .before .before .before .before .before .before
+
+abbrev entryFromSliceKnown4 : tie.After-slice-known4 → tie.Start
+entryFromSliceKnown4 c = entryFromPutTxsArg (c .before .before .before)
+
 put-head-requires : tie.Need-put-head-requires
 put-head-requires c κs = search needs
 
@@ -18,7 +29,7 @@ copy-requires c κs = search needs
 
 put-txs-requires : tie.Need-put-txs-requires
 put-txs-requires c κs =
-    let s = c .before .before .before .before .before .before .before .before .before .before .before in (
+    let s = entryFromPutTxsArg c in (
       s .pre .0,
       omega (
         arith,
@@ -40,12 +51,12 @@ headed c = let i = c .before .before .before .before .args .image in rw (length-
 
 returns : tie.Need-returns
 returns c =
-    let a = c .before .before .before .before .before .before .before .before .before .before .before .before .before .before .args in
+    let a = entryFromSliceKnown4 c .args in
     let e = c .before .before .put-txs .ensures in (
       e .0,
       image-stores (a .b .now) _ _ _ (contentOf (a .image)) (a .memory .now)
-          (c .before .before .before .before .before .before .before .before .before .before .before .before .before .before .pre .1 .0)
-          (headed (c .before .before .before .before .before .before .before .before .before .before))
+          (entryFromSliceKnown4 c .pre .1 .0)
+          (headed (afterPutHeadFromSliceKnown4 c))
           (c .before .before .before .before .before .before .copy .ensures) (e .1),
     )
 

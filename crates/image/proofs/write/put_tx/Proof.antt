@@ -10,6 +10,17 @@ use borrow.Author.Needs.{needs}
 use Rattle.image.proofs.write.put_tx.Statement.{statement}
 use Rattle.image.proofs.write.put_tx.Tie as tie
 
+-- places of the code by name
+
+abbrev afterPut16FromPutUndosArg : tie.After-put-undos-arg → tie.After-put16
+afterPut16FromPutUndosArg c = c .before .before .before .before .before .before .before .before
+
+abbrev afterPut16FromSliceKnown4 : tie.After-slice-known4 → tie.After-put16
+afterPut16FromSliceKnown4 c = afterPut16FromPutUndosArg (c .before .before .before)
+
+abbrev entryFromSliceKnown4 : tie.After-slice-known4 → tie.Start
+entryFromSliceKnown4 c = c .before .before .before .before .before .before .before .before .before .before .before .before .before .before
+
 put16-requires : tie.Need-put16-requires
 put16-requires c κs = search needs
 
@@ -37,7 +48,7 @@ add-put-undos c = search needs
 put-undos-requires : tie.Need-put-undos-requires
 put-undos-requires c κs =
     let k = simp length-set at (c .before .before .before .before .put32 .kept .0) in
-    let id = c .before .before .before .before .before .before .before .before in
+    let id = afterPut16FromPutUndosArg c in
     let s = id .before .before .before in (
       s .pre .0,
       simp length-set (omega (arith, k, id .put16 .kept .0, s .pre .1)),
@@ -51,17 +62,17 @@ same-length c =
       simp length-set at
           (c .before .before .put-undos .kept .0),
       k,
-      c .before .before .before .before .before .before .before .before .before .before .before .put16 .kept .0,
+      afterPut16FromSliceKnown4 c .put16 .kept .0,
     )
 
 returns : tie.Need-returns
 returns c =
-    let a = c .before .before .before .before .before .before .before .before .before .before .before .before .before .before .args in
+    let a = entryFromSliceKnown4 c .args in
     let r = a .t .undo in
     let e = c .before .before .put-undos .ensures in (
       omega (arith, e .0),
       tx-stores (a .b .now) _ _ _ (a .at) (a .t .id .0) (a .t .status) (a .t .csn .0) (r .count) (writesOf r)
-          (c .before .before .before .before .before .before .before .before .before .before .before .put16 .ensures)
+          (afterPut16FromSliceKnown4 c .put16 .ensures)
           (c .before .before .before .before .before .before .before .put32 .ensures) (e .1)
           (ap length (writes-up (r .addr) (r .len) (r .bytes) (r .count) 0) ∙ length-up (undoAt r) (r .count) 0),
     )

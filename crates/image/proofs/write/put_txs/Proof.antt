@@ -23,6 +23,11 @@ Inv-loop b₀ at image n o₀ i₀ b o i =
 abbrev μ-loop : tie.MeasureT-loop
 μ-loop b₀ at image n o₀ i₀ b o i = n - i
 
+-- places of the code by name
+
+abbrev entryFromSliceKnown2 : tie.After-slice-known2 Inv-loop μ-loop → tie.Start Inv-loop μ-loop
+entryFromSliceKnown2 c = c .before .before .before .before .before .before .before .before
+
 cast-n : tie.Need-cast-n Inv-loop μ-loop
 cast-n c = search needs
 
@@ -64,7 +69,7 @@ loop-less c = search needs
 
 loop-again : tie.Need-loop-again Inv-loop μ-loop
 loop-again c =
-    let i = c .before .before .before .before .before .before .before .before .args .t3 in
+    let i = entryFromSliceKnown2 c .args .t3 in
     let l = c .before .before .before .before .before .before .loop in
     let h = c .before .before .before .before .before .loop-test .taken in
     let e = c .before .before .put-tx .ensures in (

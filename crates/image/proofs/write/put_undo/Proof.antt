@@ -5,6 +5,11 @@ use borrow.Author.Needs.{needs}
 use Rattle.image.proofs.write.put_undo.Statement.{statement}
 use Rattle.image.proofs.write.put_undo.Tie as tie
 
+-- places of the code by name
+
+abbrev entryFromSliceKnown3 : tie.After-slice-known3 → tie.Start
+entryFromSliceKnown3 c = c .before .before .before .before .before .before .before .before .before .before
+
 put16-requires : tie.Need-put16-requires
 put16-requires c κs = search needs
 
@@ -28,7 +33,7 @@ same-length c = omega (arith, simp length-set at (c .before .before .copy .kept 
 
 returns : tie.Need-returns
 returns c =
-    let a = c .before .before .before .before .before .before .before .before .before .before .args in
+    let a = entryFromSliceKnown3 c .args in
     undo-stores (a .b .now) _ _ (a .at) (a .addr) (a .src .now) (c .before .before .before .before .before .before .put16 .ensures)
     (c .before .before .copy .ensures)
 

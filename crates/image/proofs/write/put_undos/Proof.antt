@@ -23,6 +23,14 @@ Inv-loop b₀ at n addr len bytes o₀ i₀ b o i =
 abbrev μ-loop : tie.MeasureT-loop
 μ-loop b₀ at n addr len bytes o₀ i₀ b o i = n - i
 
+-- places of the code by name
+
+abbrev entryFromPutUndoArg2 : tie.After-put-undo-arg2 Inv-loop μ-loop → tie.Start Inv-loop μ-loop
+entryFromPutUndoArg2 c = c .before .before .before .before .before .before .before .before .before .before
+
+abbrev entryFromSliceKnown2 : tie.After-slice-known2 Inv-loop μ-loop → tie.Start Inv-loop μ-loop
+entryFromSliceKnown2 c = entryFromPutUndoArg2 (c .before .before .before)
+
 cast-n : tie.Need-cast-n Inv-loop μ-loop
 cast-n c = search needs
 
@@ -76,12 +84,12 @@ part-put-undo-end c = let h = placed (c .before .before) in omega arith
 
 -- what a turn adds to the bytes
 turn-size : (c : tie.After-put-undo-arg2 Inv-loop μ-loop)
-    → let r = c .before .before .before .before .before .before .before .before .before .before .args .undo in
+    → let r = entryFromPutUndoArg2 c .args .undo in
     let i = c .before .before .before .before .loop .i in
     undosSize (writesFrom (r .addr) (r .len) (r .bytes) (r .count - i) i)
     ≡ 3 + getD (r .len) i 0 + undosSize (writesFrom (r .addr) (r .len) (r .bytes) (r .count - (i + 1)) (i + 1))
 turn-size c =
-    let r = c .before .before .before .before .before .before .before .before .before .before .args .undo in
+    let r = entryFromPutUndoArg2 c .args .undo in
     undo-size (r .addr) (r .len) (r .bytes) (r .count) (c .before .before .before .before .loop .i) (c .before .before .before .loop-test .taken)
     (c .put-undo-arg2 .given .2)
 
@@ -90,7 +98,7 @@ put-undo-requires c κs =
     let h = placed (c .before .before .before) in
     let l = c .put-undo-arg2 .given .2 in
     let v = c .before .before .before .before .loop .inv in
-    (omega (arith, l, h), omega (arith, turn-size c, v .1, v .2, l, c .before .before .before .before .before .before .before .before .before .before .pre .1))
+    (omega (arith, l, h), omega (arith, turn-size c, v .1, v .2, l, entryFromPutUndoArg2 c .pre .1))
 
 add-o : tie.Need-add-o Inv-loop μ-loop
 add-o c = let h = placed (c .before .before .before .before .before .before) in omega arith
@@ -109,7 +117,7 @@ loop-less c = omega arith
 
 loop-again : tie.Need-loop-again Inv-loop μ-loop
 loop-again c =
-    let r = c .before .before .before .before .before .before .before .before .before .before .before .before .before .args .undo in
+    let r = entryFromSliceKnown2 c .args .undo in
     let l = c .before .before .before .before .before .before .before .loop in
     let v = l .inv in (
       omega arith,

@@ -8,6 +8,11 @@ use Rattle.listing.proofs.Putting.{put-one, put-copy, put-then}
 use Rattle.listing.proofs.text.put_line.Statement.{statement}
 use Rattle.listing.proofs.text.put_line.Tie as tie
 
+-- places of the code by name
+
+abbrev entryFromSliceKnown3 : tie.After-slice-known3 → tie.Start
+entryFromSliceKnown3 c = c .before .before .before .before .before .before .before .before .before .before
+
 copy-requires : tie.Need-copy-requires
 copy-requires c κs =
     omega (arith, c .before .before .before .pre, length-line (c .before .before .before .args .name .now) (c .before .before .before .args .n))
@@ -55,9 +60,9 @@ returns : tie.Need-returns
 unfolding line
 returns c =
     put-then
-    (put-copy (c .before .before .before .before .before .before .before .before .before .before .args .out .now)
-    (c .before .before .before .before .before .before .before .before .before .before .args .at)
-    (c .before .before .before .before .before .before .before .before .before .before .args .name .now) _
+    (put-copy (entryFromSliceKnown3 c .args .out .now)
+    (entryFromSliceKnown3 c .args .at)
+    (entryFromSliceKnown3 c .args .name .now) _
     (c .before .before .before .before .before .before .copy .ensures)) (put-then (c .before .before .put-decimal .ensures)
     (put-one (c .before .before .put-decimal .last .0) (c .before .before .put-decimal .result) 10))
 

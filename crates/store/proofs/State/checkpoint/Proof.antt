@@ -48,15 +48,15 @@ encode-requires c κs =
 
 -- the buffer holds the image
 
-abbrev accepted : tie.After-encode → tie.Else1
-accepted e = e .before .before .before .before
+abbrev entered : tie.After-encode → tie.Else1
+entered e = e .before .before .before .before
 
-image-bytes : (e : tie.After-encode) → let a = start (accepted e) .args in
+image-bytes : (e : tie.After-encode) → let a = start (entered e) .args in
     Encoded (a .self) (a .disk .now) (a .memory .now) (e .encode .last .0) (e .encode .result)
 image-bytes e =
-    let a = start (accepted e) .args in
+    let a = start (entered e) .args in
     let image = e .before .before .before .image in
-    encoded (a .self) (a .disk .now) (a .memory .now) (a .tail .now) (a .allowed) (passed (accepted e)) (image .result) (e .encode .result)
+    encoded (a .self) (a .disk .now) (a .memory .now) (a .tail .now) (a .allowed) (passed (entered e)) (image .result) (e .encode .result)
     (replicate 8653 0) (e .encode .last .0) (image .ensures) (e .encode .ensures .0) (simp length-replicate (omega arith)) (e .encode .ensures .1)
 
 array-share-prefix-bytes : tie.Need-array-share-prefix-bytes
@@ -83,11 +83,11 @@ same-length-4 c = search needs
 returns-2 : tie.Need-returns-2
 returns-2 c =
     let e = c .before .before .before .before .before .before .before .before .before .before .before .before .before .before in
-    let a = start (accepted e) .args in
+    let a = start (entered e) .args in
     let made = c .before .before .before .before .before .before .before .before .before .before .store-image in
     let off = c .before .before .before .before .cut-off in
     leaves
-    (checkpoint-cut (a .self) (a .disk .now) (a .memory .now) (a .tail .now) (a .allowed) (passed (accepted e)) (e .encode .result) (made .result)
+    (checkpoint-cut (a .self) (a .disk .now) (a .memory .now) (a .tail .now) (a .allowed) (passed (entered e)) (e .encode .result) (made .result)
     (e .encode .last .0) (made .last .0) (image-bytes e) (made .ensures .0) (made .ensures .1)
     (c .before .before .before .before .before .before .before .if2 .taken))
     (off .ensures .0) refl (off .ensures .1 .0) (off .ensures .1 .1)
@@ -104,10 +104,10 @@ same-length-7 c = search needs
 returns-3 : tie.Need-returns-3
 returns-3 c =
     let e = c .before .before .before .before .before .before .before in
-    let a = start (accepted e) .args in
+    let a = start (entered e) .args in
     let made = c .before .before .before .store-image in
     leaves
-    (checkpoint-done (a .self) (a .disk .now) (a .memory .now) (a .tail .now) (a .allowed) (passed (accepted e)) (e .encode .result) (made .result)
+    (checkpoint-done (a .self) (a .disk .now) (a .memory .now) (a .tail .now) (a .allowed) (passed (entered e)) (e .encode .result) (made .result)
     (e .encode .last .0) (made .last .0) (image-bytes e) (made .ensures .0) (made .ensures .1) (c .if2 .left))
     refl refl refl refl
 

@@ -40,13 +40,13 @@ cast-end c = search needs
 
 -- what was read fits into its buffers
 
-abbrev accepted : tie.After-read-first → tie.Else1
-accepted r = r .before .before
+abbrev entered : tie.After-read-first → tie.Else1
+entered r = r .before .before
 
-room : (r : tie.After-read-first) → let a = start (accepted r) .args in Room (a .self) (a .disk .now) (a .tail .now) (r .read-first .result .end)
+room : (r : tie.After-read-first) → let a = start (entered r) .args in Room (a .self) (a .disk .now) (a .tail .now) (r .read-first .result .end)
 room r =
-    let a = start (accepted r) .args in
-    flush-fits (a .self) (a .disk .now) (a .memory .now) (a .tail .now) (a .k) (a .allowed) (passed (accepted r)) (r .read-first .result)
+    let a = start (entered r) .args in
+    flush-fits (a .self) (a .disk .now) (a .memory .now) (a .tail .now) (a .k) (a .allowed) (passed (entered r)) (r .read-first .result)
     (r .read-first .ensures)
 
 sub-copy-up : tie.Need-sub-copy-up
@@ -84,11 +84,11 @@ same-length-4 c = search needs
 returns-2 : tie.Need-returns-2
 returns-2 c =
     let r = c .before .before .before .before .before .before .before .before .before .before .before .before .before .before in
-    let a = start (accepted r) .args in
+    let a = start (entered r) .args in
     let up = c .before .before .before .before .before .before .before .before .before .before .copy-up in
     let off = c .before .before .before .before .cut-off in
     leaves
-    (flush-cut (a .self) (a .disk .now) (a .memory .now) (a .tail .now) (a .k) (a .allowed) (passed (accepted r)) (r .read-first .result)
+    (flush-cut (a .self) (a .disk .now) (a .memory .now) (a .tail .now) (a .k) (a .allowed) (passed (entered r)) (r .read-first .result)
     (r .read-first .ensures) (up .result) (up .last .0) (up .ensures .0) (up .ensures .1)
     (c .before .before .before .before .before .before .before .if2 .taken))
     (off .ensures .0) refl (off .ensures .1 .0) (off .ensures .1 .1)
@@ -108,10 +108,10 @@ same-length-6 c = search needs
 returns-3 : tie.Need-returns-3
 returns-3 c =
     let r = c .before .before .before .before .before .before .before .before .before .before .before .before in
-    let a = start (accepted r) .args in
+    let a = start (entered r) .args in
     let up = c .before .before .before .before .before .before .before .before .copy-up in
     leaves
-    (flush-done (a .self) (a .disk .now) (a .memory .now) (a .tail .now) (a .k) (a .allowed) (passed (accepted r)) (r .read-first .result)
+    (flush-done (a .self) (a .disk .now) (a .memory .now) (a .tail .now) (a .k) (a .allowed) (passed (entered r)) (r .read-first .result)
     (r .read-first .ensures) (up .result) (up .last .0) (up .ensures .0) (up .ensures .1) (c .before .before .before .before .before .if2 .left))
     (ap (tells done 0 (up .result)) (c .flush-step .ensures)) refl refl (c .before .before .before .shift-down .ensures)
 

@@ -5,6 +5,11 @@ use Rattle.trace.specs.Record.{recordOf}
 use Rattle.trace.proofs.record.read_record.Statement.{statement}
 use Rattle.trace.proofs.record.read_record.Tie as tie
 
+-- places of the code by name
+
+abbrev entryFromBe324 : tie.After-be324 → tie.Start
+entryFromBe324 c = c .before .before .before .before .before .before .before .before
+
 returns : tie.Need-returns
 unfolding recordOf
 returns c = rw (ne-eqb (length (c .before .before .args .b .now)) 64 (c .if1 .taken))
@@ -43,7 +48,7 @@ returns-2 : tie.Need-returns-2
 unfolding recordOf
 returns-2 c =
     rw (
-      eq-eqb (length (c .before .before .before .before .before .before .before .before .args .b .now)) 64
+      eq-eqb (length (entryFromBe324 c .args .b .now)) 64
           (c .before .before .before .before .before .before .if1 .left),
       c .before .before .before .before .be16 .ensures,
       c .before .before .before .be32 .ensures,

@@ -1,0 +1,85 @@
+-- States that show the same are refused alike by every call in memory.
+use Prim.Native.Nat.{ℕ, _+_, _<_}
+use mathlib.Core.Bool.{Bool, true, false, cond, _||_}
+use mathlib.Core.List.{List, [], _∷_}
+use mathlib.Core.Path.{_≡_, refl, sym, ap, ap₂, _∙_, subst}
+use lib.Dec.{eqb, ltb}
+use Rattle.recovery.specs.Lists.{any}
+use Rattle.transaction.specs.Rules.{heldAgainst}
+use Rattle.store.specs.declared.State.{State}
+use Rattle.store.specs.State.{txAt, txsOf, hasId, slotOf}
+use Rattle.store.specs.Rules.{roomUsed}
+use Rattle.store.specs.Numbers.{Check, firstNumber, numberBy, txOf, check6, check7, check8, check9, check10, check12, check13, check14}
+use Rattle.store.specs.Numbers.{beginChecks, readChecks, writeChecks, precommitChecks, abortChecks, settleChecks}
+use Rattle.store.specs.Same.{SameTx, ShowsSame}
+use Rattle.store.proofs.Slots.{slot-within}
+use Rattle.store.proofs.Sameness.{room-alike, number-alike, ids, slots, helds}
+
+module _ (s r : State) (h : ShowsSame s r) where
+  -- ---- begin
+
+  pub begin-alike : (lent : ℕ) (t : List ℕ)
+      → numberBy s lent t (beginChecks (s .count) (s .lastid .0) (roomUsed s t)) ≡ numberBy r lent t (beginChecks (r .count) (r .lastid .0) (roomUsed r t))
+  begin-alike lent t =
+      number-alike s r h lent t (beginChecks (s .count) (s .lastid .0) (roomUsed s t)) (beginChecks (r .count) (r .lastid .0) (roomUsed r t))
+      (ap₂ (λ (c l : ℕ). firstNumber (beginChecks c l (roomUsed s t))) (h .count) (h .lastid)
+      ∙ ap (λ (n : ℕ). firstNumber (beginChecks (r .count) (r .lastid .0) n)) (room-alike s r h t))
+
+  -- ---- a transaction by its id
+
+  pub named : (id : ℕ) → slotOf s id < s .count → SameTx (txOf s id) (txOf r id)
+  named id l = subst (λ (k : ℕ). SameTx (txAt s (slotOf s id)) (txAt r k)) (slots s r h id) (h .listed (slotOf s id) l)
+
+  -- number 6 comes first: the slot of an id that isn't listed is not looked at
+  listed-alike : (id : ℕ) (cs ds : List Check) → (slotOf s id < s .count → firstNumber cs ≡ firstNumber ds)
+      → firstNumber (check6 s id ∷ cs) ≡ firstNumber (check6 r id ∷ ds)
+  listed-alike id cs ds k = go (any (hasId id) (txsOf s)) refl
+    where
+      go : (b : Bool) → any (hasId id) (txsOf s) ≡ b → firstNumber (check6 s id ∷ cs) ≡ firstNumber (check6 r id ∷ ds)
+      go false e = let f : any (hasId id) (txsOf r) ≡ false = sym (ids s r h id) ∙ e in rw (e, f)
+      go true e = let f : any (hasId id) (txsOf r) ≡ true = sym (ids s r h id) ∙ e in rw (e, f) (k (slot-within s id e))
+
+  -- ---- the numbers of the calls about it
+
+  module _ (lent : ℕ) (t : List ℕ) (id : ℕ) where
+    pub abort-alike : numberBy s lent t (abortChecks s id) ≡ numberBy r lent t (abortChecks r id)
+    abort-alike =
+        number-alike s r h lent t (abortChecks s id) (abortChecks r id)
+        (listed-alike id (check7 s id ∷ []) (check7 r id ∷ []) (λ e. ap (λ (k : ℕ). cond (eqb k 2) 7 0) (named id e .status)))
+
+    pub precommit-alike : numberBy s lent t (precommitChecks s id) ≡ numberBy r lent t (precommitChecks r id)
+    precommit-alike =
+        number-alike s r h lent t (precommitChecks s id) (precommitChecks r id)
+        (listed-alike id (check7 s id ∷ check12 s ∷ []) (check7 r id ∷ check12 r ∷ [])
+        (λ e. ap₂ (λ (k n : ℕ). cond (eqb k 2) 7 (cond (eqb n 4294967295) 12 0)) (named id e .status) (h .assigned)))
+
+    pub settle-alike : numberBy s lent t (settleChecks s id) ≡ numberBy r lent t (settleChecks r id)
+    settle-alike =
+        number-alike s r h lent t (settleChecks s id) (settleChecks r id)
+        (listed-alike id (check14 s id ∷ []) (check14 r id ∷ [])
+        (λ e.
+        ap (λ (k : ℕ). cond (eqb k 1 || ltb (s .ondisk .0) (txOf s id .csn .0)) 14 0) (named id e .status)
+        ∙ ap₂ (λ (d c : ℕ). cond (eqb (txOf r id .status) 1 || ltb d c) 14 0) (h .ondisk) (named id e .csn)))
+
+    module _ (a n : ℕ) where
+      -- what follows numbers 7, 8 and 9
+      abbrev upTo9 : ℕ → Bool → ℕ → ℕ
+      upTo9 status held more = cond (eqb status 2) 7 (cond (eqb n 0 || ltb 32 n || ltb 4096 (a + n)) 8 (cond held 9 more))
+
+      pub read-alike : numberBy s lent t (readChecks s id a n) ≡ numberBy r lent t (readChecks r id a n)
+      read-alike =
+          number-alike s r h lent t (readChecks s id a n) (readChecks r id a n)
+          (listed-alike id (check7 s id ∷ check8 a n ∷ check9 s id a n ∷ []) (check7 r id ∷ check8 a n ∷ check9 r id a n ∷ [])
+          (λ e. ap₂ (λ (k : ℕ) (b : Bool). upTo9 k b 0) (named id e .status) (helds s r h id a n)))
+
+      abbrev last : ℕ → ℕ → ℕ
+      last records room = cond (eqb records 16) 10 (cond (ltb 16384 (room + (7 + n))) 13 0)
+
+      pub write-alike : numberBy s lent t (writeChecks s (roomUsed s t) id a n) ≡ numberBy r lent t (writeChecks r (roomUsed r t) id a n)
+      write-alike =
+          number-alike s r h lent t (writeChecks s (roomUsed s t) id a n) (writeChecks r (roomUsed r t) id a n)
+          (listed-alike id (check7 s id ∷ check8 a n ∷ check9 s id a n ∷ check10 s id ∷ check13 (roomUsed s t) n ∷ [])
+          (check7 r id ∷ check8 a n ∷ check9 r id a n ∷ check10 r id ∷ check13 (roomUsed r t) n ∷ [])
+          (λ e.
+          ap₂ (λ (k : ℕ) (b : Bool). upTo9 k b (last (txOf s id .undo .count) (roomUsed s t))) (named id e .status) (helds s r h id a n)
+          ∙ ap₂ (λ (c m : ℕ). upTo9 (txOf r id .status) (any (heldAgainst id a n) (txsOf r)) (last c m)) (named id e .undo .count) (room-alike s r h t)))

@@ -1,0 +1,190 @@
+-- Each call in memory answers states that show the same alike, refusals too, and leaves the same in memory and tail.
+use Prim.Native.Nat.{ℕ, _+_, _≤_, _<_}
+use mathlib.Core.Bool.{Bool, true, false, cond}
+use mathlib.Core.List.{List, [], _∷_}
+use mathlib.Core.Path.{_≡_, refl, ap, ap₂, subst}
+use lib.ListN.{length, take, drop}
+use lib.Seq.{sets}
+use lib.Dec.{eqb}
+use borrow.Author.Tests.{eqb-true}
+use Rattle.recovery.specs.Group.{Write, Group, committed, aborted}
+use Rattle.recovery.specs.Replay.{undoAll, layBytes}
+use Rattle.log.specs.declared.TxId.{TxId}
+use Rattle.log.specs.Group.{encodeGroup}
+use Rattle.image.proofs.Rules.{image-count}
+use Rattle.store.specs.declared.State.{State}
+use Rattle.store.specs.State.{imageOf, slotOf}
+use Rattle.store.specs.Answer.{done, Told, tells}
+use Rattle.store.specs.Rules.{tailLength, roomUsed}
+use Rattle.store.specs.Numbers.{txOf, beginChecks, settleChecks, Check, numberBy, check6, check7, check8, check9, check10, check12, check13, check14}
+use Rattle.store.specs.Steps.{begunState, writtenState, precommittedState, droppedState}
+use Rattle.store.specs.Calls.{Outcome, decided, refusing, beginNumber, beginOf, writeNumber, writeOf, readNumber, readOf, readAnswerOf}
+use Rattle.store.specs.Calls.{appended, precommitNumber, precommitOf, abortNumber, abortOf, settleNumber, settleOf}
+use Rattle.store.specs.Same.{SameRecords, ShowsSame, SameTold, SameOutcome}
+use Rattle.store.proofs.Fits.{status-at}
+use Rattle.store.proofs.Admitting.{Unrefused, unrefused}
+use Rattle.store.proofs.Choosing.{Running, running, listed-slot}
+use Rattle.store.proofs.Calling.{Usable, usable, writable}
+use Rattle.store.proofs.Views.{begin-free, commitOf}
+use Rattle.store.proofs.Stepping.{SizedState}
+use Rattle.store.proofs.Sameness.{slots}
+use Rattle.store.proofs.SameNumbers.{named, begin-alike, write-alike, read-alike, precommit-alike, abort-alike, settle-alike}
+use Rattle.store.proofs.SameSteps.{begin-shows, write-shows, precommit-shows, drop-shows}
+
+-- ---- from the number to the outcome
+
+-- calls of the same number end alike if they do so once done, and refused by any number
+pub decided-same : {A : Type 0} (R : A → A → Type 0) (x y : A) (f g : ℕ → A) (n k : ℕ) → n ≡ k → (n ≡ 0 → R x y) → ((i : ℕ) → R (f i) (g i))
+    → R (decided n x (f n)) (decided k y (g k))
+decided-same R x y f g n k e whenDone whenRefused = subst (λ (i : ℕ). R (decided n x (f n)) (decided i y (g i))) e (go (eqb n 0) refl)
+  where
+    go : (b : Bool) → eqb n 0 ≡ b → R (cond b x (f n)) (cond b y (g n))
+    go true q = whenDone (eqb-true n 0 q)
+    go false q = whenRefused n
+
+-- done, with no store
+done-same : {v w : ℕ} {x y : State} → v ≡ w → ShowsSame x y → SameTold (tells done v 0 x) (tells done w 0 y)
+done-same e h = record { says = refl; value = e; stores = refl; state = h }
+
+-- refused, with the buffers as they were
+abbrev kept : List ℕ → List ℕ → State → ℕ → Outcome
+kept m t s n = record { result = refusing n s; memory = m; tail = t }
+
+module _ (s r : State) (h : ShowsSame s r) where
+  pub refusing-same : (n : ℕ) → SameTold (refusing n s) (refusing n r)
+  refusing-same n = record { says = refl; value = refl; stores = refl; state = h }
+
+  told-same : {x y : Told} (n k : ℕ) → n ≡ k → (n ≡ 0 → SameTold x y) → SameTold (decided n x (refusing n s)) (decided k y (refusing k r))
+  told-same {x} {y} n k e d = decided-same SameTold x y (λ i. refusing i s) (λ i. refusing i r) n k e d refusing-same
+
+  outcome-same : (m t : List ℕ) {x y : Outcome} (n k : ℕ) → n ≡ k → (n ≡ 0 → SameOutcome x y)
+      → SameOutcome (decided n x (kept m t s n)) (decided k y (kept m t r k))
+  outcome-same m t {x} {y} n k e d =
+      decided-same SameOutcome x y (kept m t s) (kept m t r) n k e d (λ i. record { result = refusing-same i; memory = refl; tail = refl })
+
+  appended-same : (t : List ℕ) (x y : Group) → x ≡ y → appended s t x ≡ appended r t y
+  appended-same t x y e = ap₂ (λ (n : ℕ) (g : Group). sets t (tailLength n t) (encodeGroup g)) (h .ondisk) e
+
+  -- ---- read and its sister
+
+  module _ (m t : List ℕ) (id : TxId) (a n : ℕ) where
+    pub read-part-same : readOf s m t id a n ≡ readOf r m t id a n
+    unfolding readOf
+    read-part-same = ap (λ (k : ℕ). decided k (take n (drop a m)) []) (read-alike s r h (length m) t (id .0) a n)
+
+    pub read-answer-same : SameTold (readAnswerOf s m t id a n) (readAnswerOf r m t id a n)
+    unfolding readAnswerOf
+    read-answer-same =
+        told-same (readNumber s m t id a n) (readNumber r m t id a n) (read-alike s r h (length m) t (id .0) a n) (λ e. done-same refl h)
+
+  module _ (z : SizedState s) (y : SizedState r) (m t : List ℕ) where
+    -- ---- begin
+
+    begun : beginNumber s m t ≡ 0 → ShowsSame (begunState s) (begunState r)
+    begun e =
+        let a = unrefused s (length m) t (beginChecks (s .count) (s .lastid .0) (roomUsed s t)) e in
+        begin-shows s r h z y (begin-free s (roomUsed s t) (image-count (imageOf s) (a .fits .image)) (a .own) .0)
+
+    pub begin-same : SameTold (beginOf s m t) (beginOf r m t)
+    unfolding beginOf
+    begin-same =
+        told-same (beginNumber s m t) (beginNumber r m t) (begin-alike s r h (length m) t)
+        (λ e. done-same (ap (λ (n : ℕ). n + 1) (h .lastid)) (begun e))
+
+    module _ (id : TxId) where
+      abbrev j : ℕ
+      j = slotOf s (id .0)
+
+      abbrev k : ℕ
+      k = slotOf r (id .0)
+
+      at-slot : (x : State) (f : ℕ → State) → ShowsSame x (f j) → ShowsSame x (f k)
+      at-slot x f = subst (λ (i : ℕ). ShowsSame x (f i)) (slots s r h (id .0))
+
+      dropped : j < s .count → s .count ≤ 8 → ShowsSame (droppedState s j) (droppedState r k)
+      dropped l few = at-slot (droppedState s j) (droppedState r) (drop-shows s r h z y j l few)
+
+      -- ---- the transaction of a call that 6 and 7 let pass, whatever it checks besides
+
+      module _ (cs : List Check) (e : numberBy s (length m) t (check6 s (id .0) ∷ check7 s (id .0) ∷ cs) ≡ 0) where
+        admitted : Unrefused s (length m) t (check6 s (id .0) ∷ check7 s (id .0) ∷ cs)
+        admitted = unrefused s (length m) t (check6 s (id .0) ∷ check7 s (id .0) ∷ cs) e
+
+        runs : Running s (id .0)
+        runs = running s (id .0) cs (admitted .own) .0
+
+        used : Usable s t j
+        used = usable s t (id .0) (admitted .fits) runs
+
+        undo-same : SameRecords (txOf s (id .0) .undo) (txOf r (id .0) .undo)
+        undo-same = named s r h (id .0) (runs .listed) .undo
+
+        redo-same : SameRecords (txOf s (id .0) .redo) (txOf r (id .0) .redo)
+        redo-same = named s r h (id .0) (runs .listed) .redo (status-at s t (admitted .fits) j (runs .listed) (runs .notCommitting))
+
+      -- ---- write
+
+      module _ (a : ℕ) (bs : List ℕ) where
+        abbrev after7 : List Check
+        after7 = check8 a (length bs) ∷ check9 s (id .0) a (length bs) ∷ check10 s (id .0) ∷ check13 (roomUsed s t) (length bs) ∷ []
+
+        wrote : writeNumber s m t id a (length bs) ≡ 0 → ShowsSame (writtenState s j m a bs) (writtenState r k m a bs)
+        wrote e =
+            let x = admitted after7 e in
+            let u = used after7 e in
+            let w = writable s t (roomUsed s t) (id .0) a (length bs) (x .fits) (x .own) in
+            at-slot (writtenState s j m a bs) (λ i. writtenState r i m a bs)
+            (write-shows s r h z y j (u .listed) (u .few) (record { few = w .undo; ok = u .undo }) (record { few = w .redo; ok = u .redo }) m a bs (w .short))
+
+        pub write-same : SameOutcome (writeOf s m t id a bs) (writeOf r m t id a bs)
+        unfolding writeOf
+        write-same =
+            outcome-same m t (writeNumber s m t id a (length bs)) (writeNumber r m t id a (length bs)) (write-alike s r h (length m) t (id .0) a (length bs))
+            (λ e. record { result = done-same refl (wrote e); memory = refl; tail = refl })
+
+      -- ---- precommit
+
+      precommitted : precommitNumber s m t id ≡ 0 → ShowsSame (precommittedState s j) (precommittedState r k)
+      precommitted e =
+          let u = used (check12 s ∷ []) e in
+          at-slot (precommittedState s j) (precommittedState r) (precommit-shows s r h z y j (u .listed) (u .few))
+
+      commit-same : precommitNumber s m t id ≡ 0 → commitOf s (id .0) ≡ commitOf r (id .0)
+      commit-same e = ap₂ (λ (n : ℕ) (ws : List Write). committed (id .0) (n + 1) ws) (h .assigned) (redo-same (check12 s ∷ []) e .writes)
+
+      pub precommit-same : SameOutcome (precommitOf s m t id) (precommitOf r m t id)
+      unfolding precommitOf
+      precommit-same =
+          outcome-same m t (precommitNumber s m t id) (precommitNumber r m t id) (precommit-alike s r h (length m) t (id .0))
+          (λ e.
+          record {
+            result = done-same (ap (λ (n : ℕ). n + 1) (h .assigned)) (precommitted e);
+            memory = refl;
+            tail = appended-same t (commitOf s (id .0)) (commitOf r (id .0)) (commit-same e);
+          })
+
+      -- ---- abort
+
+      pub abort-same : SameOutcome (abortOf s m t id) (abortOf r m t id)
+      unfolding abortOf
+      abort-same =
+          outcome-same m t (abortNumber s m t id) (abortNumber r m t id) (abort-alike s r h (length m) t (id .0))
+          (λ e.
+          let u = used [] e in
+          record {
+            result = done-same refl (dropped (u .listed) (u .few));
+            memory = ap (λ (ws : List Write). undoAll layBytes ws m) (undo-same [] e .writes);
+            tail = appended-same t (aborted (id .0)) (aborted (id .0)) refl;
+          })
+
+      -- ---- settle
+
+      settled : settleNumber s m t id ≡ 0 → ShowsSame (droppedState s j) (droppedState r k)
+      settled e =
+          let x = unrefused s (length m) t (settleChecks s (id .0)) e in
+          dropped (listed-slot s (id .0) (check14 s (id .0) ∷ []) (x .own) .0) (image-count (imageOf s) (x .fits .image))
+
+      pub settle-same : SameTold (settleOf s m t id) (settleOf r m t id)
+      unfolding settleOf
+      settle-same =
+          told-same (settleNumber s m t id) (settleNumber r m t id) (settle-alike s r h (length m) t (id .0)) (λ e. done-same refl (settled e))

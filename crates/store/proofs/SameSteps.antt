@@ -1,0 +1,145 @@
+-- States that show the same show the same after each step of the calls in memory.
+use Prim.Native.Nat.{ℕ, _+_, _-_, _≤_, _<_}
+use native.Mathlib.Decide.{decLt}
+use native.Mathlib.Omega.{arith}
+use mathlib.Core.Bool.{true}
+use mathlib.Core.List.{List, [], _∷_, _++_}
+use mathlib.Core.Path.{_≡_, refl, sym, ap, _∙_, subst}
+use lib.ListN.{length, take, drop, length-take}
+use Rattle.recovery.specs.Group.{Write}
+use Rattle.log.specs.declared.TxId.{TxId}
+use Rattle.log.specs.declared.Csn.{Csn}
+use Rattle.transaction.specs.declared.records.Records.{Records}
+use Rattle.transaction.specs.declared.Tx.{Tx}
+use Rattle.transaction.specs.Flat.{emptyRecords}
+use Rattle.transaction.specs.View.{Range, range, rangesOf}
+use Rattle.transaction.specs.Rules.{recordsOk}
+use Rattle.transaction.specs.Steps.{pushed, freshTx, written, precommitted}
+use Rattle.transaction.proofs.Ranges.{ranged}
+use Rattle.transaction.proofs.Pushed.{Sized, pushed-ranges, pushed-writes}
+use Rattle.image.specs.Slots.{slotAt}
+use Rattle.store.specs.declared.State.{State}
+use Rattle.store.specs.State.{txAt, withTxs}
+use Rattle.store.specs.Steps.{begunState, writtenState, precommittedState, droppedState}
+use Rattle.store.specs.Same.{SameRecords, SameTx, ShowsSame}
+use Rattle.store.proofs.Positions.{Changed}
+use Rattle.store.proofs.Stepping.{SizedTx, SizedState, same-or-other, begun-slot, written-slot, precommitted-slot, dropped-slot}
+
+-- ---- one transaction
+
+fresh-same : (n m : ℕ) → n ≡ m → SameTx (freshTx (record { 0 = n + 1 })) (freshTx (record { 0 = m + 1 }))
+unfolding freshTx emptyRecords
+fresh-same n m e =
+    let none : SameRecords emptyRecords emptyRecords = record { count = refl; ranges = refl; writes = refl } in
+    record { id = ap (λ (k : ℕ). k + 1) e; status = refl; csn = refl; undo = none; redo = λ q. none }
+
+precommitted-same : (t u : Tx) → SameTx t u → (n m : ℕ) → n ≡ m
+    → SameTx (precommitted t (record { 0 = n + 1 })) (precommitted u (record { 0 = m + 1 }))
+unfolding precommitted
+precommitted-same t u h n m e =
+    record { id = h .id; status = refl; csn = ap (λ (k : ℕ). k + 1) e; undo = h .undo; redo = λ q. absurd (omega (arith, q)) }
+
+-- records that keep their rules, with room for one more
+pub record Open (r : Records) : Type 0 where
+  pub few : r .count < 16
+  pub ok : recordsOk (rangesOf r) ≡ true
+
+count-same : (r q : Records) (a : ℕ) (bs : List ℕ) → r .count ≡ q .count → pushed r a bs .count ≡ pushed q a bs .count
+unfolding pushed
+count-same r q a bs e = ap (λ (n : ℕ). n + 1) e
+
+pushed-same : (r q : Records) → SameRecords r q → Sized r → Sized q → Open r → (a : ℕ) (bs : List ℕ) → length bs ≤ 32
+    → SameRecords (pushed r a bs) (pushed q a bs)
+pushed-same r q h z y o a bs short =
+    let few : q .count < 16 = omega (arith, o .few, h .count) in
+    let ok : recordsOk (rangesOf q) ≡ true = subst (λ (rs : List Range). recordsOk rs ≡ true) (h .ranges) (o .ok) in
+    record {
+      count = count-same r q a bs (h .count);
+      ranges =
+          pushed-ranges r a bs z (o .few)
+          ∙ ap (λ (rs : List Range). rs ++ (range a (length bs) ∷ [])) (h .ranges)
+          ∙ sym (pushed-ranges q a bs y few);
+      writes =
+          pushed-writes r a bs z (o .few) short (λ j l. ranged r (o .ok) j l .1)
+          ∙ ap (λ (ws : List Write). ws ++ (record { addr = a; bytes = bs } ∷ [])) (h .writes)
+          ∙ sym (pushed-writes q a bs y few short (λ j l. ranged q ok j l .1));
+    }
+
+written-same : (t u : Tx) → SameTx t u → SizedTx t → SizedTx u → Open (t .undo) → Open (t .redo) → (a : ℕ) (old new : List ℕ) → length old ≤ 32
+    → length new ≤ 32 → SameTx (written t a old new) (written u a old new)
+unfolding written
+written-same t u h z y undo redo a old new lo ln =
+    record {
+      id = h .id;
+      status = h .status;
+      csn = h .csn;
+      undo = pushed-same (t .undo) (u .undo) (h .undo) (z .undos) (y .undos) undo a old lo;
+      redo = λ e. pushed-same (t .redo) (u .redo) (h .redo e) (z .redos) (y .redos) redo a new ln;
+    }
+
+-- ---- the slots
+
+same-as : {t t' u u' : Tx} → t ≡ t' → u ≡ u' → SameTx t' u' → SameTx t u
+same-as {t} {t'} {u} {u'} e f h = subst (λ (x : Tx). SameTx x u) (sym e) (subst (λ (y : Tx). SameTx t' y) (sym f) h)
+
+-- a slot set on both sides, of n
+changed-same : {f f' g g' : ℕ → Tx} {u v : Tx} (j k n : ℕ) → Changed f f' j u → Changed g g' k v → j ≡ k → SameTx u v
+    → ((i : ℕ) → (i ≡ j → ⊥) → i < n → SameTx (f i) (g i)) → (i : ℕ) → i < n → SameTx (f' i) (g' i)
+changed-same {f} {f'} {g} {g'} j k n c d e h rest i b =
+    same-or-other i j (λ q. same-as (ap f' q ∙ c .here) (ap g' (q ∙ e) ∙ d .here) h)
+    (λ q. same-as (c .other i q) (d .other i (λ p. q (p ∙ sym e))) (rest i q b))
+
+-- ---- the states
+
+module _ (s r : State) (h : ShowsSame s r) where
+  -- a step leaves log end and number on disk
+  with-same : {a b : Csn} {i j : TxId} {n k : ℕ} {ts us : List Tx} → a .0 ≡ b .0 → i .0 ≡ j .0 → n ≡ k
+      → ((x : ℕ) → x < n → SameTx (slotAt ts x) (slotAt us x)) → ShowsSame (withTxs s a i n ts) (withTxs r b j k us)
+  with-same a i n l =
+      record { recovered = h .recovered; logend = h .logend; ondisk = h .ondisk; assigned = a; lastid = i; count = n; listed = l }
+
+  module _ (z : SizedState s) (y : SizedState r) where
+    pub begin-shows : s .count < 8 → ShowsSame (begunState s) (begunState r)
+    unfolding begunState
+    begin-shows l =
+        with-same (h .assigned) (ap (λ (n : ℕ). n + 1) (h .lastid)) (ap (λ (n : ℕ). n + 1) (h .count))
+        (changed-same (s .count) (r .count) (s .count + 1) (begun-slot s z l) (begun-slot r y (omega (arith, l, h .count))) (h .count)
+        (fresh-same (s .lastid .0) (r .lastid .0) (h .lastid)) (λ i q b. h .listed i (omega (arith, b, q))))
+
+    module _ (j : ℕ) (l : j < s .count) (few : s .count ≤ 8) where
+      there : j < r .count
+      there = omega (arith, l, h .count)
+
+      fewer : r .count ≤ 8
+      fewer = omega (arith, few, h .count)
+
+      pub write-shows : Open (txAt s j .undo) → Open (txAt s j .redo) → (m : List ℕ) (a : ℕ) (bs : List ℕ) → length bs ≤ 32
+          → ShowsSame (writtenState s j m a bs) (writtenState r j m a bs)
+      unfolding writtenState
+      write-shows undo redo m a bs short =
+          let old = take (length bs) (drop a m) in
+          let lo : length old ≤ 32 = rw length-take (omega arith) in
+          with-same (h .assigned) (h .lastid) (h .count)
+          (changed-same j j (s .count) (written-slot s z j l few m a bs) (written-slot r y j there fewer m a bs) refl
+          (written-same (txAt s j) (txAt r j) (h .listed j l) (z .each j l) (y .each j there) undo redo a old bs lo short) (λ i q. h .listed i))
+
+      pub precommit-shows : ShowsSame (precommittedState s j) (precommittedState r j)
+      unfolding precommittedState
+      precommit-shows =
+          with-same (ap (λ (n : ℕ). n + 1) (h .assigned)) (h .lastid) (h .count)
+          (changed-same j j (s .count) (precommitted-slot s z j l few) (precommitted-slot r y j there fewer) refl
+          (precommitted-same (txAt s j) (txAt r j) (h .listed j l) (s .assigned .0) (r .assigned .0) (h .assigned)) (λ i q. h .listed i))
+
+      -- abort and settle
+      pub drop-shows : ShowsSame (droppedState s j) (droppedState r j)
+      unfolding droppedState
+      drop-shows =
+          let c = dropped-slot s z j l few in
+          let d = dropped-slot r y j there fewer in
+          with-same (h .assigned) (h .lastid) (ap (λ (n : ℕ). n - 1) (h .count))
+          (λ i b.
+          elim (decLt i j) [
+            | yes a ↦ same-as (c .before i a) (d .before i a) (h .listed i (omega (arith, a, l)))
+            | no a ↦ same-as (c .after i (omega (arith, a)) (omega (arith, b, l))) (d .after i (omega (arith, a)) (omega (arith, b, l, h .count)))
+                (h .listed (i + 1) (omega (arith, b, l)))
+          ])
