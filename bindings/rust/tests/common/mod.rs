@@ -1,0 +1,140 @@
+//! What the tests share: random numbers from a seed, random steps, and a ledger of what was booked. What a store should have comes from the
+//! ledger alone.
+
+// Each test program uses its own part of this.
+#![allow(dead_code)]
+
+use luppaneth::calls::{Memory, MEMORY_LEN};
+use luppaneth::{Device, Error, Store};
+
+/// SplitMix64.
+pub struct Rng(pub u64);
+
+impl Rng {
+    pub fn draw(&mut self) -> u64 {
+        self.0 = self.0.wrapping_add(0x9E37_79B9_7F4A_7C15);
+        let mut z = self.0;
+        z = (z ^ (z >> 30)).wrapping_mul(0xBF58_476D_1CE4_E5B9);
+        z = (z ^ (z >> 27)).wrapping_mul(0x94D0_49BB_1331_11EB);
+        z ^ (z >> 31)
+    }
+
+    /// A number below `bound`, which is not 0.
+    pub fn below(&mut self, bound: usize) -> usize {
+        (self.draw() % bound as u64) as usize
+    }
+
+    pub fn between(&mut self, low: usize, high: usize) -> usize {
+        low + self.below(high - low + 1)
+    }
+
+    pub fn one_in(&mut self, n: usize) -> bool {
+        self.below(n) == 0
+    }
+}
+
+/// A step's writes.
+pub type Step = Vec<(usize, Vec<u8>)>;
+
+/// A step of writes of these lengths at random addresses. Its first write goes to address 0 and starts with the serial number, if it is that
+/// long, so that no two steps of a test leave the same.
+pub fn step_of_lengths(rng: &mut Rng, serial: u32, lengths: &[usize]) -> Step {
+    let mut step = Step::new();
+    for &len in lengths {
+        let mut bytes: Vec<u8> = (0..len).map(|_| rng.draw() as u8 | 1).collect();
+        let mut at = rng.below(MEMORY_LEN - len + 1);
+        if step.is_empty() && len >= 4 {
+            bytes[..4].copy_from_slice(&serial.to_be_bytes());
+            at = 0;
+        }
+        step.push((at, bytes));
+    }
+    step
+}
+
+/// Any step; now and then its bytes look like log records.
+pub fn any_step(rng: &mut Rng, serial: u32) -> Step {
+    let mut lengths = vec![rng.between(4, 12)];
+    for _ in 0..rng.below(4) {
+        lengths.push(rng.between(1, 32));
+    }
+    let mut step = step_of_lengths(rng, serial, &lengths);
+    for (_, bytes) in &mut step[1..] {
+        match rng.below(4) {
+            0 => bytes.iter_mut().for_each(|byte| *byte %= 4),
+            1 if bytes.len() >= 8 => {
+                let csn = (serial + rng.below(3) as u32).to_be_bytes();
+                bytes[..8].copy_from_slice(&[2, 0, 1, csn[0], csn[1], csn[2], csn[3], 2]);
+            }
+            _ => {}
+        }
+    }
+    step
+}
+
+/// The log bytes of a step's group: 8, and 7 and the bytes for each write.
+pub fn group_size(step: &Step) -> usize {
+    8 + step.iter().map(|(_, bytes)| 7 + bytes.len()).sum::<usize>()
+}
+
+/// Books a step.
+pub fn book<D: Device>(store: &mut Store<D>, step: &Step) -> Result<(), Error> {
+    store.book(|tx| step.iter().try_for_each(|(at, bytes)| tx.write(*at, bytes)))?;
+    Ok(())
+}
+
+/// What was booked, in order, and how much of it was answered to be durable.
+#[derive(Default)]
+pub struct Ledger {
+    booked: Vec<Step>,
+    flushed: usize,
+}
+
+impl Ledger {
+    pub fn booked(&mut self, step: Step) {
+        self.booked.push(step);
+    }
+
+    pub fn flushed(&mut self) {
+        self.flushed = self.booked.len();
+    }
+
+    /// Bookings that wait for a flush.
+    pub fn waiting(&self) -> usize {
+        self.booked.len() - self.flushed
+    }
+
+    /// Zeros with the first bookings laid over them.
+    fn pattern(&self, count: usize) -> Memory {
+        let mut memory = [0; MEMORY_LEN];
+        for (at, bytes) in self.booked[..count].iter().flatten() {
+            memory[*at..at + bytes.len()].copy_from_slice(bytes);
+        }
+        memory
+    }
+
+    /// Holds a store that was opened after a failure against the ledger: it has exactly a leading run of what was booked, everything flushed in
+    /// it. The rest is lost for good. Says what is wrong, if anything is.
+    pub fn reopened<D: Device>(&mut self, store: &Store<D>) -> Result<(), String> {
+        let kept = store.durable().unwrap().0 as usize;
+        let (flushed, booked) = (self.flushed, self.booked.len());
+        if kept < flushed {
+            return Err(format!("{kept} bookings are left of {flushed} that were flushed"));
+        }
+        if kept > booked {
+            return Err(format!("{kept} bookings are there, and {booked} were made"));
+        }
+        if store.pattern().unwrap() != &self.pattern(kept) {
+            return Err(format!("the pattern isn't that of the first {kept} bookings"));
+        }
+        self.booked.truncate(kept);
+        self.flushed = kept;
+        Ok(())
+    }
+
+    /// The store of a running program has all that was booked.
+    pub fn running<D: Device>(&self, store: &Store<D>) {
+        assert!(store.pattern().unwrap() == &self.pattern(self.booked.len()));
+        assert_eq!(store.durable().unwrap().0 as usize, self.flushed);
+    }
+}
