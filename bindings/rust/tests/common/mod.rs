@@ -36,45 +36,42 @@ impl Rng {
 /// A step's writes.
 pub type Step = Vec<(usize, Vec<u8>)>;
 
-/// A step of writes of these lengths at random addresses. Its first write goes to address 0 and starts with the serial number, if it is that
-/// long, so that no two steps of a test leave the same.
-pub fn step_of_lengths(rng: &mut Rng, serial: u32, lengths: &[usize]) -> Step {
+/// Lengths of a step's writes; the first has room for a serial number.
+pub fn any_lengths(rng: &mut Rng) -> Vec<usize> {
+    let mut lengths = vec![rng.between(4, 12)];
+    for _ in 0..rng.below(4) {
+        lengths.push(rng.between(1, 32));
+    }
+    lengths
+}
+
+/// A step of writes of these lengths. The first goes to address 0 and starts with the serial number, so that no two steps of a test leave the
+/// same; the others go anywhere, and now and then look like log records.
+pub fn step_of(rng: &mut Rng, serial: u32, lengths: &[usize]) -> Step {
     let mut step = Step::new();
     for &len in lengths {
-        let mut bytes: Vec<u8> = (0..len).map(|_| rng.draw() as u8 | 1).collect();
+        let mut bytes: Vec<u8> = (0..len).map(|_| rng.draw() as u8).collect();
         let mut at = rng.below(MEMORY_LEN - len + 1);
-        if step.is_empty() && len >= 4 {
-            bytes[..4].copy_from_slice(&serial.to_be_bytes());
+        if step.is_empty() {
             at = 0;
+            bytes[..4].copy_from_slice(&serial.to_be_bytes());
+        } else {
+            forge(rng, serial, &mut bytes);
         }
         step.push((at, bytes));
     }
     step
 }
 
-/// Any step; now and then its bytes look like log records.
-pub fn any_step(rng: &mut Rng, serial: u32) -> Step {
-    let mut lengths = vec![rng.between(4, 12)];
-    for _ in 0..rng.below(4) {
-        lengths.push(rng.between(1, 32));
-    }
-    let mut step = step_of_lengths(rng, serial, &lengths);
-    for (_, bytes) in &mut step[1..] {
-        match rng.below(4) {
-            0 => bytes.iter_mut().for_each(|byte| *byte %= 4),
-            1 if bytes.len() >= 8 => {
-                let csn = (serial + rng.below(3) as u32).to_be_bytes();
-                bytes[..8].copy_from_slice(&[2, 0, 1, csn[0], csn[1], csn[2], csn[3], 2]);
-            }
-            _ => {}
+fn forge(rng: &mut Rng, serial: u32, bytes: &mut [u8]) {
+    match rng.below(4) {
+        0 => bytes.iter_mut().for_each(|byte| *byte %= 4),
+        1 if bytes.len() >= 8 => {
+            let csn = (serial + rng.below(3) as u32).to_be_bytes();
+            bytes[..8].copy_from_slice(&[2, 0, 1, csn[0], csn[1], csn[2], csn[3], 2]);
         }
+        _ => {}
     }
-    step
-}
-
-/// The log bytes of a step's group: 8, and 7 and the bytes for each write.
-pub fn group_size(step: &Step) -> usize {
-    8 + step.iter().map(|(_, bytes)| 7 + bytes.len()).sum::<usize>()
 }
 
 /// Books a step.
@@ -84,7 +81,7 @@ pub fn book<D: Device>(store: &mut Store<D>, step: &Step) -> Result<(), Error> {
 }
 
 /// What was booked, in order, and how much of it was answered to be durable.
-#[derive(Default)]
+#[derive(Clone, Default)]
 pub struct Ledger {
     booked: Vec<Step>,
     flushed: usize,
@@ -119,13 +116,17 @@ impl Ledger {
         let kept = store.durable().unwrap().0 as usize;
         let (flushed, booked) = (self.flushed, self.booked.len());
         if kept < flushed {
-            return Err(format!("{kept} bookings are left of {flushed} that were flushed"));
+            return Err(format!(
+                "{kept} bookings are left of {flushed} that were flushed"
+            ));
         }
         if kept > booked {
             return Err(format!("{kept} bookings are there, and {booked} were made"));
         }
         if store.pattern().unwrap() != &self.pattern(kept) {
-            return Err(format!("the pattern isn't that of the first {kept} bookings"));
+            return Err(format!(
+                "the pattern isn't that of the first {kept} bookings"
+            ));
         }
         self.booked.truncate(kept);
         self.flushed = kept;
