@@ -111,8 +111,8 @@ impl Ledger {
     }
 
     /// Holds a store that was opened after a failure against the ledger: it has exactly a leading run of what was booked, everything flushed in
-    /// it. The rest is lost for good. Says what is wrong, if anything is.
-    pub fn reopened<D: Device>(&mut self, store: &Store<D>) -> Result<(), String> {
+    /// it. The rest is lost for good. Answers how many it has that weren't flushed, or what is wrong.
+    pub fn reopened<D: Device>(&mut self, store: &Store<D>) -> Result<usize, String> {
         let kept = store.durable().unwrap().0 as usize;
         let (flushed, booked) = (self.flushed, self.booked.len());
         if kept < flushed {
@@ -130,7 +130,7 @@ impl Ledger {
         }
         self.booked.truncate(kept);
         self.flushed = kept;
-        Ok(())
+        Ok(kept - flushed)
     }
 
     /// The store of a running program has all that was booked.
