@@ -36,7 +36,7 @@ impl Device for ByteByByte {
 fn step(life: u64, n: u32) -> Step {
     let mut rng = Rng(life << 32 | u64::from(n));
     let lengths = any_lengths(&mut rng);
-    step_of(&mut rng, n, &lengths)
+    step_of(&mut rng, n, n, &lengths)
 }
 
 /// A line to the test, in one piece.

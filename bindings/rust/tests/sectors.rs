@@ -180,7 +180,7 @@ impl Work {
             1 => vec![doings.between(4, 32); doings.between(1, 16)],
             _ => any_lengths(doings),
         };
-        step_of(&mut self.rng, self.serial, &lengths)
+        step_of(&mut self.rng, self.serial, self.ledger.next_csn(), &lengths)
     }
 
     fn act(&mut self, doings: &mut Rng, store: &mut Store<&mut Sectors>) -> Result<(), Error> {

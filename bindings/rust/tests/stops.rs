@@ -100,12 +100,15 @@ impl Run<'_> {
         Ok(())
     }
 
+    /// Opens the device and holds it against the ledger; an error is the device's.
     fn open<'d>(&mut self, device: &'d mut Stopping) -> Result<Store<&'d mut Stopping>, Error> {
-        let store = Store::open(device)?;
         let seed = self.seed;
-        self.ledger
-            .reopened(&store)
-            .unwrap_or_else(|wrong| panic!("list {seed}: {wrong}"));
+        let store = match Store::open(device) {
+            Err(Error::Refused(refusal)) => panic!("list {seed}: {refusal}"),
+            opened => opened?,
+        };
+        let found = self.ledger.reopened(&store);
+        found.unwrap_or_else(|wrong| panic!("list {seed}: {wrong}"));
         Ok(store)
     }
 
@@ -114,7 +117,7 @@ impl Run<'_> {
         let mut rng = Rng(self.seed << 32 | u64::from(self.serial));
         match action {
             Action::Book(lengths) if self.ledger.waiting() < 8 => {
-                let step = step_of(&mut rng, self.serial, lengths);
+                let step = step_of(&mut rng, self.serial, self.ledger.next_csn(), lengths);
                 book(store, &step)?;
                 self.ledger.booked(step);
             }
@@ -124,7 +127,7 @@ impl Run<'_> {
                 assert!(matches!(refused, Err(Error::Refused(refusal)) if refusal == full));
             }
             Action::GiveUp(lengths) => {
-                let step = step_of(&mut rng, self.serial, lengths);
+                let step = step_of(&mut rng, self.serial, self.ledger.next_csn(), lengths);
                 let gave_up = store.book(|tx| {
                     step.iter()
                         .try_for_each(|(at, bytes)| tx.write(*at, bytes))?;
@@ -205,7 +208,7 @@ fn a_clearing_that_stops_after_every_number_of_stores() {
         for serial in 1..=8 {
             let mut rng = Rng(serial);
             let lengths = any_lengths(&mut rng);
-            let step = step_of(&mut rng, serial as u32, &lengths);
+            let step = step_of(&mut rng, serial as u32, serial as u32, &lengths);
             book(&mut store, &step).unwrap();
             ledger.booked(step);
         }

@@ -5,7 +5,7 @@ use std::io;
 use std::panic::{catch_unwind, AssertUnwindSafe};
 use std::path::PathBuf;
 
-use luppaneth::calls::{Disk, DISK_LEN, LOG_START, POINTER};
+use luppaneth::calls::{Disk, DISK_LEN, IMAGE_A, IMAGE_B, LOG_START, POINTER};
 use luppaneth::{Csn, Device, Error, FileDevice, MemoryDevice, Refusal, Store};
 
 fn fresh() -> Store<MemoryDevice> {
@@ -233,6 +233,105 @@ fn the_pointer_byte_waits_for_the_image() {
         all_poisoned(&mut store);
         assert_eq!(device.disk.disk()[POINTER], pointer);
     }
+}
+
+#[derive(Clone, Copy, Debug, PartialEq)]
+enum Event {
+    Store(usize, u8),
+    Sync,
+}
+
+/// Keeps what is done to it, in order.
+struct Recording {
+    disk: MemoryDevice,
+    events: Vec<Event>,
+}
+
+impl Device for Recording {
+    fn load(&mut self, disk: &mut Disk) -> io::Result<()> {
+        self.disk.load(disk)
+    }
+    fn store(&mut self, at: usize, byte: u8) -> io::Result<()> {
+        self.events.push(Event::Store(at, byte));
+        self.disk.store(at, byte)
+    }
+    fn sync(&mut self) -> io::Result<()> {
+        self.events.push(Event::Sync);
+        Ok(())
+    }
+}
+
+/// What a store does to a device from its opening on, up to some calls.
+fn events(
+    disk: &MemoryDevice,
+    calls: impl FnOnce(&mut Store<&mut Recording>) -> Result<(), Error>,
+) -> Recording {
+    let mut device = Recording {
+        disk: disk.clone(),
+        events: Vec::new(),
+    };
+    let mut store = Store::open(&mut device).unwrap();
+    calls(&mut store).unwrap();
+    device
+}
+
+fn offsets(events: &[Event]) -> Vec<usize> {
+    let offset = |event: &Event| match event {
+        Event::Store(at, _) => *at,
+        Event::Sync => panic!("a sync in the midst of a run"),
+    };
+    events.iter().map(offset).collect()
+}
+
+#[test]
+fn a_flush_stores_upward_from_the_logs_end() {
+    let flushed = events(&MemoryDevice::new(), |store| {
+        store.book(|tx| tx.write(10, &[0x41, 0x42]))?;
+        store.flush()?;
+        store.flush()?;
+        Ok(())
+    });
+    let group = [1, 0, 1, 0, 10, 2, 0x41, 0x42, 1, 2, 0, 1, 0, 0, 0, 1, 2];
+    let mut expected = vec![Event::Sync];
+    expected.extend(
+        (LOG_START..)
+            .zip(group)
+            .map(|(at, byte)| Event::Store(at, byte)),
+    );
+    expected.push(Event::Sync);
+    assert_eq!(flushed.events, expected);
+}
+
+#[test]
+fn a_checkpoint_stores_the_image_upward_then_the_pointer_byte() {
+    let mut disk = MemoryDevice::new();
+    for (slot, name) in [(IMAGE_A, 1), (IMAGE_B, 2), (IMAGE_A, 1)] {
+        let stored = events(&disk, |store| store.checkpoint());
+        let (image, rest) = stored.events[1..].split_at(4_109);
+        assert_eq!(offsets(image), (slot..slot + 4_109).collect::<Vec<_>>());
+        assert_eq!(
+            rest,
+            [Event::Sync, Event::Store(POINTER, name), Event::Sync]
+        );
+        disk = stored.disk;
+    }
+}
+
+#[test]
+fn an_opening_clears_downward_to_the_logs_end() {
+    let mut disk = MemoryDevice::new();
+    disk.disk_mut()[LOG_START + 3..LOG_START + 700].fill(9);
+    let cleared = events(&disk, |_| Ok(()));
+    let (last, stores) = cleared.events.split_last().unwrap();
+    assert_eq!(
+        offsets(stores),
+        (LOG_START..LOG_START + 700).rev().collect::<Vec<_>>()
+    );
+    assert!(stores
+        .iter()
+        .all(|event| matches!(event, Event::Store(_, 0))));
+    assert_eq!(*last, Event::Sync);
+    assert_eq!(cleared.disk.disk(), &[0; DISK_LEN]);
 }
 
 #[test]

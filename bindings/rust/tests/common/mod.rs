@@ -45,9 +45,9 @@ pub fn any_lengths(rng: &mut Rng) -> Vec<usize> {
     lengths
 }
 
-/// A step of writes of these lengths. The first goes to address 0 and starts with the serial number, so that no two steps of a test leave the
-/// same; the others go anywhere, and now and then look like log records.
-pub fn step_of(rng: &mut Rng, serial: u32, lengths: &[usize]) -> Step {
+/// A step of writes of these lengths, to be booked with a commit number. The first write goes to address 0 and starts with the serial number, so
+/// that no two steps of a test leave the same; the others go anywhere, and some look like log records.
+pub fn step_of(rng: &mut Rng, serial: u32, csn: u32, lengths: &[usize]) -> Step {
     let mut step = Step::new();
     for &len in lengths {
         let mut bytes: Vec<u8> = (0..len).map(|_| rng.draw() as u8).collect();
@@ -55,22 +55,21 @@ pub fn step_of(rng: &mut Rng, serial: u32, lengths: &[usize]) -> Step {
         if step.is_empty() {
             at = 0;
             bytes[..4].copy_from_slice(&serial.to_be_bytes());
-        } else {
-            forge(rng, serial, &mut bytes);
+        } else if rng.one_in(2) {
+            forge(rng, csn, &mut bytes);
         }
         step.push((at, bytes));
     }
     step
 }
 
-fn forge(rng: &mut Rng, serial: u32, bytes: &mut [u8]) {
-    match rng.below(4) {
-        0 => bytes.iter_mut().for_each(|byte| *byte %= 4),
-        1 if bytes.len() >= 8 => {
-            let csn = (serial + rng.below(3) as u32).to_be_bytes();
-            bytes[..8].copy_from_slice(&[2, 0, 1, csn[0], csn[1], csn[2], csn[3], 2]);
-        }
-        _ => {}
+/// Commit records one after the other, of the next booking or the one after it: what must not be read where the log ends, if the step is lost.
+fn forge(rng: &mut Rng, csn: u32, bytes: &mut [u8]) {
+    let csn = (csn + rng.between(1, 2) as u32).to_be_bytes();
+    let record = [2, 0, 1, csn[0], csn[1], csn[2], csn[3], 2];
+    let phase = rng.below(8);
+    for (index, byte) in bytes.iter_mut().enumerate() {
+        *byte = record[(index + phase) % 8];
     }
 }
 
@@ -94,6 +93,11 @@ impl Ledger {
 
     pub fn flushed(&mut self) {
         self.flushed = self.booked.len();
+    }
+
+    /// The commit number of the next booking.
+    pub fn next_csn(&self) -> u32 {
+        self.booked.len() as u32 + 1
     }
 
     /// Bookings that wait for a flush.
