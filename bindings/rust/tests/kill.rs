@@ -13,7 +13,7 @@ use std::process::{Command, Stdio};
 use std::thread;
 use std::time::Duration;
 
-use common::{any_lengths, book, step_of, Ledger, Rng, Step};
+use common::{asked, book, lengths_by_eight, step_of, Ledger, Rng, Step};
 use luppaneth::calls::Disk;
 use luppaneth::{Device, Error, FileDevice, Refusal, Store};
 
@@ -35,7 +35,7 @@ impl Device for ByteByByte {
 /// The step that the process of a life books as its n-th of the disk: the test knows it too.
 fn step(life: u64, n: u32) -> Step {
     let mut rng = Rng(life << 32 | u64::from(n));
-    let lengths = any_lengths(&mut rng);
+    let lengths = lengths_by_eight(&mut rng);
     step_of(&mut rng, n, n, &lengths)
 }
 
@@ -124,10 +124,6 @@ fn enter(ledger: &mut Ledger, life: u64, said: &str) -> bool {
     false
 }
 
-fn kills() -> u64 {
-    env::var("LUPPANETH_KILLS").map_or(50, |number| number.parse().expect("a number of kills"))
-}
-
 #[test]
 fn a_killed_process_loses_nothing_that_it_flushed() {
     let folder = PathBuf::from(env!("CARGO_TARGET_TMPDIR")).join("killed");
@@ -137,7 +133,8 @@ fn a_killed_process_loses_nothing_that_it_flushed() {
     let mut rng = Rng(1);
     let mut ledger = Ledger::default();
     let (mut files, mut bookings, mut more, mut lost) = (1, 0, 0, 0);
-    for life in 0..kills() {
+    let kills = asked("LUPPANETH_KILLS", 50);
+    for life in 0..kills {
         let time = Duration::from_micros(rng.below(40_000) as u64);
         let full = enter(&mut ledger, life, &run_and_kill(&file, life, time));
         let waiting = ledger.waiting();
@@ -154,7 +151,6 @@ fn a_killed_process_loses_nothing_that_it_flushed() {
             ledger = Ledger::default();
         }
     }
-    let kills = kills();
     println!("{kills} kills on {files} files, {bookings} bookings on all but the last of them;");
     println!(
         "kept was more than reported as flushed {more} times, less than announced {lost} times"

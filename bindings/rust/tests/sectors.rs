@@ -3,7 +3,8 @@
 //! shown here.
 //!
 //! With each sync left out in turn the same search finds the fault; and it finds one with sectors of 32 bytes, in which the bytes of a
-//! single redo record can be missing unseen.
+//! single redo record can be missing unseen. Where nothing is to be found it looks at 20,000 failures; the variable LUPPANETH_FAILURES asks for
+//! another number.
 
 mod common;
 
@@ -12,7 +13,7 @@ use std::collections::BTreeMap;
 use std::io;
 use std::rc::Rc;
 
-use common::{any_lengths, book, step_of, Ledger, Rng, Step};
+use common::{any_lengths, asked, book, lengths_by_eight, step_of, Ledger, Rng, Step};
 use luppaneth::calls::{Disk, DISK_LEN, LOG_START, POINTER};
 use luppaneth::{Device, Error, MemoryDevice, Refusal, Store};
 
@@ -175,9 +176,10 @@ impl Work {
 
     fn step(&mut self, doings: &mut Rng) -> Step {
         self.serial += 1;
-        let lengths = match doings.below(3) {
-            0 => vec![32; doings.between(1, 16)],
-            1 => vec![doings.between(4, 32); doings.between(1, 16)],
+        let lengths = match doings.below(4) {
+            0 => lengths_by_eight(doings),
+            1 => vec![32; doings.between(1, 16)],
+            2 => vec![doings.between(4, 32); doings.between(1, 16)],
             _ => any_lengths(doings),
         };
         step_of(&mut self.rng, self.serial, self.ledger.next_csn(), &lengths)
@@ -255,11 +257,11 @@ fn live(work: &mut Work, device: &mut Sectors) -> Result<(), End> {
 /// Failures that a search saw.
 #[derive(Default, Debug)]
 struct Seen {
-    disks: usize,
-    failures: usize,
-    opening: usize,
-    storing: usize,
-    killed: usize,
+    disks: u64,
+    failures: u64,
+    opening: u64,
+    storing: u64,
+    killed: u64,
 }
 
 /// Disks of sectors, each with life after life until its log is full.
@@ -294,7 +296,7 @@ impl Search {
     }
 
     /// Disk after disk until so many failures were seen, or something wrong.
-    fn go(&self, failures: usize) -> (Seen, Result<(), String>) {
+    fn go(&self, failures: u64) -> (Seen, Result<(), String>) {
         let used = used_disk();
         let mut seen = Seen::default();
         for seed in 0.. {
@@ -321,19 +323,13 @@ fn used_disk() -> Box<Disk> {
     Box::new(*store.into_device().disk())
 }
 
-/// How many failures the tests without a fault see, in thousands, for each size of sector.
-fn thousands() -> usize {
-    let asked = std::env::var("LUPPANETH_FAILURES");
-    asked.map_or(20, |number| number.parse().expect("a number, in thousands"))
-}
-
 fn nothing_is_found(size: usize) {
     let search = Search {
         size,
         skipped: None,
         kills: true,
     };
-    let (seen, found) = search.go(thousands() * 1_000);
+    let (seen, found) = search.go(asked("LUPPANETH_FAILURES", 20_000));
     println!("sectors of {size} bytes: {seen:?}");
     assert_eq!(found, Ok(()));
     assert!(seen.opening > 0 && seen.storing > 0 && seen.killed > 0);

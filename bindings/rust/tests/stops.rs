@@ -1,17 +1,16 @@
 //! A device that stops after any number of byte stores, for every number, over lists of steps, flushes, checkpoints and restarts; then it is
 //! opened again, the list goes on, and it stops a second time somewhere.
 //!
-//! A store that leaves a byte as it is makes no other disk, so the stores that change a byte are the ones counted.
+//! A store that leaves a byte as it is makes no other disk, so the stores that change a byte are the ones counted. 200 lists; the variable
+//! LUPPANETH_LISTS asks for another number.
 
 mod common;
 
 use std::io;
 
-use common::{any_lengths, book, step_of, Ledger, Rng};
+use common::{any_lengths, asked, book, lengths_by_eight, step_of, Ledger, Rng};
 use luppaneth::calls::Disk;
 use luppaneth::{Device, Error, MemoryDevice, Refusal, Store};
-
-const LISTS: u64 = 200;
 
 struct Stopping {
     disk: MemoryDevice,
@@ -60,11 +59,16 @@ enum Action {
 
 fn list(seed: u64) -> Vec<Action> {
     let mut rng = Rng(seed);
+    let lengths = if rng.one_in(2) {
+        any_lengths
+    } else {
+        lengths_by_eight
+    };
     let mut list = Vec::new();
     for _ in 0..rng.between(6, 16) {
         list.push(match rng.below(24) {
-            0..=10 => Action::Book(any_lengths(&mut rng)),
-            11 | 12 => Action::GiveUp(any_lengths(&mut rng)),
+            0..=10 => Action::Book(lengths(&mut rng)),
+            11 | 12 => Action::GiveUp(lengths(&mut rng)),
             13..=19 => Action::Flush,
             20 | 21 => Action::Checkpoint,
             _ => Action::Restart,
@@ -173,6 +177,7 @@ fn stopped_after(seed: u64, list: &[Action], stores: usize) -> (bool, usize) {
             _ => usize::MAX,
         };
     }
+    device.left = usize::MAX;
     let store = run.open(&mut device).unwrap();
     run.ledger.running(&store);
     (stops == 0, stops)
@@ -180,8 +185,9 @@ fn stopped_after(seed: u64, list: &[Action], stores: usize) -> (bool, usize) {
 
 #[test]
 fn a_device_that_stops_after_every_number_of_stores() {
+    let lists = asked("LUPPANETH_LISTS", 200);
     let (mut numbers, mut stops) = (0, 0);
-    for seed in 0..LISTS {
+    for seed in 0..lists {
         let list = list(seed);
         for stores in 0.. {
             let (ended, more) = stopped_after(seed, &list, stores);
@@ -193,7 +199,7 @@ fn a_device_that_stops_after_every_number_of_stores() {
         }
     }
     println!(
-        "{LISTS} lists stopped after each of {numbers} numbers of stores, {stops} stops in all"
+        "{lists} lists stopped after each of {numbers} numbers of stores, {stops} stops in all"
     );
 }
 

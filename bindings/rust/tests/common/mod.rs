@@ -4,6 +4,8 @@
 // Each test program uses its own part of this.
 #![allow(dead_code)]
 
+use std::env;
+
 use luppaneth::calls::{Memory, MEMORY_LEN};
 use luppaneth::{Device, Error, Store};
 
@@ -33,6 +35,11 @@ impl Rng {
     }
 }
 
+/// How much of a test is asked for by a variable; else so much, for the gate.
+pub fn asked(variable: &str, gate: u64) -> u64 {
+    env::var(variable).map_or(gate, |number| number.parse().expect("a number"))
+}
+
 /// A step's writes.
 pub type Step = Vec<(usize, Vec<u8>)>;
 
@@ -45,10 +52,20 @@ pub fn any_lengths(rng: &mut Rng) -> Vec<usize> {
     lengths
 }
 
+/// The same, and the step's group has a multiple of 8 bytes: then a lost step's forged records stand just where the log ends after another.
+pub fn lengths_by_eight(rng: &mut Rng) -> Vec<usize> {
+    let mut lengths = vec![9];
+    for _ in 0..rng.below(4) {
+        lengths.push(1 + 8 * rng.below(4));
+    }
+    lengths
+}
+
 /// A step of writes of these lengths, to be booked with a commit number. The first write goes to address 0 and starts with the serial number, so
 /// that no two steps of a test leave the same; the others go anywhere, and some look like log records.
 pub fn step_of(rng: &mut Rng, serial: u32, csn: u32, lengths: &[usize]) -> Step {
     let mut step = Step::new();
+    let mut offset = 0;
     for &len in lengths {
         let mut bytes: Vec<u8> = (0..len).map(|_| rng.draw() as u8).collect();
         let mut at = rng.below(MEMORY_LEN - len + 1);
@@ -56,20 +73,21 @@ pub fn step_of(rng: &mut Rng, serial: u32, csn: u32, lengths: &[usize]) -> Step 
             at = 0;
             bytes[..4].copy_from_slice(&serial.to_be_bytes());
         } else if rng.one_in(2) {
-            forge(rng, csn, &mut bytes);
+            forge(&mut bytes, offset + 6, csn + rng.between(1, 2) as u32);
         }
         step.push((at, bytes));
+        offset += 7 + len;
     }
     step
 }
 
-/// Commit records one after the other, of the next booking or the one after it: what must not be read where the log ends, if the step is lost.
-fn forge(rng: &mut Rng, csn: u32, bytes: &mut [u8]) {
-    let csn = (csn + rng.between(1, 2) as u32).to_be_bytes();
+/// Commit records one after the other, each at a multiple of 8 in the step's group, where these bytes have an offset: what must not be read at
+/// the log's end, if the step is lost.
+fn forge(bytes: &mut [u8], offset: usize, csn: u32) {
+    let csn = csn.to_be_bytes();
     let record = [2, 0, 1, csn[0], csn[1], csn[2], csn[3], 2];
-    let phase = rng.below(8);
     for (index, byte) in bytes.iter_mut().enumerate() {
-        *byte = record[(index + phase) % 8];
+        *byte = record[(offset + index) % 8];
     }
 }
 
