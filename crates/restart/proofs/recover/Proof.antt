@@ -5,6 +5,11 @@ use Rattle.restart.proofs.Undos.{restart-case}
 use Rattle.restart.proofs.recover.Statement.{statement}
 use Rattle.restart.proofs.recover.Tie as tie
 
+-- places of the code by name
+
+abbrev entryFromUndoLeftArg2 : tie.After-undo-left-arg2 → tie.Start
+entryFromUndoLeftArg2 c = c .before .before .before .before .before .before .before .before .before .before .before
+
 keys-of-requires : tie.Need-keys-of-requires
 keys-of-requires c κs = search needs
 
@@ -15,7 +20,7 @@ forward-requires c κs =
 
 undo-left-requires : tie.Need-undo-left-requires
 undo-left-requires c κs =
-    let s = c .before .before .before .before .before .before .before .before .before .before .before in
+    let s = entryFromUndoLeftArg2 c in
     let f = c .before .before .before .before .forward in
     ((undoable (s .args .image) (s .pre .0), c .before .before .before .before .before .before .keys-of .ensures), (f .kept .1 .1 .1 .0 ∙ s .pre .1 .0, s .pre .1 .1))
 

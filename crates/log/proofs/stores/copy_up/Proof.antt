@@ -8,6 +8,11 @@ use Rattle.log.proofs.StoreLaws.{length-copies, take-min, copies-cut}
 use Rattle.log.proofs.stores.copy_up.Statement.{statement}
 use Rattle.log.proofs.stores.copy_up.Tie as tie
 
+-- places of the code by name
+
+abbrev entryFromSliceKnown2 : tie.After-slice-known2 → tie.Start
+entryFromSliceKnown2 c = c .before .before .before .before .before .before .before .before
+
 least-requires : tie.Need-least-requires
 least-requires c κs = search needs
 
@@ -22,7 +27,7 @@ same-length c = search needs
 
 returns : tie.Need-returns
 returns c =
-    let a = c .before .before .before .before .before .before .before .before .args in
+    let a = entryFromSliceKnown2 c .args in
     let n = c .before .before .before .before .before .least in
     let src = a .src .now in (
       omega (arith, length-copies (a .at) src),

@@ -14,6 +14,11 @@ Inv-loop b₀ n keep i₀ b i = (i ≤ keep) × (b ≡ sets b₀ 0 (take i (drop
 abbrev μ-loop : tie.MeasureT-loop
 μ-loop b₀ n keep i₀ b i = keep - i
 
+-- places of the code by name
+
+abbrev entryFromSliceKnown4 : tie.After-slice-known4 Inv-loop μ-loop → tie.Start Inv-loop μ-loop
+entryFromSliceKnown4 c = c .before .before .before .before .before .before .before .before
+
 -- the length stays
 length-now : (c : tie.At-loop Inv-loop μ-loop) → length (c .loop .b) ≡ length (c .before .before .before .args .b .now)
 length-now c = ap length (c .loop .inv .1) ∙ simp length-sets
@@ -72,16 +77,16 @@ fill-zero-requires-2 c κs = search needs
 
 returns-2 : tie.Need-returns-2 Inv-loop μ-loop
 returns-2 c =
-    shift-done (c .before .before .before .before .before .before .before .before .args .b .now) _ _
-    (c .before .before .before .before .before .before .before .before .args .n) (c .before .before .before .before .before .loop .i)
+    shift-done (entryFromSliceKnown4 c .args .b .now) _ _
+    (entryFromSliceKnown4 c .args .n) (c .before .before .before .before .before .loop .i)
     (c .before .before .before .before .before .before .if1 .left)
     (omega (arith, c .before .before .before .before .before .loop .inv .0, c .before .before .before .before .loop-test .left))
     (c .before .before .before .before .before .loop .inv .1) (c .before .before .fill-zero2 .ensures)
 
 same-length-2 : tie.Need-same-length-2 Inv-loop μ-loop
 same-length-2 c = ap length (returns-2 c)
-    ∙ length-shifted (c .before .before .before .before .before .before .before .before .args .n)
-    (c .before .before .before .before .before .before .before .before .args .b .now)
+    ∙ length-shifted (entryFromSliceKnown4 c .args .n)
+    (entryFromSliceKnown4 c .args .b .now)
 
 pub shift-down-spec : {M : Type 1} → statement M
 shift-down-spec =

@@ -19,6 +19,26 @@ use Rattle.restart.proofs.Steps.{as-turn, turn-none, turn-abort, turn-c
 use Rattle.restart.proofs.forward.step.Statement.{statement}
 use Rattle.restart.proofs.forward.step.Tie as tie
 
+-- places of the code by name
+
+abbrev afterGroup2FromPassGroup2 : tie.After-pass-group2 → tie.After-group2
+afterGroup2FromPassGroup2 c = c .before .before .before .before .before .before .before .before
+
+abbrev entryFromFound : tie.After-found → tie.Start
+entryFromFound c = c .before .before .before .before .before .before .before .before .before .before
+
+abbrev entryFromUnfinished : tie.After-unfinished → tie.Start
+entryFromUnfinished c = entryFromFound (c .before)
+
+abbrev entryFromPassGroup : tie.After-pass-group → tie.Start
+entryFromPassGroup c = entryFromUnfinished (c .before)
+
+abbrev entryFromSliceKnown2 : tie.After-slice-known2 → tie.Start
+entryFromSliceKnown2 c = c .before .before .before .before .before .before .before .before .before .before .before .before .before .before
+
+abbrev entryFromPassGroup2 : tie.After-pass-group2 → tie.Start
+entryFromPassGroup2 c = entryFromSliceKnown2 (c .before)
+
 -- what was read at the end reached
 read-at : (c : tie.After-read-group) → let a =
     c .before .before .before .before .before .args in c .read-group .result ≡ endOf (readGroup (a .p .csn .0) (drop (a .p .end) (a .log .now)))
@@ -58,23 +78,23 @@ find-requires c κs = search needs
 
 unfinished-requires : tie.Need-unfinished-requires
 unfinished-requires c κs =
-    let s = c .before .before .before .before .before .before .before .before .before .before in
+    let s = entryFromFound c in
     found-below (hasIdIn (s .args .ids) _) (s .args .n) 8 _ (s .pre .0) (c .before .find .ensures)
 
 add-pass-group : tie.Need-add-pass-group
 add-pass-group c =
-    let s = c .before .before .before .before .before .before .before .before .before .before .before in
+    let s = entryFromUnfinished c in
     let e = abort-at (c .before .before .before .before) in
     omega (arith, step-room (s .args .log .now) (s .args .p) _ (s .pre .1 .1) (e .0), e .1, s .good)
 
 pass-group-requires : tie.Need-pass-group-requires
 pass-group-requires c κs =
-    let s = c .before .before .before .before .before .before .before .before .before .before .before in
+    let s = entryFromUnfinished c in
     found-below (hasIdIn (s .args .ids) _) (s .args .n) 8 _ (s .pre .0) (c .before .before .find .ensures)
 
 returns : tie.Need-returns
 returns c =
-    let a = c .before .before .before .before .before .before .before .before .before .before .before .before .args in
+    let a = entryFromPassGroup c .args in
     let e = abort-at (c .before .before .before .before .before) in
     let t = turn-abort (a .ids) (a .n) (a .log .now) (wentBy (a .memory .now) (a .p)) _ _ _ _ (e .0) (e .1) (c .before .before .before .find .ensures)
     (c .before .unfinished .ensures) in
@@ -101,13 +121,13 @@ redo-all-requires c κs = search needs
 
 add-pass-group-2 : tie.Need-add-pass-group-2
 add-pass-group-2 c =
-    let s = c .before .before .before .before .before .before .before .before .before .before .before .before .before .before in
+    let s = entryFromSliceKnown2 c in
     let e = commit-at (c .before .before .before .before .before .before .before) in
     omega (arith, step-room (s .args .log .now) (s .args .p) _ (s .pre .1 .1) (e .1), e .2, s .good)
 
 pass-group-requires-2 : tie.Need-pass-group-requires-2
 pass-group-requires-2 c κs =
-    let s = c .before .before .before .before .before .before .before .before .before .before .before .before .before .before in
+    let s = entryFromSliceKnown2 c in
     found-below (hasIdIn (s .args .ids) _) (s .args .n) 8 _ (s .pre .0) (c .before .before .before .before .before .find2 .ensures)
 
 same-length : tie.Need-same-length
@@ -115,8 +135,8 @@ same-length c = search needs
 
 returns-2 : tie.Need-returns-2
 returns-2 c =
-    let a = c .before .before .before .before .before .before .before .before .before .before .before .before .before .before .before .args in
-    let e = commit-at (c .before .before .before .before .before .before .before .before) in
+    let a = entryFromPassGroup2 c .args in
+    let e = commit-at (afterGroup2FromPassGroup2 c) in
     let m = c .before .before .before .redo-all .ensures
     ∙ ap (λ (t : List ℕ). redoAll layBytes (frontWrites t) (a .memory .now)) (from (a .log .now) (a .p .end)) in
     let t = turn-commit (a .ids) (a .n) (a .log .now) (wentBy (a .memory .now) (a .p)) _ _ _ _ (e .0) _ (e .1) (e .2)

@@ -24,25 +24,54 @@ Inv-loop memory₀ tail₀ image n ids csns last found₀ k₀ memory tail found
 abbrev μ-loop : tie.MeasureT-loop
 μ-loop memory₀ tail₀ image n ids csns last found₀ k₀ memory tail found k = length (leftBy image found (last .0))
 
+-- places of the code by name
+
+abbrev afterSlotFromPutAbortArg : tie.After-put-abort-arg Inv-loop μ-loop → tie.After-slot Inv-loop μ-loop
+afterSlotFromPutAbortArg c = c .before .before .before .before .before .before .before .before .before
+
+abbrev entryFromSlot : tie.After-slot Inv-loop μ-loop → tie.Start Inv-loop μ-loop
+entryFromSlot c = c .before .before .before .before .before .before .before .before .before .before
+
+abbrev entryFromEnumTold : tie.After-enum-told Inv-loop μ-loop → tie.Start Inv-loop μ-loop
+entryFromEnumTold c = c .before .before .before .before .before .before .before .before .before .before
+
+abbrev turnFromPutAbortArg : tie.After-put-abort-arg Inv-loop μ-loop → tie.At-loop Inv-loop μ-loop
+turnFromPutAbortArg c = c .before .before .before .before .before .before .before .before .before .before .before .before
+
+abbrev afterSlotFromSliceKnown4 : tie.After-slice-known4 Inv-loop μ-loop → tie.After-slot Inv-loop μ-loop
+afterSlotFromSliceKnown4 c = afterSlotFromPutAbortArg (c .before .before .before)
+
+abbrev entryFromLayBackArg : tie.After-lay-back-arg Inv-loop μ-loop → tie.Start Inv-loop μ-loop
+entryFromLayBackArg c = entryFromSlot (c .before .before .before .before)
+
+abbrev turnFromSliceKnown4 : tie.After-slice-known4 Inv-loop μ-loop → tie.At-loop Inv-loop μ-loop
+turnFromSliceKnown4 c = turnFromPutAbortArg (c .before .before .before)
+
+abbrev entryFromPutAbortArg : tie.After-put-abort-arg Inv-loop μ-loop → tie.Start Inv-loop μ-loop
+entryFromPutAbortArg c = entryFromLayBackArg (c .before .before .before .before .before)
+
+abbrev entryFromSliceKnown4 : tie.After-slice-known4 Inv-loop μ-loop → tie.Start Inv-loop μ-loop
+entryFromSliceKnown4 c = entryFromPutAbortArg (c .before .before .before)
+
 -- the one found is the next to undo
 next : (c : tie.After-slot Inv-loop μ-loop)
-    → let a = c .before .before .before .before .before .before .before .before .before .before .args in
+    → let a = entryFromSlot c .args in
     let l = c .before .before .before .loop in
     let i = c .slot .given .0 .0 in
     (i < a .t1 .count) × (leftBy (a .t1) (l .found) (a .p .csn .0) ≡ transactionAt (a .t1) i ∷ leftBy (a .t1) (set (l .found) i 2) (a .p .csn .0))
 next c =
-    let s = c .before .before .before .before .before .before .before .before .before .before in
+    let s = entryFromSlot c in
     let l = c .before .before .before .loop in
     next-some (s .args .t1) (s .pre .0 .0) (s .args .keys) (s .pre .0 .1) (l .found) (s .args .p .csn) (omega (arith, l .inv .0, s .pre .0 .0 .few)) _
     (sym (c .before .before .next .ensures) ∙ c .slot .given .1)
 
 few : (c : tie.After-slot Inv-loop μ-loop) → c .slot .given .0 .0 < 8
-few c = omega (arith, next c .0, c .before .before .before .before .before .before .before .before .before .before .pre .0 .0 .few)
+few c = omega (arith, next c .0, entryFromSlot c .pre .0 .0 .few)
 
 -- the tail has room for its abort record
 room : (c : tie.After-slot Inv-loop μ-loop) → c .before .before .before .loop .k * 4 + 4 ≤ length (c .before .before .before .loop .tail)
 room c =
-    let s = c .before .before .before .before .before .before .before .before .before .before in
+    let s = entryFromSlot c in
     let l = c .before .before .before .loop in
     let d = l .inv .3 in
     omega (
@@ -81,7 +110,7 @@ same-length-2 c = c .before .before .before .loop .inv .2
 
 returns : tie.Need-returns Inv-loop μ-loop
 returns c =
-    let s = c .before .before .before .before .before .before .before .before .before .before in
+    let s = entryFromEnumTold c in
     let a = s .args in
     let l = c .before .before .before .loop in
     let d = l .inv .3 in
@@ -98,7 +127,7 @@ element-copy-out-t c = few (c .before)
 
 lay-back-requires : tie.Need-lay-back-requires Inv-loop μ-loop
 lay-back-requires c κs =
-    let p = c .before .before .before .before .before .before .before .before .before .before .before .before .before .before .pre in
+    let p = entryFromLayBackArg c .pre in
     (p .0 .0 .ranged _ (next (c .before .before .before .before) .0), c .before .before .before .before .before .before .before .loop .inv .1 ∙ p .1 .0)
 
 mul-id : tie.Need-mul-id Inv-loop μ-loop
@@ -108,26 +137,26 @@ array-copy-out-id : tie.Need-array-copy-out-id Inv-loop μ-loop
 array-copy-out-id c = few (c .before .before .before .before .before .before .before)
 
 mul-put-abort : tie.Need-mul-put-abort Inv-loop μ-loop
-mul-put-abort c = omega (arith, room (c .before .before .before .before .before .before .before .before .before), c .before .before .before .before .before .before .before .before .before .before .before .before .loop .inv .2, c .before .before .before .before .before .before .before .before .before .before .before .before .before .before .before .before .before .before .before .pre .1 .1)
+mul-put-abort c = omega (arith, room (afterSlotFromPutAbortArg c), turnFromPutAbortArg c .loop .inv .2, entryFromPutAbortArg c .pre .1 .1)
 
 put-abort-requires : tie.Need-put-abort-requires Inv-loop μ-loop
-put-abort-requires c κs = room (c .before .before .before .before .before .before .before .before .before)
+put-abort-requires c κs = room (afterSlotFromPutAbortArg c)
 
 add-k : tie.Need-add-k Inv-loop μ-loop
-add-k c = omega (arith, room (c .before .before .before .before .before .before .before .before .before .before .before .before), c .before .before .before .before .before .before .before .before .before .before .before .before .before .before .before .loop .inv .2, c .before .before .before .before .before .before .before .before .before .before .before .before .before .before .before .before .before .before .before .before .before .before .pre .1 .1)
+add-k c = omega (arith, room (afterSlotFromSliceKnown4 c), turnFromSliceKnown4 c .loop .inv .2, entryFromSliceKnown4 c .pre .1 .1)
 
 array-write-found : tie.Need-array-write-found Inv-loop μ-loop
-array-write-found c = few (c .before .before .before .before .before .before .before .before .before .before .before .before)
+array-write-found c = few (afterSlotFromSliceKnown4 c)
 
 loop-less : tie.Need-loop-less Inv-loop μ-loop
-loop-less c = omega (arith, ap length (next (c .before .before .before .before .before .before .before .before .before .before .before .before) .1))
+loop-less c = omega (arith, ap length (next (afterSlotFromSliceKnown4 c) .1))
 
 loop-again : tie.Need-loop-again Inv-loop μ-loop
 loop-again c =
-    let a = c .before .before .before .before .before .before .before .before .before .before .before .before .before .before .before .before .before .before .before .before .before .before .args in
-    let q = c .before .before .before .before .before .before .before .before .before .before .before .before .before .before .before .before .before .before .before .before .before .before .pre in
-    let l = c .before .before .before .before .before .before .before .before .before .before .before .before .before .before .before .loop in
-    let f = c .before .before .before .before .before .before .before .before .before .before .before .before in
+    let a = entryFromSliceKnown4 c .args in
+    let q = entryFromSliceKnown4 c .pre in
+    let l = turnFromSliceKnown4 c .loop in
+    let f = afterSlotFromSliceKnown4 c in
     let i = f .slot .given .0 .0 in
     let d = l .inv .3 in
     let t = transactionAt (a .t1) i in
