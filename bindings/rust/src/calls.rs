@@ -1,5 +1,18 @@
 //! The proved calls, made safe: lengths by type, buffers that cannot overlap, refusals by name.
 //!
+//! A buffer of another length is no argument, and one that a call may change can't be lent a second time:
+//!
+//! ```compile_fail,E0308
+//! # use luppaneth::calls::*;
+//! let (memory, tail) = ([0; 4_095], [0; TAIL_LEN]);
+//! State::unrecovered().begin(&memory, &tail);
+//! ```
+//! ```compile_fail,E0502
+//! # use luppaneth::calls::*;
+//! let (mut memory, tail) = ([0; MEMORY_LEN], [0; TAIL_LEN]);
+//! State::unrecovered().write(&mut memory, &tail, TxId(1), 0, &memory[8..16]);
+//! ```
+//!
 //! Whoever uses these calls owns the buffers and brings the disk's new bytes to the device; [`Store`](crate::Store) does both. The calls
 //! are those of document 01, and the contract of each, for every input, is in crates/embed.
 

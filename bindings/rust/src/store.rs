@@ -19,6 +19,12 @@ const WRITES_MAX: usize = 16;
 /// Openings so far, of all stores of this process: each booking is of one of them.
 static OPENINGS: AtomicU64 = AtomicU64::new(0);
 
+/// The bytes up to the last that isn't 0.
+fn used(bytes: &[u8]) -> usize {
+    let last = bytes.iter().rposition(|&byte| byte != 0);
+    last.map_or(0, |last| last + 1)
+}
+
 /// The state and the buffers that go with it.
 struct Working {
     state: State,
@@ -106,11 +112,7 @@ impl<D: Device> Store<D> {
             tail: zeros(),
         };
         device.load(&mut w.disk).map_err(Error::Device)?;
-        let used = w
-            .disk
-            .iter()
-            .rposition(|&byte| byte != 0)
-            .map_or(0, |last| last + 1);
+        let used = used(&*w.disk);
         w.state
             .restart(&mut w.disk, &mut w.memory, &mut w.tail, ALL)?;
         let end = LOG_START + w.state.log_end();
@@ -232,12 +234,7 @@ impl<D: Device> Store<D> {
         self.usable()?;
         let w = &self.working;
         // A group's last byte is never 0, and behind the groups stand zeros.
-        let waiting = w
-            .tail
-            .iter()
-            .rposition(|&byte| byte != 0)
-            .map_or(0, |last| last + 1);
-        Ok(LOG_LEN - w.state.log_end() - waiting)
+        Ok(LOG_LEN - w.state.log_end() - used(&*w.tail))
     }
 
     /// Carries the pattern over to a fresh device, for when the log is full: books all of it there, in eight bookings, and flushes. This store's
