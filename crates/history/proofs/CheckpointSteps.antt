@@ -9,7 +9,8 @@ use lib.ListN.{length, take, drop}
 use lib.Seq.{take-append-add, drop-drop}
 use borrow.Author.Tests.{ne-eqb}
 use Rattle.recovery.specs.Group.{groupsSize}
-use Rattle.recovery.specs.Machine.{Disk, Live, down, up, checkpoints, checkpointIsCut, afterCheckpoint, withoutRedo}
+use Rattle.recovery.specs.Machine.{Disk, standingBefore, standingIn, Live, down, up, checkpoints, checkpointIsCut, afterCheckpoint, withoutRedo}
+use Rattle.recovery.proofs.Log.{checkpoint-stands}
 use Rattle.log.specs.Log.{readLog}
 use Rattle.log.specs.Stores.{apply}
 use Rattle.log.proofs.RoundTrip.{drop-take}
@@ -152,6 +153,10 @@ module _ (w : World) (d : Disk) (l : Live) (o : OnDisk (w .disk) d) (v : LiveOn 
     unfolding loadOf
     loads = rw (ne-eqb (pointerOf left) 0 above)
 
+    -- what stands in the log stays as it was
+    same-stands : standingIn (afterCheckpoint d l) ≡ standingIn d
+    same-stands = append-nil (standingBefore (afterCheckpoint d l)) ∙ checkpoint-stands d l
+
     shows-done : OnDisk left (afterCheckpoint d l)
     shows-done =
         let content : contentOf (loadOf (pointerOf left) left .decoded .image)
@@ -165,8 +170,8 @@ module _ (w : World) (d : Disk) (l : Live) (o : OnDisk (w .disk) d) (v : LiveOn 
               ∙ ap (map withoutRedo) (views ∙ ap (λ (x : Live). x .txs) (v .view));
           memory = ap (λ (x : Loaded). x .memory) loads ∙ restored .memory ∙ ap (λ (x : Live). x .memory) (v .view);
           csn = ap (λ (c : Content). c .ondisk) content ∙ ap (λ (x : Live). x .csn) (v .view);
-          place = ap (λ (c : Content). c .logend) content ∙ v .end;
-          log = ap (readLog 0) (new-log s (w .disk) m t a z h) ∙ o .log ∙ sym (append-nil (d .before ++ d .after));
+          place = ap (λ (c : Content). c .logend) content ∙ v .end ∙ ap groupsSize (sym (checkpoint-stands d l));
+          log = ap (readLog 0) (new-log s (w .disk) m t a z h) ∙ o .log ∙ sym same-stands;
         }
 
     done-follows : FollowsBy (up d l) (checkpoint a) (stepOf (checkpoint a) w)
@@ -185,7 +190,7 @@ module _ (w : World) (d : Disk) (l : Live) (o : OnDisk (w .disk) d) (v : LiveOn 
               fits = v .fits;
               sizes = v .sizes;
               view = v .view;
-              end = v .end ∙ ap groupsSize (sym (append-nil (d .before ++ d .after)));
+              end = v .end ∙ ap groupsSize (sym same-stands);
               zeros =
                   sym (drop-drop (s .logend) 17307 left) ∙ ap (drop (s .logend)) (new-log s (w .disk) m t a z h) ∙ drop-drop (s .logend) 17307 (w .disk)
                   ∙ v .zeros;

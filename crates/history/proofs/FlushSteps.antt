@@ -8,8 +8,9 @@ use lib.ListN.{length, take, drop, replicate, length-take, length-append, take-a
 use lib.Seq.{sets, sets-eq, length-take-le, take-all, take-at, drop-at, drop-drop}
 use Rattle.recovery.specs.Group.{Group, groupsSize, lastCsn, fitting}
 use Rattle.recovery.specs.Ledger as ledger
-use Rattle.recovery.specs.Machine.{Disk, Live, down, up, flushes, flushIsCut, storing, afterFlush}
+use Rattle.recovery.specs.Machine.{Disk, standingIn, Live, down, up, flushes, flushIsCut, storing, afterFlush}
 use Rattle.recovery.proofs.Groups.{groupsSize-append, fitting-all}
+use Rattle.recovery.proofs.Log.{stored-before, stored-stands}
 use Rattle.log.specs.Log.{readLog, encodeLog}
 use Rattle.log.specs.Stores.{apply, shifted}
 use Rattle.log.proofs.Parts.{encode-append, formed-first}
@@ -30,7 +31,7 @@ use Rattle.history.proofs.Padded.{padded, padded-front, padded-shifted}
 use Rattle.history.proofs.OnDisk.{OnDisk, same-front}
 use Rattle.history.proofs.Shows.{Neat, LiveOn, awake, rests, cut-rests, FollowsBy, refused-follows, flush-refuses}
 
-module _ (w : World) (d : Disk) (l : Live) (o : OnDisk (w .disk) d) (v : LiveOn w d l) (number : lastCsn 0 (d .before ++ d .after) ≡ w .state .ondisk .0)
+module _ (w : World) (d : Disk) (l : Live) (o : OnDisk (w .disk) d) (v : LiveOn w d l) (number : lastCsn 0 (standingIn d) ≡ w .state .ondisk .0)
     (k : ℕ) where
   abbrev s : State
   s = w .state
@@ -116,9 +117,9 @@ module _ (w : World) (d : Disk) (l : Live) (o : OnDisk (w .disk) d) (v : LiveOn 
         (sym (drop-drop (length new) at (w .disk)) ∙ ap (drop (length new)) (v .zeros) ∙ drop-zeros (length new) (16384 - s .logend))
 
     -- the groups that were stored whole are read after those that stood there
-    log-left : readLog 0 (drop 17307 left) ≡ (d .before ++ d .after) ++ fitting n firsts
+    log-left : readLog 0 (drop 17307 left) ≡ standingIn d ++ fitting n firsts
     log-left =
-        let gs = d .before ++ d .after in
+        let gs = standingIn d in
         let same : take (groupsSize gs) (drop 17307 left) ≡ take (groupsSize gs) (drop 17307 (w .disk)) =
         ap (λ (j : ℕ). take j (drop 17307 left)) (sym (v .end))
         ∙ sym (drop-take 17307 (s .logend) left)
@@ -132,8 +133,8 @@ module _ (w : World) (d : Disk) (l : Live) (o : OnDisk (w .disk) d) (v : LiveOn 
 
     shows-left : (gs : List Group) → fitting n firsts ≡ gs → OnDisk left (storing gs d)
     shows-left gs e =
-        same-front (w .disk) left d (storing gs d) o left-length (kept 17307 (omega arith)) refl refl
-        (log-left ∙ append-assoc (d .before) (d .after) (fitting n firsts) ∙ ap (λ (hs : List Group). d .before ++ (d .after ++ hs)) e)
+        same-front (w .disk) left d (storing gs d) o left-length (kept 17307 (omega arith)) refl (stored-before gs d)
+        (log-left ∙ ap (λ (hs : List Group). standingIn d ++ hs) e ∙ sym (stored-stands gs d))
 
   -- ---- the call
 
@@ -196,10 +197,7 @@ module _ (w : World) (d : Disk) (l : Live) (o : OnDisk (w .disk) d) (v : LiveOn 
                 omega (
                   arith,
                   v .end,
-                  groupsSize-append (d .before) (d .after),
-                  groupsSize-append (d .before) (d .after ++ gs),
-                  groupsSize-append
-                      (d .after) gs,
+                  ap groupsSize (stored-stands gs d) ∙ groupsSize-append (standingIn d) gs,
                   ap groupsSize firsts-same,
                 );
             zeros = zeros;

@@ -9,7 +9,7 @@ use lib.Seq.{sets}
 use borrow.Author.Tests.{eq-eqb}
 use Rattle.recovery.specs.Group.{Group, groupsSize}
 use Rattle.recovery.specs.Ledger.{Event, unchanged}
-use Rattle.recovery.specs.Machine.{Disk, Live, System, up, diskOf, Step, stays}
+use Rattle.recovery.specs.Machine.{Disk, standingIn, Live, System, up, diskOf, Step, stays}
 use Rattle.log.specs.Group.{encodeGroup}
 use Rattle.log.specs.Log.{readLog, encodeLog}
 use Rattle.log.proofs.Parts.{encode-append}
@@ -46,7 +46,7 @@ pub record LiveOn (w : World) (d : Disk) (l : Live) : Type 0 where
   pub fits : unfit (w .state) (w .tail) ≡ false
   pub sizes : SizedState (w .state)
   pub view : live (w .state) (w .memory) (w .tail) ≡ l
-  pub end : w .state .logend ≡ groupsSize (d .before ++ d .after)
+  pub end : w .state .logend ≡ groupsSize (standingIn d)
   pub zeros : drop (17307 + w .state .logend) (w .disk) ≡ replicate (16384 - w .state .logend) 0
   pub neat : Neat (w .state .ondisk .0) (w .tail)
 

@@ -6,10 +6,12 @@ use mathlib.Core.Path.{_≡_, refl, sym, ap, _∙_}
 use lib.ListN.{length}
 use Rattle.recovery.specs.Group.{groupsSize, lastCsn}
 use Rattle.recovery.specs.Ledger.{Event, settled, Ledger, committedIn, latest}
-use Rattle.recovery.specs.Machine.{Disk, Live, System, down, up, diskOf, openingDisk, undoneBy, Step, stays, begins, writes, precommits, rollsBack}
-use Rattle.recovery.specs.Machine.{flushes, flushIsCut, settles, checkpoints, checkpointIsCut, restarts, restartIsCut, Run, opened, next}
+use Rattle.recovery.specs.Machine.{Disk, standingBefore, standingIn, Live, System, down, up, diskOf, openingDisk, undoneBy, Step, stays, begins}
+use Rattle.recovery.specs.Machine.{writes, precommits, rollsBack, flushes, flushIsCut, settles, checkpoints, checkpointIsCut, restarts, restartIsCut, Run, opened, next}
 use Rattle.recovery.specs.Claim.{commits}
-use Rattle.recovery.proofs.Numbers.{Numbers, last-on-disk}
+use Rattle.recovery.proofs.Groups.{lastCsn-append}
+use Rattle.recovery.proofs.Numbers.{Numbers}
+use Rattle.recovery.proofs.Log.{form-one}
 use Rattle.recovery.proofs.Invariant.{Inv}
 use Rattle.recovery.proofs.Theorem.{holds, theorem, settled-found}
 use Rattle.log.specs.Log.{readLog}
@@ -37,15 +39,19 @@ module _ (s : System) (k : Ledger) (r : Run opens s k) where
   numbers : Numbers opens (diskOf s)
   numbers = numbersIn s k (holds opens r)
 
-  image-number : lastCsn 0 (diskOf s .before) ≡ diskOf s .image .csn
-  image-number = sym (numbers .image)
+  image-number : lastCsn 0 (standingBefore (diskOf s)) ≡ diskOf s .image .csn
+  image-number = ap (lastCsn 0) (form-one (diskOf s)) ∙ sym (numbers .image)
 
-  room : groupsSize (diskOf s .before ++ diskOf s .after) + 4 * length (undoneBy (diskOf s)) ≤ 16384
+  room : groupsSize (standingIn (diskOf s)) + 4 * length (undoneBy (diskOf s)) ≤ 16384
   room = theorem opens r .fits
 
 -- the last number in the log is the state's number on disk
-last-number : (w : World) (d : Disk) (l : Live) (k : Ledger) → Run opens (up d l) k → LiveOn w d l → lastCsn 0 (d .before ++ d .after) ≡ w .state .ondisk .0
-last-number w d l k r v = last-on-disk opens d (numbers (up d l) k r) ∙ sym (holds opens r .standing .onDisk) ∙ ap (λ (x : Live). x .csn) (sym (v .view))
+last-number : (w : World) (d : Disk) (l : Live) (k : Ledger) → Run opens (up d l) k → LiveOn w d l → lastCsn 0 (standingIn d) ≡ w .state .ondisk .0
+last-number w d l k r v =
+    lastCsn-append 0 (standingBefore d) (d .after)
+    ∙ ap (λ (n : ℕ). lastCsn n (d .after)) (image-number (up d l) k r)
+    ∙ sym (holds opens r .standing .onDisk)
+    ∙ ap (λ (x : Live). x .csn) (sym (v .view))
 
 -- ---- each call is a step
 
