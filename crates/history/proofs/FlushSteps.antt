@@ -28,10 +28,11 @@ use Rattle.store.proofs.Checkpointing.{sets-before}
 use Rattle.store.proofs.Stepping.{same-or-other}
 use Rattle.history.specs.Calls.{flush, stored, World, stepOf}
 use Rattle.history.proofs.Padded.{padded, padded-front, padded-shifted}
-use Rattle.history.proofs.OnDisk.{OnDisk, same-front}
+use Rattle.history.proofs.OnDisk.{Start, OnDisk, same-front}
 use Rattle.history.proofs.Shows.{Neat, LiveOn, awake, rests, cut-rests, FollowsBy, refused-follows, flush-refuses}
 
-module _ (w : World) (d : Disk) (l : Live) (o : OnDisk (w .disk) d) (v : LiveOn w d l) (number : lastCsn 0 (standingIn d) ≡ w .state .ondisk .0)
+module _ {from : Start} (w : World) (d : Disk) (l : Live) (o : OnDisk from (w .disk) d) (v : LiveOn w d l)
+    (number : lastCsn (from .csn) (standingIn d) ≡ w .state .ondisk .0)
     (k : ℕ) where
   abbrev s : State
   s = w .state
@@ -117,7 +118,7 @@ module _ (w : World) (d : Disk) (l : Live) (o : OnDisk (w .disk) d) (v : LiveOn 
         (sym (drop-drop (length new) at (w .disk)) ∙ ap (drop (length new)) (v .zeros) ∙ drop-zeros (length new) (16384 - s .logend))
 
     -- the groups that were stored whole are read after those that stood there
-    log-left : readLog 0 (drop 17307 left) ≡ standingIn d ++ fitting n firsts
+    log-left : readLog (from .csn) (drop 17307 left) ≡ standingIn d ++ fitting n firsts
     log-left =
         let gs = standingIn d in
         let same : take (groupsSize gs) (drop 17307 left) ≡ take (groupsSize gs) (drop 17307 (w .disk)) =
@@ -126,12 +127,12 @@ module _ (w : World) (d : Disk) (l : Live) (o : OnDisk (w .disk) d) (v : LiveOn 
         ∙ ap (drop 17307) (kept at (omega arith))
         ∙ drop-take 17307 (s .logend) (w .disk)
         ∙ ap (λ (j : ℕ). take j (drop 17307 (w .disk))) (v .end) in
-        log-same 0 gs (drop 17307 (w .disk)) (drop 17307 left) (o .log) same
+        log-same (from .csn) gs (drop 17307 (w .disk)) (drop 17307 left) (o .log) same
         ∙ ap (λ (hs : List Group). gs ++ hs)
         (ap₂ readLog number (drop-drop (groupsSize gs) 17307 left ∙ ap (λ (j : ℕ). drop (17307 + j) left) (sym (v .end)) ∙ behind)
         ∙ log-cut (s .ondisk .0) firsts n (16384 - s .logend - length new) (formed-first k (s .ondisk .0) groups (log-formed (s .ondisk .0) groups t refl)))
 
-    shows-left : (gs : List Group) → fitting n firsts ≡ gs → OnDisk left (storing gs d)
+    shows-left : (gs : List Group) → fitting n firsts ≡ gs → OnDisk from left (storing gs d)
     shows-left gs e =
         same-front (w .disk) left d (storing gs d) o left-length (kept 17307 (omega arith)) refl (stored-before gs d)
         (log-left ∙ ap (λ (hs : List Group). standingIn d ++ hs) e ∙ sym (stored-stands gs d))
@@ -141,12 +142,12 @@ module _ (w : World) (d : Disk) (l : Live) (o : OnDisk (w .disk) d) (v : LiveOn 
   firsts-same : firsts ≡ take k (l .tail)
   firsts-same = ap (take k) tail-same
 
-  cut-follows : (a : ℕ) → diskNumber s (w .disk) (w .memory) t ≡ 0 → a < size → FollowsBy (up d l) (flush k a) (stepOf (flush k a) w)
+  cut-follows : (a : ℕ) → diskNumber s (w .disk) (w .memory) t ≡ 0 → a < size → FollowsBy from (up d l) (flush k a) (stepOf (flush k a) w)
   unfolding stepOf flushOf
   cut-follows a z h =
       let e = stored-cut s (w .disk) (w .memory) t (flushPlan s (w .memory) t k) a z (omega (arith, flush-length s t k, h)) in
       let few : a < groupsSize (take k (l .tail)) = omega (arith, h, ap groupsSize firsts-same) in
-      subst (FollowsBy (up d l) (flush k a)) (sym (ap stored e))
+      subst (FollowsBy from (up d l) (flush k a)) (sym (ap stored e))
       (record {
         next = down (storing (fitting a (take k (l .tail))) d);
         step = flushIsCut d l k a few;
@@ -156,7 +157,7 @@ module _ (w : World) (d : Disk) (l : Live) (o : OnDisk (w .disk) d) (v : LiveOn 
         );
       })
 
-  done-follows : (a : ℕ) → diskNumber s (w .disk) (w .memory) t ≡ 0 → size ≤ a → FollowsBy (up d l) (flush k a) (stepOf (flush k a) w)
+  done-follows : (a : ℕ) → diskNumber s (w .disk) (w .memory) t ≡ 0 → size ≤ a → FollowsBy from (up d l) (flush k a) (stepOf (flush k a) w)
   unfolding stepOf flushOf
   done-follows a z h =
       let e = stored-done s (w .disk) (w .memory) t (flushPlan s (w .memory) t k) a z (omega (arith, flush-length s t k, h)) in
@@ -172,7 +173,7 @@ module _ (w : World) (d : Disk) (l : Live) (o : OnDisk (w .disk) d) (v : LiveOn 
       ∙ ap (drop size) (behind a)
       ∙ drop-at (new a) (replicate (16384 - s .logend - length (new a)) 0) size n
       ∙ ap (λ (j : ℕ). replicate j 0) rest in
-      subst (FollowsBy (up d l) (flush k a)) (sym (ap stored e))
+      subst (FollowsBy from (up d l) (flush k a)) (sym (ap stored e))
       (record {
         next = up (storing gs d) (afterFlush k l);
         step = flushes d l k a enough;
@@ -206,7 +207,7 @@ module _ (w : World) (d : Disk) (l : Live) (o : OnDisk (w .disk) d) (v : LiveOn 
         );
       })
 
-  pub flush-follows : (a : ℕ) → FollowsBy (up d l) (flush k a) (stepOf (flush k a) w)
+  pub flush-follows : (a : ℕ) → FollowsBy from (up d l) (flush k a) (stepOf (flush k a) w)
   flush-follows a =
       same-or-other (diskNumber s (w .disk) (w .memory) t) 0
       (λ z. elim (decLe size a) [ yes h ↦ done-follows a z h | no h ↦ cut-follows a z (omega (arith, h)) ])

@@ -11,7 +11,7 @@ use Rattle.recovery.specs.Group.{Group, groupsSize, lastCsn}
 use Rattle.recovery.specs.Transaction.{Tx}
 use Rattle.recovery.specs.Replay.{layBytes}
 use Rattle.recovery.specs.Restart.{undone, aborts, recover}
-use Rattle.recovery.specs.Machine.{Opening, freshOpening, Disk, standingBefore, standingIn, openingDisk, undoneBy, recovered}
+use Rattle.recovery.specs.Machine.{Opening, Disk, standingBefore, standingIn, openingDisk, undoneBy, recovered}
 use Rattle.recovery.proofs.Groups.{groupsSize-append}
 use Rattle.recovery.proofs.Log.{opening-stands}
 use Rattle.log.specs.Log.{readLog, encodeLog}
@@ -33,7 +33,17 @@ use Rattle.disk.proofs.Examining.{keeps, means}
 use Rattle.disk.proofs.Accepted.{imageIn, memoryIn, logIn, stepsIn, Accepted}
 use Rattle.history.proofs.Padded.{padded}
 
-pub record OnDisk (disk : List ℕ) (d : Disk) : Type 0 where
+-- What a history of this store opens from: a memory of 4,096 bytes and the last commit number, as an image without transactions has them.
+pub record Start : Type 0 where
+  pub memory : List ℕ
+  pub csn : ℕ
+  pub sized : length memory ≡ 4096
+
+-- in the machine's words, with 16,384 bytes of log
+abbrev pub opens : Start → Opening
+opens from = record { size = 4096; capacity = 16384; memory = from .memory; csn = from .csn; sized = from .sized }
+
+pub record OnDisk (from : Start) (disk : List ℕ) (d : Disk) : Type 0 where
   pub long : length disk ≡ 33691
   pub low : pointerOf disk ≤ 2
   pub ok : loadOf (pointerOf disk) disk .decoded .ok ≡ true
@@ -41,13 +51,13 @@ pub record OnDisk (disk : List ℕ) (d : Disk) : Type 0 where
   pub memory : memoryIn disk ≡ d .image .memory
   pub csn : imageIn disk .ondisk .0 ≡ d .image .csn
   pub place : imageIn disk .logend ≡ groupsSize (standingBefore d)
-  pub log : readLog 0 (logFrom 0 disk) ≡ standingIn d
+  pub log : readLog (from .csn) (logFrom 0 disk) ≡ standingIn d
 
--- the opening of demand 3's lists: 4,096 bytes of memory, 16,384 of log, all zero
-abbrev pub opens : Opening
-opens = freshOpening 4096 16384
+-- An all-zero disk: without an image, memory is zero and the last commit number 0.
+abbrev pub fresh : Start
+fresh = record { memory = replicate 4096 0; csn = 0; sized = length-replicate {A = ℕ} 4096 0 }
 
-pub fresh-shows : OnDisk (replicate 33691 0) (openingDisk opens)
+pub fresh-shows : OnDisk fresh (replicate 33691 0) (openingDisk (opens fresh))
 unfolding loadOf emptyImage
 fresh-shows = record {
   long = length-replicate {A = ℕ} 33691 0;
@@ -56,14 +66,14 @@ fresh-shows = record {
   txs = refl;
   memory = refl;
   csn = refl;
-  place = ap groupsSize (sym (opening-stands opens));
-  log = ap (readLog 0) (drop-zeros 17307 33691) ∙ log-zeros 0 16384 ∙ ap (λ (gs : List Group). gs ++ []) (sym (opening-stands opens));
+  place = ap groupsSize (sym (opening-stands (opens fresh)));
+  log = ap (readLog 0) (drop-zeros 17307 33691) ∙ log-zeros 0 16384 ∙ ap (λ (gs : List Group). gs ++ []) (sym (opening-stands (opens fresh)));
 }
 
 -- ---- a disk whose image in use is the same
 
-pub same-image : (x y : List ℕ) (d e : Disk) → OnDisk x d → length y ≡ 33691 → pointerOf y ≡ pointerOf x → loadOf (pointerOf x) y ≡ loadOf (pointerOf x) x
-    → e .image ≡ d .image → standingBefore e ≡ standingBefore d → readLog 0 (logFrom 0 y) ≡ standingIn e → OnDisk y e
+pub same-image : {from : Start} (x y : List ℕ) (d e : Disk) → OnDisk from x d → length y ≡ 33691 → pointerOf y ≡ pointerOf x → loadOf (pointerOf x) y ≡ loadOf (pointerOf x) x
+    → e .image ≡ d .image → standingBefore e ≡ standingBefore d → readLog (from .csn) (logFrom 0 y) ≡ standingIn e → OnDisk from y e
 same-image x y d e o long p l i b log =
     let f : loadOf (pointerOf y) y ≡ loadOf (pointerOf x) x = ap (λ (q : ℕ). loadOf q y) p ∙ l in
     record {
@@ -89,19 +99,19 @@ front-load : (x y : List ℕ) → take 17307 x ≡ take 17307 y → (pointer : �
 unfolding loadOf
 front-load x y e pointer = let s = slot-within pointer in rw (part-same x y e (imageAt pointer) 8653 (omega arith))
 
-pub same-front : (x y : List ℕ) (d e : Disk) → OnDisk x d → length y ≡ 33691 → take 17307 y ≡ take 17307 x
-    → e .image ≡ d .image → standingBefore e ≡ standingBefore d → readLog 0 (logFrom 0 y) ≡ standingIn e → OnDisk y e
+pub same-front : {from : Start} (x y : List ℕ) (d e : Disk) → OnDisk from x d → length y ≡ 33691 → take 17307 y ≡ take 17307 x
+    → e .image ≡ d .image → standingBefore e ≡ standingBefore d → readLog (from .csn) (logFrom 0 y) ≡ standingIn e → OnDisk from y e
 same-front x y d e o long f =
     let p : pointerOf y ≡ pointerOf x = sym (getD-take 17307 y 0 0 (omega arith)) ∙ ap (λ (z : List ℕ). getD z 0 0) f ∙ getD-take 17307 x 0 0 (omega arith) in
     same-image x y d e o long p (front-load y x f (pointerOf x))
 
 -- ---- the groups after the image
 
-module _ (disk : List ℕ) (d : Disk) (o : OnDisk disk d) (n : lastCsn 0 (standingBefore d) ≡ d .image .csn) where
+module _ {from : Start} (disk : List ℕ) (d : Disk) (o : OnDisk from disk d) (n : lastCsn (from .csn) (standingBefore d) ≡ d .image .csn) where
   pub groups-after : groupsOf (imageIn disk) (logIn disk) ≡ d .after
   groups-after =
       ap₂ readLog (o .csn ∙ sym n) (ap (λ (k : ℕ). drop (17307 + k) disk) (o .place) ∙ sym (drop-drop (groupsSize (standingBefore d)) 17307 disk))
-      ∙ log-split 0 (standingBefore d) (d .after) (drop 17307 disk) (o .log)
+      ∙ log-split (from .csn) (standingBefore d) (d .after) (drop 17307 disk) (o .log)
 
   pub undone-shown : restarts.undoneBy (imageIn disk) (logIn disk) ≡ undoneBy d
   undone-shown =
