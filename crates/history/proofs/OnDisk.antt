@@ -72,8 +72,8 @@ fresh-shows = record {
 
 -- ---- a disk whose image in use is the same
 
-pub same-image : {from : Start} (x y : List ℕ) (d e : Disk) → OnDisk from x d → length y ≡ 33691 → pointerOf y ≡ pointerOf x → loadOf (pointerOf x) y ≡ loadOf (pointerOf x) x
-    → e .image ≡ d .image → standingBefore e ≡ standingBefore d → readLog (from .csn) (logFrom 0 y) ≡ standingIn e → OnDisk from y e
+pub same-image : {from : Start} (x y : List ℕ) (d e : Disk) → OnDisk from x d → length y ≡ 33691 → pointerOf y ≡ pointerOf x
+    → loadOf (pointerOf x) y ≡ loadOf (pointerOf x) x → e .image ≡ d .image → standingBefore e ≡ standingBefore d → readLog (from .csn) (logFrom 0 y) ≡ standingIn e → OnDisk from y e
 same-image x y d e o long p l i b log =
     let f : loadOf (pointerOf y) y ≡ loadOf (pointerOf x) x = ap (λ (q : ℕ). loadOf q y) p ∙ l in
     record {
