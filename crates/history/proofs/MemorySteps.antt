@@ -2,44 +2,35 @@
 use Prim.Native.Nat.{ℕ, suc, _+_, _-_, _≤_, _<_}
 use native.Mathlib.Omega.{arith}
 use native.Mathlib.Numerals.{add-one}
-use mathlib.Core.Bool.{Bool, true, false, _||_}
-use mathlib.Core.List.{List, [], _∷_}
+use mathlib.Core.Bool.{true, false}
+use mathlib.Core.List.{List}
 use mathlib.Core.Path.{_≡_, refl, sym, ap, ap₂, _∙_, subst}
 use lib.ListN.{length, drop, replicate}
 use lib.Seq.{sets, length-sets}
-use lib.Dec.{eqb, ltb}
-use borrow.Author.Tests.{ne-eqb, eqb-false, ltb-false}
 use Rattle.recovery.specs.Group.{Write, Group, aborted, groupsSize}
-use Rattle.recovery.specs.Lists.{any}
 use Rattle.recovery.specs.Transaction.{Tx as Transaction, running, lookup, heldByOther, reserved}
 use Rattle.recovery.specs.Ledger as ledger
 use Rattle.recovery.specs.Machine as machine
 use Rattle.recovery.specs.Machine.{Disk, Live, up, Listed, lastAssigned, Step, begins, writes, precommits, rollsBack, settles, afterBegin, afterWrite}
 use Rattle.recovery.specs.Machine.{afterPrecommit, afterAbort, afterSettle}
-use Rattle.recovery.proofs.Bool.{or-left, or-right}
 use Rattle.recovery.proofs.Byte.{undo-length}
 use Rattle.recovery.specs.Replay.{undoAll, layBytes}
 use Rattle.log.specs.declared.TxId.{TxId}
 use Rattle.log.specs.Group.{encodeGroup}
 use Rattle.transaction.specs.View.{writesOf, viewOf}
-use Rattle.transaction.specs.Rules.{heldAgainst}
-use Rattle.image.proofs.Rules.{image-count}
 use Rattle.store.specs.declared.State.{State}
 use Rattle.store.specs.Answer.{Told}
-use Rattle.store.specs.State.{imageOf, txsOf, slotOf}
+use Rattle.store.specs.State.{slotOf}
 use Rattle.store.specs.Rules.{tailLength, roomUsed}
-use Rattle.store.specs.Numbers.{check, txOf, check8, check9, check10, beginChecks, writeChecks, precommitChecks, abortChecks, settleChecks}
+use Rattle.store.specs.Numbers.{txOf}
 use Rattle.store.specs.Steps.{begunState, writtenState, precommittedState, droppedState}
 use Rattle.store.specs.Calls.{Outcome, beginNumber, writeNumber, precommitNumber, abortNumber, settleNumber, appended}
 use Rattle.store.specs.View.{live}
-use Rattle.store.proofs.Checks.{passed}
-use Rattle.store.proofs.Fits.{Fit, fit, status-at}
-use Rattle.store.proofs.Choosing as choosing
-use Rattle.store.proofs.Choosing.{Running, listed-slot, ranged-by-8}
+use Rattle.store.proofs.Fits.{Fit, fit}
+use Rattle.store.proofs.Passing.{RunningPassed, begin-passed, write-passed, precommit-passed, abort-passed, settle-passed}
 use Rattle.store.proofs.Calling.{begin-done, write-done, precommit-done, abort-done, settle-done}
 use Rattle.store.proofs.Stepping.{same-or-other}
-use Rattle.store.proofs.Admitting.{unrefused}
-use Rattle.store.proofs.Views.{begin-free, listed-view, tail-csn, commitOf, commit-appends, abort-appends, begin-live, write-live, precommit-live}
+use Rattle.store.proofs.Views.{listed-view, tail-csn, commitOf, commit-appends, abort-appends, begin-live, write-live, precommit-live}
 use Rattle.store.proofs.Views.{abort-live, settle-live}
 use Rattle.store.proofs.Premises.{held-view, room-view}
 use Rattle.store.proofs.Keeping.{Kept, begin-keeps, write-keeps, precommit-keeps, abort-keeps, settle-keeps}
@@ -118,12 +109,11 @@ module _ {from : Start} (w : World) (d : Disk) (l : Live) (o : OnDisk from (w .d
   begin-follows =
       same-or-other (beginNumber s m t) 0
       (λ z.
-      let x = unrefused s (length m) t (beginChecks (s .count) (s .lastid .0) (roomUsed s t)) z in
-      let b = begin-free s (roomUsed s t) (image-count (imageOf s) (x .fits .image)) (x .own) in
+      let p = begin-passed s m t z in
       let e = begin-done s m t z in
       follows begin (returned w _) (ledger.begun (suc (l .lastId))) (afterBegin l) (ap (returned w) e)
       (ap ledger.begun (add-one (s .lastid .0) ∙ ap suc last-id))
-      (begins d l (omega (arith, b .1, room))) o
+      (begins d l (omega (arith, p .room, room))) o
       (lives (begunState s) m t (afterBegin l) (begun-same s) (v .memory) (v .tail) (subst (λ (r : Told). Kept (r .state) t) e (begin-keeps s m t (v .sizes) z))
       (ap (λ (r : Told). live (r .state) m t) (sym e) ∙ begin-live s m t (v .sizes) z ∙ ap afterBegin (v .view)) (v .neat)))
       (λ h. refused-follows (up d l) w begin (o, awake v) (begin-refuses w h))
@@ -140,30 +130,23 @@ module _ {from : Start} (w : World) (d : Disk) (l : Live) (o : OnDisk from (w .d
     listed : slotOf s id < s .count → txOf s id .id .0 ≡ id → Listed tx (l .txs)
     listed h n = ap₂ (λ (i : ℕ) (x : Live). lookup i (x .txs)) n (sym (v .view)) ∙ listed-view s m t id h
 
-    isRunning : Running s id → tx .committing ≡ false
-    isRunning r = ne-eqb (txOf s id .status) 2 (r .notCommitting)
+    isRunning : RunningPassed s m t id → tx .committing ≡ false
+    isRunning r = rw (r .status)
 
     pub write-follows : (a : ℕ) (bs : List ℕ) → FollowsBy from (up d l) (write id a bs) (stepOf (write id a bs) w)
     unfolding stepOf
     write-follows a bs =
         same-or-other (writeNumber s m t tid a (length bs)) 0
         (λ z.
-        let n = length bs in
         let new : Write = record { addr = a; bytes = bs } in
-        let x = unrefused s (length m) t (writeChecks s (roomUsed s t) id a n) z in
-        let last = check10 s id ∷ check 13 (ltb 16384 (roomUsed s t + (7 + n))) ∷ [] in
-        let p = choosing.running s id (check8 a n ∷ check9 s id a n ∷ last) (x .own) in
-        let r = p .0 in
-        let g = ranged-by-8 a n (check9 s id a n ∷ last) (p .1) in
-        let q = passed 9 (any (heldAgainst id a n) (txsOf s)) last (omega arith) (g .3) in
-        let q' = passed 10 (eqb (txOf s id .undo .count) 16) (check 13 (ltb 16384 (roomUsed s t + (7 + n))) ∷ []) (omega arith) (q .1) in
-        let q'' = passed 13 (ltb 16384 (roomUsed s t + (7 + n))) [] (omega arith) (q' .1) in
+        let p = write-passed s m t tid a (length bs) z in
+        let r = p .runs in
         let free : heldByOther (tx .id) new (l .txs) ≡ false =
-        ap₂ (λ (i : ℕ) (y : Live). heldByOther i new (y .txs)) (r .named) (sym (v .view)) ∙ sym (held-view s m t (v .sizes) fits id a bs) ∙ q .0 in
+        ap₂ (λ (i : ℕ) (y : Live). heldByOther i new (y .txs)) (r .named) (sym (v .view)) ∙ sym (held-view s m t (v .sizes) fits id a bs) ∙ p .free in
         let e = write-done s m t tid a bs z in
         follows (write id a bs) (changed w _) (ledger.wrote (tx .id) new) (afterWrite tx new l) (ap (changed w) e)
         (ap (λ (i : ℕ). ledger.wrote i new) (sym (r .named)))
-        (writes d l tx new (listed (r .listed) (r .named)) (isRunning r) (g .2) free (omega (arith, ltb-false 16384 (roomUsed s t + (7 + n)) (q'' .0), room))) o
+        (writes d l tx new (listed (r .listed) (r .named)) (isRunning r) (p .range .within) free (omega (arith, p .room, room))) o
         (lives (writtenState s (slotOf s id) m a bs) (sets m a bs) t (afterWrite tx new l) (written-same s (slotOf s id) m a bs)
         (length-sets m a bs ∙ v .memory) (v .tail)
         (subst (λ (y : Outcome). Kept (y .result .state) (y .tail)) e (write-keeps s m t (v .sizes) tid a bs z))
@@ -177,9 +160,8 @@ module _ {from : Start} (w : World) (d : Disk) (l : Live) (o : OnDisk from (w .d
     precommit-follows =
         same-or-other (precommitNumber s m t tid) 0
         (λ z.
-        let x = unrefused s (length m) t (precommitChecks s id) z in
-        let r = choosing.running s id (check 12 (eqb (s .assigned .0) 4294967295) ∷ []) (x .own) .0 in
-        let y = commit-appends s t id (v .sizes) (v .tail) fits r in
+        let r = precommit-passed s m t tid z .runs in
+        let y = commit-appends s m t id r (v .sizes) in
         let n : s .assigned .0 + 1 ≡ suc (lastAssigned l) =
         add-one (s .assigned .0) ∙ ap suc (sym (tail-csn s t fits) ∙ ap (λ (k : Live). lastAssigned k) (v .view)) in
         let e = precommit-done s m t tid z in
@@ -198,9 +180,8 @@ module _ {from : Start} (w : World) (d : Disk) (l : Live) (o : OnDisk from (w .d
     abort-follows =
         same-or-other (abortNumber s m t tid) 0
         (λ z.
-        let x = unrefused s (length m) t (abortChecks s id) z in
-        let r = choosing.running s id [] (x .own) .0 in
-        let y = abort-appends s t id (v .tail) fits r in
+        let r = abort-passed s m t tid z in
+        let y = abort-appends s m t id r in
         let e = abort-done s m t tid z in
         let g = aborted id in
         follows (abort id) (changed w _) (ledger.rolledBack (tx .id)) (afterAbort tx l) (ap (changed w) e) (ap ledger.rolledBack (sym (r .named)))
@@ -217,27 +198,14 @@ module _ {from : Start} (w : World) (d : Disk) (l : Live) (o : OnDisk from (w .d
     settle-follows =
         same-or-other (settleNumber s m t tid) 0
         (λ z.
-        let x = unrefused s (length m) t (settleChecks s id) z in
-        let one = eqb (txOf s id .status) 1 in
-        let late = ltb (s .ondisk .0) (txOf s id .csn .0) in
-        let p = listed-slot s id (check 14 (one || late) ∷ []) (x .own) in
-        let q = passed 14 (one || late) [] (omega arith) (p .2) in
-        let committing : tx .committing
-        ≡ true = settling (txOf s id .status) (eqb-false _ _ (or-left one late (q .0))) (status-at s t fits (slotOf s id) (p .0)) in
-        let on-disk : tx .csn ≤ l .csn = omega
-        (arith, ltb-false (s .ondisk .0) (txOf s id .csn .0) (or-right one late (q .0)), ap (λ (k : Live). k .csn) (v .view)) in
+        let p = settle-passed s m t tid z in
+        let committing : tx .committing ≡ true = rw (p .status) in
+        let on-disk : tx .csn ≤ l .csn = omega (arith, p .stored, ap (λ (k : Live). k .csn) (v .view)) in
         let e = settle-done s m t tid z in
-        follows (settle id) (returned w _) (ledger.settled (tx .id)) (afterSettle tx l) (ap (returned w) e) (ap ledger.settled (sym (p .1)))
-        (settles d l tx (listed (p .0) (p .1)) committing on-disk) o
+        follows (settle id) (returned w _) (ledger.settled (tx .id)) (afterSettle tx l) (ap (returned w) e) (ap ledger.settled (sym (p .named)))
+        (settles d l tx (listed (p .listed) (p .named)) committing on-disk) o
         (lives (droppedState s (slotOf s id)) m t (afterSettle tx l) (dropped-same s (slotOf s id)) (v .memory) (v .tail)
         (subst (λ (r : Told). Kept (r .state) t) e (settle-keeps s m t (v .sizes) tid z))
         (ap (λ (r : Told). live (r .state) m t) (sym e) ∙ settle-live s m t (v .sizes) tid z ∙ ap (afterSettle tx) (v .view))
         (v .neat)))
         (λ h. refused-follows (up d l) w (settle id) (o, awake v) (settle-refuses w id h))
-      where
-        settling : (n : ℕ) → (n ≡ 1 → ⊥) → ((n ≡ 2 → ⊥) → n ≡ 1) → eqb n 2 ≡ true
-        settling n h k = go (eqb n 2) refl
-          where
-            go : (b : Bool) → eqb n 2 ≡ b → b ≡ true
-            go true e = refl
-            go false e = absurd (h (k (eqb-false n 2 e)))

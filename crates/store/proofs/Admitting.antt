@@ -2,7 +2,7 @@
 use Prim.Native.Nat.{ℕ, zero, suc, _+_, _*_, _≤_, _<_}
 use native.Mathlib.Omega.{arith}
 use mathlib.Core.Bool.{Bool, true, false, cond, not, _&&_, _||_, or-true, and-false}
-use mathlib.Core.List.{List, [], _∷_}
+use mathlib.Core.List.{List, []}
 use mathlib.Core.Path.{_≡_, refl, sym, ap, _∙_, subst}
 use lib.ListN.{length, drop}
 use lib.Dec.{eqb, leb, ltb}
@@ -22,7 +22,7 @@ use Rattle.store.specs.declared.admit.Admission.{Admission}
 use Rattle.store.specs.State.{txAt, txsOf, outlineAt, outlinesOf}
 use Rattle.image.specs.Rules.{distinct, boundsOk, outlinesOk}
 use Rattle.store.specs.Rules.{allZero, tailLength, tailOk, roomUsed, unfit}
-use Rattle.store.specs.Numbers.{Check, check, firstNumber, sharedChecks, numberBy}
+use Rattle.store.specs.Numbers.{Check, firstNumber, sharedChecks, numberBy}
 use Rattle.store.specs.Admission.{notAdmitted, ruleBroken, countersOk, measuredIf, measuredTxs, measuredTail, admission, numberAfter, Seen}
 use Rattle.store.proofs.Fits.{Fit, fit, unfit-no, running-redo}
 use Rattle.store.proofs.Checks.{stops, passes, passed}
@@ -86,14 +86,6 @@ module _ (s : State) where
   unfolding measuredTxs
   txs-room r e o =
       ap (λ (x : Measured). x .room) e ∙ if-room (outlined && every redoOk (txsOf s)) (sumOf roomOf (txsOf s)) (sym (txs-measured r e) ∙ o)
-
--- a call that nothing refuses: neither its admission nor its own checks
-pub after-passed : (x : Admission) (cs : List Check) → numberAfter x cs ≡ 0 → (x .number ≡ 0) × (firstNumber cs ≡ 0)
-after-passed x cs = go (eqb (x .number) 0) refl
-  where
-    go : (b : Bool) → eqb (x .number) 0 ≡ b → cond b (firstNumber cs) (x .number) ≡ 0 → (x .number ≡ 0) × (firstNumber cs ≡ 0)
-    go true q e = (eqb-true (x .number) 0 q, e)
-    go false q e = absurd (eqb-false (x .number) 0 q e)
 
 -- ---- number 2
 
@@ -221,10 +213,14 @@ module _ (s : State) (lent : ℕ) (t : List ℕ) where
 
   pub unrefused : (cs : List Check) → numberBy s lent t cs ≡ 0 → Unrefused cs
   unrefused cs e =
-      let a = passed 1 (not (eqb lent 4096 && eqb (length t) 16384)) (check 2 (unfit s t) ∷ cs) (omega arith) e in
-      let b = passed 2 (unfit s t) cs (omega arith) (a .1) in
-      let l : eqb lent 4096 && eqb (length t) 16384 ≡ true = not-false _ (a .0) in
-      record { memory = eqb-true _ _ (and-left (eqb lent 4096) _ l); tail = eqb-true _ _ (and-right (eqb lent 4096) _ l); fits = fit s t (b .0); own = b .1 }
+      let p = passed (sharedChecks s lent t) cs refl e in
+      let l : eqb lent 4096 && eqb (length t) 16384 ≡ true = not-false _ (p .0 .0) in
+      record {
+        memory = eqb-true _ _ (and-left (eqb lent 4096) _ l);
+        tail = eqb-true _ _ (and-right (eqb lent 4096) _ l);
+        fits = fit s t (p .0 .1 .0);
+        own = p .1;
+      }
 
   -- x is the admission
   module _ (x : Admission) (e : x ≡ admission s lent t) where

@@ -1,5 +1,4 @@
 -- Laws of checks in order: a refusal of the first ones is the whole list's, and what holds where none refuses.
-use Prim.Native.Nat.{ℕ, _<_}
 use native.Mathlib.Omega.{arith}
 use mathlib.Core.Bool.{Bool, true, false, _&&_}
 use mathlib.Core.List.{List, [], _∷_, _++_}
@@ -24,7 +23,13 @@ passes [] ds p h = refl
 passes (check n true ∷ cs) ds p h = absurd (omega (arith, ltb-true 0 n (and-left (ltb 0 n) (positive cs) p), h))
 passes (check n false ∷ cs) ds p h = passes cs ds (and-right (ltb 0 n) (positive cs) p) h
 
--- a check that did not refuse
-pub passed : (n : ℕ) (b : Bool) (cs : List Check) → 0 < n → firstNumber (check n b ∷ cs) ≡ 0 → (b ≡ false) × (firstNumber cs ≡ 0)
-passed n true cs p h = absurd (omega arith)
-passed n false cs p h = (refl, h)
+-- each condition fails
+abbrev pub Passed : List Check → Type 0
+Passed [] = Unit {0}
+Passed (check n b ∷ cs) = (b ≡ false) × Passed cs
+
+-- checks that did not refuse, nor did those after them
+pub passed : (cs ds : List Check) → positive cs ≡ true → firstNumber (cs ++ ds) ≡ 0 → Passed cs × (firstNumber ds ≡ 0)
+passed [] ds p h = (tt, h)
+passed (check n true ∷ cs) ds p h = absurd (omega (arith, ltb-true 0 n (and-left (ltb 0 n) (positive cs) p), h))
+passed (check n false ∷ cs) ds p h = let r = passed cs ds (and-right (ltb 0 n) (positive cs) p) h in ((refl, r .0), r .1)

@@ -23,15 +23,15 @@ use Rattle.store.proofs.Slots.{slot as find, slot-within}
 
 -- ---- numbers after an admission
 
-module _ (x : Admission) (cs ds : List Check) where
-  -- the admission did not refuse, nor did the call's own checks
-  pub after-none : numberAfter x cs ≡ 0 → (x .number ≡ 0) × (firstNumber cs ≡ 0)
-  after-none z = go (eqb (x .number) 0) refl z
-    where
-      go : (b : Bool) → eqb (x .number) 0 ≡ b → cond b (firstNumber cs) (x .number) ≡ 0 → (x .number ≡ 0) × (firstNumber cs ≡ 0)
-      go true e z = (eqb-true (x .number) 0 e, z)
-      go false e z = absurd (eqb-false (x .number) 0 e z)
+-- the admission did not refuse, nor did the call's own checks
+pub after-none : (x : Admission) (cs : List Check) → numberAfter x cs ≡ 0 → (x .number ≡ 0) × (firstNumber cs ≡ 0)
+after-none x cs = go (eqb (x .number) 0) refl
+  where
+    go : (b : Bool) → eqb (x .number) 0 ≡ b → cond b (firstNumber cs) (x .number) ≡ 0 → (x .number ≡ 0) × (firstNumber cs ≡ 0)
+    go true e z = (eqb-true (x .number) 0 e, z)
+    go false e z = absurd (eqb-false (x .number) 0 e z)
 
+module _ (x : Admission) (cs ds : List Check) where
   after-stops : (numberAfter x cs ≡ 0 → ⊥) → numberAfter x (cs ++ ds) ≡ numberAfter x cs
   after-stops h = go (eqb (x .number) 0) h
     where
@@ -40,7 +40,7 @@ module _ (x : Admission) (cs ds : List Check) where
       go false h = refl
 
   after-passes : positive cs ≡ true → numberAfter x cs ≡ 0 → numberAfter x (cs ++ ds) ≡ firstNumber ds
-  after-passes p z = let a = after-none z in rw (eq-eqb (x .number) 0 (a .0)) (passes cs ds p (a .1))
+  after-passes p z = let a = after-none x cs z in rw (eq-eqb (x .number) 0 (a .0)) (passes cs ds p (a .1))
 
 -- ---- a choice by its number
 
@@ -124,24 +124,16 @@ pub record Slotted (s : State) (x : Admission) (id : ℕ) (r : Choice) (cs : Lis
   pub room : r .room ≡ x .room
   pub small : x .room ≤ 16384
 
--- a listed transaction that is not committing: what passing 6 and 7 says
-pub record Running (s : State) (id : ℕ) : Type 0 where
-  pub listed : slotOf s id < s .count
-  pub named : txOf s id .id .0 ≡ id
-  pub notCommitting : txOf s id .status ≡ 2 → ⊥
-
-pub listed-slot : (s : State) (id : ℕ) (cs : List Check) → firstNumber (check6 s id ∷ cs) ≡ 0
-    → (slotOf s id < s .count) × (txOf s id .id .0 ≡ id) × (firstNumber cs ≡ 0)
-listed-slot s id cs z =
-    let x = find s id in
-    let p = passed 6 (not (any (hasId id) (txsOf s))) cs (omega arith) z in
-    let l = slot-within s id (not-false _ (p .0)) in
-    (l, sym (eqb-true _ _ (x .there (omega arith))), p .1)
+-- what number 6 says where it does not refuse
+pub listed-by-6 : (s : State) (id : ℕ) → not (any (hasId id) (txsOf s)) ≡ false → (slotOf s id < s .count) × (txOf s id .id .0 ≡ id)
+listed-by-6 s id e =
+    let l = slot-within s id (not-false _ e) in
+    (l, sym (eqb-true _ _ (find s id .there (omega arith))))
 
 pub slotted : (s : State) (x : Admission) (id : ℕ) (r : Choice) (cs : List Check) → Seen x s → r ≡ choice s x id (check6 s id ∷ cs) → r .number ≡ 0
     → Slotted s x id r cs
 slotted s x id r cs seen e h =
-    let a = after-none x (check6 s id ∷ cs) [] (choice-own s x id r (check6 s id ∷ cs) e ∙ h) in
+    let a = after-none x (check6 s id ∷ cs) (choice-own s x id r (check6 s id ∷ cs) e ∙ h) in
     let c = choice-chosen s x id r (check6 s id ∷ cs) e h in
     let k : r .slot ≡ slotOf s id = ap (λ (y : Choice). y .slot) c in
     let w = seen (a .0) in
@@ -150,18 +142,12 @@ slotted s x id r cs seen e h =
       rules = w .0;
       few = image-count (imageOf s) (w .0);
       own = a .1;
-      listed = omega (arith, k, listed-slot s id cs (a .1) .0);
+      listed = omega (arith, k, listed-by-6 s id (passed (check6 s id ∷ []) cs refl (a .1) .0 .0) .0);
       slot = k;
       end = ap (λ (y : Choice). y .end) c;
       room = ap (λ (y : Choice). y .room) c;
       small = w .1;
     }
-
-pub running : (s : State) (id : ℕ) (cs : List Check) → firstNumber (check6 s id ∷ check7 s id ∷ cs) ≡ 0 → Running s id × (firstNumber cs ≡ 0)
-running s id cs z =
-    let a = listed-slot s id (check7 s id ∷ cs) z in
-    let b = passed 7 (eqb (txOf s id .status) 2) cs (omega arith) (a .2) in
-    (record { listed = a .0; named = a .1; notCommitting = eqb-false _ _ (b .0) }, b .1)
 
 -- ---- 8
 
@@ -194,8 +180,14 @@ refused-8 a n cs e = rw (out-of-range a n, e)
 pub passes-8 : (a n : ℕ) (cs : List Check) → inRange a n ≡ true → firstNumber (check8 a n ∷ cs) ≡ firstNumber cs
 passes-8 a n cs e = rw (out-of-range a n, e)
 
-pub ranged-by-8 : (a n : ℕ) (cs : List Check) → firstNumber (check8 a n ∷ cs) ≡ 0 → (1 ≤ n) × (n ≤ 32) × (a + n ≤ 4096) × (firstNumber cs ≡ 0)
-ranged-by-8 a n cs z =
-    let p = passed 8 (eqb n 0 || ltb 32 n || ltb 4096 (a + n)) cs (omega arith) z in
-    let g = in-range a n (not-false _ (sym (out-of-range a n) ∙ p .0)) in
-    (g .0, g .1, g .2, p .1)
+-- what number 8 says where it does not refuse
+pub record Ranged (a n : ℕ) : Type 0 where
+  pub ok : inRange a n ≡ true
+  pub short : n ≤ 32
+  pub within : a + n ≤ 4096
+
+pub ranged-by-8 : (a n : ℕ) → (eqb n 0 || ltb 32 n || ltb 4096 (a + n)) ≡ false → Ranged a n
+ranged-by-8 a n e =
+    let o = not-false _ (sym (out-of-range a n) ∙ e) in
+    let g = in-range a n o in
+    record { ok = o; short = g .1; within = g .2 }

@@ -4,7 +4,6 @@ use native.Mathlib.Omega.{arith}
 use mathlib.Core.Bool.{true}
 use mathlib.Core.List.{List}
 use mathlib.Core.Path.{_≡_, refl, _∙_}
-use lib.ListN.{length}
 use borrow.Author.Tests.{eq-eqb}
 use Rattle.recovery.specs.Group.{aborted}
 use Rattle.transaction.specs.Lists.{every, sumOf}
@@ -15,8 +14,8 @@ use Rattle.store.specs.State.{txAt, txsOf, outlineAt, slotOf, imageOf}
 use Rattle.image.proofs.Rules.{image-logend, image-ordered, image-count, outline-at}
 use Rattle.store.specs.Rules.{keepsImageRules}
 use Rattle.store.specs.Calls.{appended}
-use Rattle.store.proofs.Fits.{Fit, status-at}
-use Rattle.store.proofs.Choosing.{Running}
+use Rattle.store.proofs.Fits.{Fit}
+use Rattle.store.proofs.Passing.{RunningPassed}
 use Rattle.store.proofs.Appending.{appended-size, appended-csn, appended-zeros}
 use Rattle.store.proofs.Views.{abort-appends, tail-csn, tail-zeros}
 use Rattle.store.proofs.Positions.{every-intro}
@@ -59,16 +58,17 @@ settled-fits s t j z f h =
       tail = f .tail;
     }
 
-pub aborted-fits : (s : State) (t : List ℕ) (id : ℕ) → SizedState s → length t ≡ 16384 → Fit s t → Running s id
+pub aborted-fits : (s : State) (m t : List ℕ) (id : ℕ) → SizedState s → RunningPassed s m t id
     → Fit (droppedState s (slotOf s id)) (appended s t (aborted id))
 unfolding droppedState
-aborted-fits s t id z lt f run =
+aborted-fits s m t id z run =
     let j = slotOf s id in
+    let f = run .fits in
     let h = run .listed in
     let x = txAt s j in
-    let y = abort-appends s t id lt f run in
+    let y = abort-appends s m t id run in
     let size = appended-size (s .ondisk .0) t (aborted id) (tail-zeros s t f) (y .room) (y .right) in
-    let k : 8 ≤ roomOf x = rw (eq-eqb (x .status) 1 (status-at s t f j h (run .notCommitting))) (omega arith) in
+    let k : 8 ≤ roomOf x = rw (eq-eqb (x .status) 1 (run .status)) (omega arith) in
     let last = appended-csn (s .ondisk .0) t (aborted id) (tail-zeros s t f) (y .room) (y .right) ∙ tail-csn s t f in
     record {
       recovered = f .recovered;

@@ -10,6 +10,7 @@ pub mod Calling
 pub mod Positions
 pub mod Appending
 pub mod Stepping
+pub mod Passing
 pub mod Views
 pub mod Changing
 pub mod BegunFits

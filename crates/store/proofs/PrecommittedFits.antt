@@ -4,7 +4,6 @@ use native.Mathlib.Omega.{arith}
 use mathlib.Core.Bool.{true, false, not, _&&_, and-false}
 use mathlib.Core.List.{List}
 use mathlib.Core.Path.{_≡_, refl}
-use lib.ListN.{length}
 use lib.Dec.{eqb, leb}
 use borrow.Author.Tests.{eq-eqb, ne-eqb, le-leb}
 use Rattle.recovery.specs.Group.{groupSize}
@@ -17,12 +16,11 @@ use Rattle.transaction.specs.Steps.{precommitted}
 use Rattle.store.specs.declared.State.{State}
 use Rattle.store.specs.State.{txAt, outlineAt, slotOf, imageOf}
 use Rattle.image.specs.Rules.{alikeTo}
-use Rattle.image.proofs.Rules.{image-logend, image-ordered, image-count, head-at, undo-at, ruled-at}
+use Rattle.image.proofs.Rules.{image-logend, image-ordered, head-at, ruled-at}
 use Rattle.recovery.proofs.Bool.{or-left}
 use Rattle.store.specs.Calls.{appended}
-use Rattle.store.proofs.Fits.{Fit, status-at}
-use Rattle.store.proofs.Choosing.{Running}
-use Rattle.store.proofs.Calling.{usable}
+use Rattle.store.proofs.Fits.{Fit}
+use Rattle.store.proofs.Passing.{RunningPassed}
 use Rattle.store.proofs.Appending.{appended-size, appended-csn, appended-zeros}
 use Rattle.store.proofs.Views.{commitOf, commit-size, commit-appends, tail-zeros}
 use Rattle.store.proofs.Positions.{sum-changed}
@@ -65,36 +63,34 @@ precommitted-redo : (t : Tx) (n : Csn) → redoOk (precommitted t n) ≡ true
 unfolding precommitted
 precommitted-redo t n = refl
 
-pub precommitted-fits : (s : State) (t : List ℕ) (id : ℕ) → SizedState s → length t ≡ 16384 → Fit s t → Running s id
+pub precommitted-fits : (s : State) (m t : List ℕ) (id : ℕ) → SizedState s → RunningPassed s m t id
     → Fit (precommittedState s (slotOf s id)) (appended s t (commitOf s id))
 unfolding precommittedState
-precommitted-fits s t id z lt f run =
+precommitted-fits s m t id z run =
     let j = slotOf s id in
+    let f = run .fits in
     let h = run .listed in
     let r = precommittedState s j in
     let x = txAt s j in
     let csn : Csn = record { 0 = s .assigned .0 + 1 } in
     let u = precommitted x csn in
-    let e = status-at s t f j h (run .notCommitting) in
-    let few = image-count (imageOf s) (f .image) in
-    let c = precommitted-slot s z j h few in
+    let c = precommitted-slot s z j h (run .few) in
     let same : (i : ℕ) → i < r .count → (i ≡ j → ⊥) → i < s .count = λ i p n. p in
-    let good = precommitted-outline x (s .lastid .0) (s .assigned .0) (head-at (imageOf s) (f .image) j h) (undo-at (imageOf s) (f .image) j h) in
+    let good = precommitted-outline x (s .lastid .0) (s .assigned .0) (head-at (imageOf s) (f .image) j h) (run .undo) in
     let d = changed-distinct s t f r u j c (omega arith) (omega arith) same good
     (λ i p q. precommitted-below (outlineAt s i) x (s .assigned .0 + 1) (apart s t f i j p h)
     (λ n. omega (arith, n, ruled-at (imageOf s) (f .image) i q .numbered)))
     (λ i p q. precommitted-above (outlineAt s i) x (s .assigned .0 + 1) (apart s t f j i p q)
     (λ n. omega (arith, n, ruled-at (imageOf s) (f .image) i q .numbered))) in
-    let us = usable s t id f run in
-    let y = commit-appends s t id z lt f run in
+    let y = commit-appends s m t id run z in
     let g = commitOf s id in
     let size = appended-size (s .ondisk .0) t g (tail-zeros s t f) (y .room) (y .right) in
-    let k : roomOf x ≡ groupSize g = rw (eq-eqb (x .status) 1 e) (omega (arith, commit-size s t id z f run)) in
+    let k : roomOf x ≡ groupSize g = rw (eq-eqb (x .status) 1 (run .status)) (omega (arith, commit-size s m t id run z)) in
     let sum = sum-changed roomOf (txAt s) (txAt r) j u c (s .count) 0 (omega arith) (omega (arith, h)) in
     record {
       recovered = f .recovered;
       image =
-          image-kept r (image-logend (imageOf s) (f .image)) (omega (arith, image-ordered (imageOf s) (f .image))) few
+          image-kept r (image-logend (imageOf s) (f .image)) (omega (arith, image-ordered (imageOf s) (f .image))) (run .few)
           (changed-outlines s t f r u j c (omega arith) (omega arith) same good) d;
       room = omega (arith, sum, precommitted-room x csn, k, size, f .room);
       redo = changed-redo s t f r u j c (omega arith) (omega arith) same good (precommitted-redo x csn);

@@ -1,7 +1,7 @@
 -- Each call in memory answers states that show the same alike, refusals too, and leaves the same in memory and tail.
 use Prim.Native.Nat.{ℕ, _+_, _≤_, _<_}
 use mathlib.Core.Bool.{Bool, true, false, cond}
-use mathlib.Core.List.{List, [], _∷_}
+use mathlib.Core.List.{List, []}
 use mathlib.Core.Path.{_≡_, refl, ap, ap₂, subst}
 use lib.ListN.{length, take, drop}
 use lib.Seq.{sets}
@@ -11,21 +11,16 @@ use Rattle.recovery.specs.Group.{Write, Group, committed, aborted}
 use Rattle.recovery.specs.Replay.{undoAll, layBytes}
 use Rattle.log.specs.declared.TxId.{TxId}
 use Rattle.log.specs.Group.{encodeGroup}
-use Rattle.image.proofs.Rules.{image-count}
 use Rattle.store.specs.declared.State.{State}
-use Rattle.store.specs.State.{imageOf, slotOf}
+use Rattle.store.specs.State.{slotOf}
 use Rattle.store.specs.Answer.{done, Told, tells}
-use Rattle.store.specs.Rules.{tailLength, roomUsed}
-use Rattle.store.specs.Numbers.{txOf, beginChecks, settleChecks, Check, numberBy, check6, check7, check8, check9, check10, check12, check13, check14}
+use Rattle.store.specs.Rules.{tailLength}
 use Rattle.store.specs.Steps.{begunState, writtenState, precommittedState, droppedState}
 use Rattle.store.specs.Calls.{Outcome, decided, refusing, beginNumber, beginOf, writeNumber, writeOf, readNumber, readOf, readAnswerOf}
 use Rattle.store.specs.Calls.{appended, precommitNumber, precommitOf, abortNumber, abortOf, settleNumber, settleOf}
-use Rattle.store.specs.Same.{SameRecords, ShowsSame, SameTold, SameOutcome}
-use Rattle.store.proofs.Fits.{status-at}
-use Rattle.store.proofs.Admitting.{Unrefused, unrefused}
-use Rattle.store.proofs.Choosing.{Running, running, listed-slot}
-use Rattle.store.proofs.Calling.{Usable, usable, writable}
-use Rattle.store.proofs.Views.{begin-free, commitOf}
+use Rattle.store.specs.Same.{ShowsSame, SameTold, SameOutcome}
+use Rattle.store.proofs.Passing.{begin-passed, write-passed, precommit-passed, abort-passed, settle-passed}
+use Rattle.store.proofs.Views.{commitOf}
 use Rattle.store.proofs.Stepping.{SizedState}
 use Rattle.store.proofs.Sameness.{slots}
 use Rattle.store.proofs.SameNumbers.{named, begin-alike, write-alike, read-alike, precommit-alike, abort-alike, settle-alike}
@@ -81,9 +76,7 @@ module _ (s r : State) (h : ShowsSame s r) where
     -- ---- begin
 
     begun : beginNumber s m t ≡ 0 → ShowsSame (begunState s) (begunState r)
-    begun e =
-        let a = unrefused s (length m) t (beginChecks (s .count) (s .lastid .0) (roomUsed s t)) e in
-        begin-shows s r h z y (begin-free s (roomUsed s t) (image-count (imageOf s) (a .fits .image)) (a .own) .0)
+    begun e = begin-shows s r h z y (begin-passed s m t e .free)
 
     pub begin-same : SameTold (beginOf s m t) (beginOf r m t)
     unfolding beginOf
@@ -104,37 +97,16 @@ module _ (s r : State) (h : ShowsSame s r) where
       dropped : j < s .count → s .count ≤ 8 → ShowsSame (droppedState s j) (droppedState r k)
       dropped l few = at-slot (droppedState s j) (droppedState r) (drop-shows s r h z y j l few)
 
-      -- ---- the transaction of a call that 6 and 7 let pass, whatever it checks besides
-
-      module _ (cs : List Check) (e : numberBy s (length m) t (check6 s (id .0) ∷ check7 s (id .0) ∷ cs) ≡ 0) where
-        admitted : Unrefused s (length m) t (check6 s (id .0) ∷ check7 s (id .0) ∷ cs)
-        admitted = unrefused s (length m) t (check6 s (id .0) ∷ check7 s (id .0) ∷ cs) e
-
-        runs : Running s (id .0)
-        runs = running s (id .0) cs (admitted .own) .0
-
-        used : Usable s t j
-        used = usable s t (id .0) (admitted .fits) runs
-
-        undo-same : SameRecords (txOf s (id .0) .undo) (txOf r (id .0) .undo)
-        undo-same = named s r h (id .0) (runs .listed) .undo
-
-        redo-same : SameRecords (txOf s (id .0) .redo) (txOf r (id .0) .redo)
-        redo-same = named s r h (id .0) (runs .listed) .redo (status-at s t (admitted .fits) j (runs .listed) (runs .notCommitting))
-
       -- ---- write
 
       module _ (a : ℕ) (bs : List ℕ) where
-        abbrev after7 : List Check
-        after7 = check8 a (length bs) ∷ check9 s (id .0) a (length bs) ∷ check10 s (id .0) ∷ check13 (roomUsed s t) (length bs) ∷ []
-
         wrote : writeNumber s m t id a (length bs) ≡ 0 → ShowsSame (writtenState s j m a bs) (writtenState r k m a bs)
         wrote e =
-            let x = admitted after7 e in
-            let u = used after7 e in
-            let w = writable s t (roomUsed s t) (id .0) a (length bs) (x .fits) (x .own) in
+            let p = write-passed s m t id a (length bs) e in
+            let u = p .runs in
             at-slot (writtenState s j m a bs) (λ i. writtenState r i m a bs)
-            (write-shows s r h z y j (u .listed) (u .few) (record { few = w .undo; ok = u .undo }) (record { few = w .redo; ok = u .redo }) m a bs (w .short))
+            (write-shows s r h z y j (u .listed) (u .few) (record { few = p .undo; ok = u .undo }) (record { few = p .redo; ok = u .redo }) m a bs
+            (p .range .short))
 
         pub write-same : SameOutcome (writeOf s m t id a bs) (writeOf r m t id a bs)
         unfolding writeOf
@@ -146,11 +118,13 @@ module _ (s r : State) (h : ShowsSame s r) where
 
       precommitted : precommitNumber s m t id ≡ 0 → ShowsSame (precommittedState s j) (precommittedState r k)
       precommitted e =
-          let u = used (check12 s ∷ []) e in
+          let u = precommit-passed s m t id e .runs in
           at-slot (precommittedState s j) (precommittedState r) (precommit-shows s r h z y j (u .listed) (u .few))
 
       commit-same : precommitNumber s m t id ≡ 0 → commitOf s (id .0) ≡ commitOf r (id .0)
-      commit-same e = ap₂ (λ (n : ℕ) (ws : List Write). committed (id .0) (n + 1) ws) (h .assigned) (redo-same (check12 s ∷ []) e .writes)
+      commit-same e =
+          let u = precommit-passed s m t id e .runs in
+          ap₂ (λ (n : ℕ) (ws : List Write). committed (id .0) (n + 1) ws) (h .assigned) (named s r h (id .0) (u .listed) .redo (u .status) .writes)
 
       pub precommit-same : SameOutcome (precommitOf s m t id) (precommitOf r m t id)
       unfolding precommitOf
@@ -170,10 +144,10 @@ module _ (s r : State) (h : ShowsSame s r) where
       abort-same =
           outcome-same m t (abortNumber s m t id) (abortNumber r m t id) (abort-alike s r h (length m) t (id .0))
           (λ e.
-          let u = used [] e in
+          let u = abort-passed s m t id e in
           record {
             result = done-same refl (dropped (u .listed) (u .few));
-            memory = ap (λ (ws : List Write). undoAll layBytes ws m) (undo-same [] e .writes);
+            memory = ap (λ (ws : List Write). undoAll layBytes ws m) (named s r h (id .0) (u .listed) .undo .writes);
             tail = appended-same t (aborted (id .0)) (aborted (id .0)) refl;
           })
 
@@ -181,8 +155,8 @@ module _ (s r : State) (h : ShowsSame s r) where
 
       settled : settleNumber s m t id ≡ 0 → ShowsSame (droppedState s j) (droppedState r k)
       settled e =
-          let x = unrefused s (length m) t (settleChecks s (id .0)) e in
-          dropped (listed-slot s (id .0) (check14 s (id .0) ∷ []) (x .own) .0) (image-count (imageOf s) (x .fits .image))
+          let p = settle-passed s m t id e in
+          dropped (p .listed) (p .few)
 
       pub settle-same : SameTold (settleOf s m t id) (settleOf r m t id)
       unfolding settleOf

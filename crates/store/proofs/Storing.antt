@@ -12,7 +12,7 @@ use borrow.Author.Tests.{eq-eqb, ne-eqb, lt-ltb, le-ltb, eqb-true, not-false}
 use Rattle.log.specs.Stores.{Store, store, apply, copies, clears}
 use Rattle.store.specs.declared.State.{State}
 use Rattle.store.specs.Answer.{Told}
-use Rattle.store.specs.Numbers.{firstNumber, sharedChecks}
+use Rattle.store.specs.Numbers.{check, firstNumber, sharedChecks}
 use Rattle.store.specs.Calls.{refusing}
 use Rattle.store.specs.Stored.{diskChecks, DiskOutcome, Plan, cutShort, madeWhole, carriedOut, storedBy}
 use Rattle.store.proofs.Fits.{Fit, unfit-no}
@@ -83,9 +83,9 @@ module _ (s : State) (d m t : List ℕ) where
 
   pub disk-admitted : diskNumber ≡ 0 → DiskAdmitted s d m t
   disk-admitted z =
-      let p = passed 1 (not (eqb (length d) 33691)) (sharedChecks s (length m) t) (omega arith) z in
+      let p = passed (check 1 (not (eqb (length d) 33691)) ∷ []) (sharedChecks s (length m) t) refl z in
       let x = unrefused s (length m) t [] (p .1) in
-      record { disk = eqb-true _ _ (not-false _ (p .0)); memory = x .memory; tail = x .tail; fits = x .fits }
+      record { disk = eqb-true _ _ (not-false _ (p .0 .0)); memory = x .memory; tail = x .tail; fits = x .fits }
 
   pub disk-passes : DiskAdmitted s d m t → diskNumber ≡ 0
   disk-passes a = rw (eq-eqb _ _ (a .disk), eq-eqb _ _ (a .memory), eq-eqb _ _ (a .tail), unfit-no s t (a .fits))

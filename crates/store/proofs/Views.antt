@@ -3,14 +3,14 @@ use Prim.Native.Nat.{ℕ, zero, suc, _+_, _-_, _≤_, _<_}
 use native.Mathlib.Nat.{zero-add}
 use native.Mathlib.Numerals.{add-one}
 use native.Mathlib.Omega.{arith}
-use mathlib.Core.Bool.{Bool, true, false, cond, _||_}
+use mathlib.Core.Bool.{Bool, true, false, cond}
 use mathlib.Core.List.{List, [], _∷_, _++_}
 use mathlib.Core.Option.{some}
 use mathlib.Core.Path.{_≡_, refl, sym, ap, ap₂, _∙_}
 use lib.ListN.{length, take, drop, length-take}
 use lib.Seq.{sets}
-use lib.Dec.{eqb, ltb}
-use borrow.Author.Tests.{eqb-true, eqb-false, eq-eqb, ne-eqb, le-leb, ltb-false}
+use lib.Dec.{eqb}
+use borrow.Author.Tests.{eqb-true, eq-eqb, ne-eqb, le-leb}
 use Rattle.recovery.specs.Group.{Write, Group, committed, aborted, groupSize, lastCsn}
 use Rattle.recovery.specs.Transaction.{Tx as Transaction, lookup, edit, remove}
 use Rattle.recovery.specs.Machine.{Live, newTx, withWrite, inCommit, afterBegin, afterWrite, afterPrecommit, afterAbort, afterSettle}
@@ -31,35 +31,23 @@ use Rattle.transaction.proofs.Lists.{up-snoc, up-same}
 use Rattle.transaction.proofs.Ranges.{counted, ranged}
 use Rattle.transaction.proofs.Writes.{bytes-length, sized}
 use Rattle.transaction.proofs.Pushed.{Sized, pushed-writes}
-use Rattle.image.proofs.Rules.{image-count, ruled-at}
+use Rattle.image.proofs.Rules.{ruled-at}
 use Rattle.store.specs.declared.State.{State}
 use Rattle.store.specs.Answer.{done, Told, tells}
 use Rattle.store.specs.State.{txAt, slotOf, imageOf}
-use Rattle.store.specs.Rules.{tailLength, allZero, roomUsed}
-use Rattle.store.specs.Numbers.{check, firstNumber, txOf, beginChecks, writeChecks, precommitChecks, abortChecks, settleChecks, check8, check9, check10}
+use Rattle.store.specs.Rules.{tailLength, allZero}
+use Rattle.store.specs.Numbers.{txOf}
 use Rattle.store.specs.Steps.{begunState, writtenState, precommittedState, droppedState}
 use Rattle.store.specs.Calls.{Outcome, beginNumber, beginOf, writeNumber, writeOf, refusing, readNumber, readAnswerOf}
 use Rattle.store.specs.Calls.{appended, precommitNumber, precommitOf, abortNumber, abortOf, settleNumber, settleOf}
 use Rattle.store.specs.View.{viewAt, live}
 use Rattle.store.proofs.Slots.{slot}
-use Rattle.store.proofs.Checks.{passed}
 use Rattle.store.proofs.Fits.{Fit}
-use Rattle.store.proofs.Admitting.{unrefused}
-use Rattle.store.proofs.Choosing.{Running, running, listed-slot}
-use Rattle.store.proofs.Calling.{usable, writable, begin-done, write-done, precommit-done, abort-done, settle-done}
+use Rattle.store.proofs.Passing.{RunningPassed, begin-passed, write-passed, precommit-passed, abort-passed, settle-passed}
+use Rattle.store.proofs.Calling.{begin-done, write-done, precommit-done, abort-done, settle-done}
 use Rattle.store.proofs.Positions.{Changed, Dropped, First, found, edited, removed}
 use Rattle.store.proofs.Appending.{appended-log}
 use Rattle.store.proofs.Stepping.{SizedTx, SizedState, begun-slot, written-slot, precommitted-slot, dropped-slot}
-
--- ---- what a begin that is not refused has passed
-
-pub begin-free : (s : State) (room : ℕ) → s .count ≤ 8 → firstNumber (beginChecks (s .count) (s .lastid .0) room) ≡ 0 → (s .count < 8) × (room + 8 ≤ 16384)
-begin-free s room h e =
-    let last = check 13 (ltb 16384 (room + 8)) ∷ [] in
-    let a = passed 11 (eqb (s .count) 8) (check 12 (eqb (s .lastid .0) 65535) ∷ last) (omega arith) e in
-    let b = passed 12 (eqb (s .lastid .0) 65535) last (omega arith) (a .1) in
-    let c = passed 13 (ltb 16384 (room + 8)) [] (omega arith) (b .1) in
-    (omega (arith, h, eqb-false (s .count) 8 (a .0)), ltb-false _ _ (c .0))
 
 -- ---- one transaction
 
@@ -104,8 +92,8 @@ body-right r id csn z e n (suc k) i h =
     let l = bytes-length r i (z .space) (omega arith) (g .1) in
     rw (n, l, le-leb _ _ (g .0), le-leb _ _ (g .1), le-leb _ _ (g .2)) (body-right r id csn z e n k (suc i) (omega arith))
 
-id-nonzero : (s : State) (t : List ℕ) (id : ℕ) → Fit s t → Running s id → eqb id 0 ≡ false
-id-nonzero s t id f r = ne-eqb id 0 (λ z. omega (arith, z, r .named, ruled-at (imageOf s) (f .image) (slotOf s id) (r .listed) .named))
+id-nonzero : (s : State) (m t : List ℕ) (id : ℕ) → RunningPassed s m t id → eqb id 0 ≡ false
+id-nonzero s m t id p = ne-eqb id 0 (λ z. omega (arith, z, p .named, ruled-at (imageOf s) (p .fits .image) (slotOf s id) (p .listed) .named))
 
 pub tail-csn : (s : State) (t : List ℕ) → Fit s t → lastCsn (s .ondisk .0) (readLog (s .ondisk .0) t) ≡ s .assigned .0
 tail-csn s t f = eqb-true _ _ (and-left _ (allZero (drop (tailLength (s .ondisk .0) t) t)) (f .tail))
@@ -121,30 +109,26 @@ pub record Appends (s : State) (t : List ℕ) (g : Group) : Type 0 where
 abbrev pub commitOf : State → ℕ → Group
 commitOf s id = committed id (s .assigned .0 + 1) (writesOf (txOf s id .redo))
 
--- the group's size, by the ranges of the redo records
-pub commit-size : (s : State) (t : List ℕ) (id : ℕ) → SizedState s → Fit s t → Running s id
-    → groupSize (commitOf s id) ≡ rangesSize (rangesOf (txOf s id .redo)) + 8
-commit-size s t id z f r =
-    let u = usable s t id f r in
-    let x = txOf s id .redo in
-    ap (λ (n : ℕ). n + 8) (sized x (z .each (slotOf s id) (r .listed) .redos .space) (counted x (u .redo)) (λ j b. ranged x (u .redo) j b .1))
+module _ (s : State) (m t : List ℕ) (id : ℕ) (p : RunningPassed s m t id) where
+  -- the group's size, by the ranges of the redo records
+  pub commit-size : SizedState s → groupSize (commitOf s id) ≡ rangesSize (rangesOf (txOf s id .redo)) + 8
+  commit-size z =
+      let x = txOf s id .redo in
+      ap (λ (n : ℕ). n + 8) (sized x (z .each (slotOf s id) (p .listed) .redos .space) (counted x (p .redo)) (λ j b. ranged x (p .redo) j b .1))
 
-pub commit-appends : (s : State) (t : List ℕ) (id : ℕ) → SizedState s → length t ≡ 16384 → Fit s t → Running s id → Appends s t (commitOf s id)
-commit-appends s t id z l f r =
-    let u = usable s t id f r in
-    let x = txOf s id .redo in
-    let y = z .each (slotOf s id) (r .listed) .redos in
-    record {
-      room = omega (arith, commit-size s t id z f r, l, u .fits);
-      right =
-          rw (tail-csn s t f, eq-eqb (s .assigned .0 + 1) (s .assigned .0 + 1) refl)
-          (body-right x id (s .assigned .0 + 1) y (u .redo) (id-nonzero s t id f r) (x .count) 0 (omega arith));
-    }
+  pub commit-appends : SizedState s → Appends s t (commitOf s id)
+  commit-appends z =
+      let x = txOf s id .redo in
+      let y = z .each (slotOf s id) (p .listed) .redos in
+      record {
+        room = omega (arith, commit-size z, p .tail, p .room);
+        right =
+            rw (tail-csn s t (p .fits), eq-eqb (s .assigned .0 + 1) (s .assigned .0 + 1) refl)
+            (body-right x id (s .assigned .0 + 1) y (p .redo) (id-nonzero s m t id p) (x .count) 0 (omega arith));
+      }
 
-pub abort-appends : (s : State) (t : List ℕ) (id : ℕ) → length t ≡ 16384 → Fit s t → Running s id → Appends s t (aborted id)
-abort-appends s t id l f r =
-    let u = usable s t id f r in
-    record { room = omega (arith, l, u .fits); right = rw (id-nonzero s t id f r) }
+  pub abort-appends : Appends s t (aborted id)
+  abort-appends = record { room = omega (arith, p .tail, p .room); right = rw (id-nonzero s m t id p) }
 
 -- ---- the calls
 
@@ -191,9 +175,7 @@ module _ (s : State) (m t : List ℕ) (z : SizedState s) where
   -- Begin adds a running transaction without records, of the next id.
   pub begin-live : beginNumber s m t ≡ 0 → live (beginOf s m t .state) m t ≡ afterBegin (live s m t)
   begin-live e =
-      let a = unrefused s (length m) t (beginChecks (s .count) (s .lastid .0) (roomUsed s t)) e in
-      ap (λ (r : State). live r m t) (ap (λ (b : Told). b .state) (begin-done s m t e))
-      ∙ begun-live (begin-free s (roomUsed s t) (image-count (imageOf s) (a .fits .image)) (a .own) .0)
+      ap (λ (r : State). live r m t) (ap (λ (b : Told). b .state) (begin-done s m t e)) ∙ begun-live (begin-passed s m t e .free)
 
   module _ (id : TxId) where
     abbrev j : ℕ
@@ -207,15 +189,12 @@ module _ (s : State) (m t : List ℕ) (z : SizedState s) where
         → live (writeOf s m t id a bs .result .state) (writeOf s m t id a bs .memory) (writeOf s m t id a bs .tail)
         ≡ afterWrite tx (record { addr = a; bytes = bs }) (live s m t)
     write-live a bs e =
-        let x = unrefused s (length m) t (writeChecks s (roomUsed s t) (id .0) a (length bs)) e in
-        let last = check9 s (id .0) a (length bs) ∷ check10 s (id .0) ∷ check 13 (ltb 16384 (roomUsed s t + (7 + length bs))) ∷ [] in
-        let r = running s (id .0) (check8 a (length bs) ∷ last) (x .own) .0 in
-        let u = usable s t (id .0) (x .fits) r in
-        let w = writable s t (roomUsed s t) (id .0) a (length bs) (x .fits) (x .own) in
+        let p = write-passed s m t id a (length bs) e in
+        let r = p .runs in
         let old = take (length bs) (drop a m) in
-        let l : length old ≤ 32 = rw length-take (omega (arith, w .short)) in
-        let v = written-view (txAt s j) a old bs (z .each j (r .listed)) (u .undo) (u .redo) (w .undo) (w .redo) l (w .short) in
-        let c = view-changed s (writtenState s j m a bs) j _ (written-slot s z j (r .listed) (u .few) m a bs) in
+        let l : length old ≤ 32 = rw length-take (omega (arith, p .range .short)) in
+        let v = written-view (txAt s j) a old bs (z .each j (r .listed)) (r .undo) (r .redo) (p .undo) (p .redo) l (p .range .short) in
+        let c = view-changed s (writtenState s j m a bs) j _ (written-slot s z j (r .listed) (r .few) m a bs) in
         let g = withWrite (record { addr = a; bytes = old }) (record { addr = a; bytes = bs }) in
         let d : Changed (viewAt s) (viewAt (writtenState s j m a bs)) j (g (viewAt s j)) = record { here = c .here ∙ v; other = c .other } in
         ap (λ (o : Outcome). live (o .result .state) (o .memory) (o .tail)) (write-done s m t id a bs e)
@@ -237,13 +216,11 @@ module _ (s : State) (m t : List ℕ) (z : SizedState s) where
     pub precommit-live : precommitNumber s m t id ≡ 0
         → live (precommitOf s m t id .result .state) (precommitOf s m t id .memory) (precommitOf s m t id .tail) ≡ afterPrecommit tx (live s m t)
     precommit-live e =
-        let x = unrefused s (length m) t (precommitChecks s (id .0)) e in
-        let r = running s (id .0) (check 12 (eqb (s .assigned .0) 4294967295) ∷ []) (x .own) .0 in
-        let u = usable s t (id .0) (x .fits) r in
-        let y = commit-appends s t (id .0) z (x .tail) (x .fits) r in
+        let r = precommit-passed s m t id e .runs in
+        let y = commit-appends s m t (id .0) r z in
         let n : s .assigned .0 + 1 ≡ suc (lastCsn (s .ondisk .0) (readLog (s .ondisk .0) t)) = add-one (s .assigned .0)
-        ∙ ap suc (sym (tail-csn s t (x .fits))) in
-        let c = view-changed s (precommittedState s j) j _ (precommitted-slot s z j (r .listed) (u .few)) in
+        ∙ ap suc (sym (tail-csn s t (r .fits))) in
+        let c = view-changed s (precommittedState s j) j _ (precommitted-slot s z j (r .listed) (r .few)) in
         let d : Changed (viewAt s) (viewAt (precommittedState s j)) j (inCommit (s .assigned .0 + 1) (viewAt s j)) =
         record { here = c .here ∙ precommitted-view (txAt s j) (s .assigned .0 + 1); other = c .other } in
         ap (λ (o : Outcome). live (o .result .state) (o .memory) (o .tail)) (precommit-done s m t id e)
@@ -252,31 +229,28 @@ module _ (s : State) (m t : List ℕ) (z : SizedState s) where
         (edited (viewAt s) (viewAt (precommittedState s j)) (id .0) j (inCommit (s .assigned .0 + 1)) (s .count) 0 (first s (id .0) (r .listed)) d
         (omega (arith, r .listed))
         ∙ ap₂ (λ (i k : ℕ). edit i (inCommit k) (upFrom (viewAt s) (s .count) 0)) (sym (r .named)) n)
-        (appended-log (s .ondisk .0) t (commitOf s (id .0)) (tail-zeros s t (x .fits)) (y .room) (y .right)
+        (appended-log (s .ondisk .0) t (commitOf s (id .0)) (tail-zeros s t (r .fits)) (y .room) (y .right)
         ∙ ap₂ (λ (i k : ℕ). readLog (s .ondisk .0) t ++ (committed i k (writesOf (txOf s (id .0) .redo)) ∷ [])) (sym (r .named)) n)
 
     -- Abort undoes newest first, appends the abort record and drops the transaction.
     pub abort-live : abortNumber s m t id ≡ 0
         → live (abortOf s m t id .result .state) (abortOf s m t id .memory) (abortOf s m t id .tail) ≡ afterAbort tx (live s m t)
     abort-live e =
-        let x = unrefused s (length m) t (abortChecks s (id .0)) e in
-        let r = running s (id .0) [] (x .own) .0 in
-        let u = usable s t (id .0) (x .fits) r in
-        let y = abort-appends s t (id .0) (x .tail) (x .fits) r in
+        let r = abort-passed s m t id e in
+        let y = abort-appends s m t (id .0) r in
         let m' = undoAll layBytes (writesOf (txOf s (id .0) .undo)) m in
         ap (λ (o : Outcome). live (o .result .state) (o .memory) (o .tail)) (abort-done s m t id e)
         ∙ dropped-numbers s m' (appended s t (aborted (id .0))) j
         ∙ ap₂ (λ (ts : List Transaction) (gs : List Group). record { txs = ts; memory = m'; tail = gs; csn = s .ondisk .0; lastId = s .lastid .0 })
-        (dropped-txs s (id .0) z (u .few) (r .listed) ∙ ap (λ (i : ℕ). remove i (upFrom (viewAt s) (s .count) 0)) (sym (r .named)))
-        (appended-log (s .ondisk .0) t (aborted (id .0)) (tail-zeros s t (x .fits)) (y .room) (y .right)
+        (dropped-txs s (id .0) z (r .few) (r .listed) ∙ ap (λ (i : ℕ). remove i (upFrom (viewAt s) (s .count) 0)) (sym (r .named)))
+        (appended-log (s .ondisk .0) t (aborted (id .0)) (tail-zeros s t (r .fits)) (y .room) (y .right)
         ∙ ap (λ (i : ℕ). readLog (s .ondisk .0) t ++ (aborted i ∷ [])) (sym (r .named)))
 
     -- Settle drops the transaction.
     pub settle-live : settleNumber s m t id ≡ 0 → live (settleOf s m t id .state) m t ≡ afterSettle tx (live s m t)
     settle-live e =
-        let x = unrefused s (length m) t (settleChecks s (id .0)) e in
-        let l = listed-slot s (id .0) (check 14 (eqb (txOf s (id .0) .status) 1 || ltb (s .ondisk .0) (txOf s (id .0) .csn .0)) ∷ []) (x .own) in
+        let p = settle-passed s m t id e in
         ap (λ (o : Told). live (o .state) m t) (settle-done s m t id e)
         ∙ dropped-numbers s m t j
         ∙ ap (with-txs s m t)
-        (dropped-txs s (id .0) z (image-count (imageOf s) (x .fits .image)) (l .0) ∙ ap (λ (i : ℕ). remove i (upFrom (viewAt s) (s .count) 0)) (sym (l .1)))
+        (dropped-txs s (id .0) z (p .few) (p .listed) ∙ ap (λ (i : ℕ). remove i (upFrom (viewAt s) (s .count) 0)) (sym (p .named)))

@@ -1,5 +1,5 @@
 -- Write keeps number 2: one more undo record and one more redo record, of the same range.
-use Prim.Native.Nat.{ℕ, _+_, _≤_, _<_}
+use Prim.Native.Nat.{ℕ, _+_, _<_}
 use native.Mathlib.Omega.{arith}
 use mathlib.Core.Bool.{Bool, true, false, not, _||_}
 use mathlib.Core.List.{List, [], _∷_, _++_}
@@ -18,12 +18,11 @@ use Rattle.transaction.specs.Steps.{written}
 use Rattle.transaction.proofs.Lists.{length-up}
 use Rattle.transaction.proofs.Pushed.{pushed-ranges, one-more, ranges-self, size-snoc}
 use Rattle.store.specs.declared.State.{State}
-use Rattle.store.specs.State.{txAt, outlineAt, imageOf}
+use Rattle.store.specs.State.{txAt, outlineAt, slotOf, imageOf}
 use Rattle.image.specs.Rules.{alikeTo}
-use Rattle.image.proofs.Rules.{image-logend, image-ordered, image-count, head-at, undo-at}
-use Rattle.store.specs.Rules.{roomUsed}
-use Rattle.store.proofs.Fits.{Fit, redo-at}
-use Rattle.store.proofs.Calling.{Writable}
+use Rattle.image.proofs.Rules.{image-logend, image-ordered, head-at}
+use Rattle.store.proofs.Fits.{Fit}
+use Rattle.store.proofs.Passing.{WritePassed}
 use Rattle.store.proofs.Positions.{sum-changed}
 use Rattle.store.proofs.Stepping.{SizedTx, SizedState, written-slot}
 use Rattle.store.specs.Steps.{writtenState}
@@ -70,32 +69,35 @@ module _ (t : Tx) (a : ℕ) (old new : List ℕ) (z : SizedTx t) (cu : t .undo .
   unfolding written
   written-apart (outline id status csn undo) = (refl, refl)
 
-pub written-fits : (s : State) (t : List ℕ) (j : ℕ) (m : List ℕ) (a : ℕ) (bs : List ℕ) → SizedState s → Fit s t → j < s .count → txAt s j .status ≡ 1
-    → length m ≡ 4096 → Writable s j a (length bs) → inRange a (length bs) ≡ true → roomUsed s t + (7 + length bs) ≤ 16384 → Fit (writtenState s j m a bs) t
+pub written-fits : (s : State) (m t : List ℕ) (id a : ℕ) (bs : List ℕ) → SizedState s → WritePassed s m t id a (length bs)
+    → Fit (writtenState s (slotOf s id) m a bs) t
 unfolding writtenState
-written-fits s t j m a bs z f h e lm w g room =
+written-fits s m t id a bs z w =
+    let j = slotOf s id in
+    let p = w .runs in
+    let f = p .fits in
+    let h = p .listed in
     let r = writtenState s j m a bs in
     let x = txAt s j in
     let old = take (length bs) (drop a m) in
     let u = written x a old bs in
-    let l : length old ≡ length bs = length-take-le (length bs) (drop a m) (rw length-drop (omega (arith, lm, w .within))) in
+    let l : length old ≡ length bs = length-take-le (length bs) (drop a m) (rw length-drop (omega (arith, p .memory, w .range .within))) in
     let y = z .each j h in
-    let few = image-count (imageOf s) (f .image) in
-    let c = written-slot s z j h few m a bs in
+    let c = written-slot s z j h (p .few) m a bs in
     let same : (i : ℕ) → i < r .count → (i ≡ j → ⊥) → i < s .count = λ i p n. p in
     let good = written-outline x a old bs y (w .undo) (w .redo) l (s .lastid .0) (s .assigned .0) (head-at (imageOf s) (f .image) j h)
-    (undo-at (imageOf s) (f .image) j h) g in
+    (p .undo) (w .range .ok) in
     let d = changed-distinct s t f r u j c (omega arith) (omega arith) same good
     (λ i p q. written-apart x a old bs y (w .undo) (w .redo) l (outlineAt s i) .0 ∙ apart s t f i j p h)
     (λ i p q. written-apart x a old bs y (w .undo) (w .redo) l (outlineAt s i) .1 ∙ apart s t f j i p q) in
     let sum = sum-changed roomOf (txAt s) (txAt r) j u c (s .count) 0 (omega arith) (omega (arith, h)) in
-    let more = written-room x a old bs y (w .undo) (w .redo) l e in
+    let more = written-room x a old bs y (w .undo) (w .redo) l (p .status) in
     record {
       recovered = f .recovered;
       image =
-          image-kept r (image-logend (imageOf s) (f .image)) (image-ordered (imageOf s) (f .image)) few
+          image-kept r (image-logend (imageOf s) (f .image)) (image-ordered (imageOf s) (f .image)) (p .few)
           (changed-outlines s t f r u j c (omega arith) (omega arith) same good) d;
-      room = omega (arith, sum, more, room);
-      redo = changed-redo s t f r u j c (omega arith) (omega arith) same good (written-redo-ok x a old bs y (w .undo) (w .redo) l (redo-at s t f j h e));
+      room = omega (arith, sum, more, w .room);
+      redo = changed-redo s t f r u j c (omega arith) (omega arith) same good (written-redo-ok x a old bs y (w .undo) (w .redo) l (p .same));
       tail = f .tail;
     }

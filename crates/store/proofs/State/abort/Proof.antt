@@ -1,9 +1,7 @@
 use borrow.Author.Needs.{needs}
 use Prim.Native.Nat.{ℕ}
 use native.Mathlib.Omega.{arith}
-use mathlib.Core.List.{[], _∷_}
 use mathlib.Core.Path.{_≡_, sym, ap, ap₂, _∙_}
-use lib.ListN.{length}
 use lib.Seq.{sets}
 use Rattle.recovery.specs.Group.{aborted}
 use Rattle.recovery.specs.Replay.{undoAll, layBytes}
@@ -11,12 +9,12 @@ use Rattle.log.specs.Group.{encodeGroup}
 use Rattle.transaction.specs.View.{writesOf}
 use Rattle.store.specs.State.{txAt}
 use Rattle.store.specs.Answer.{done, tells}
-use Rattle.store.specs.Numbers.{abortChecks, check7}
+use Rattle.store.specs.Numbers.{abortChecks}
 use Rattle.store.specs.Steps.{droppedState}
 use Rattle.store.specs.Calls.{Outcome, abortNumber}
-use Rattle.store.proofs.Admitting.{number-after, seen}
-use Rattle.store.proofs.Choosing.{choice-own, running}
-use Rattle.store.proofs.Calling.{Placed, placed, abort-refused, abort-done, usable-at}
+use Rattle.store.proofs.Admitting.{seen}
+use Rattle.store.proofs.Calling.{chosen-number, Placed, placed, abort-refused, abort-done}
+use Rattle.store.proofs.Passing.{RunningPassed, abort-passed}
 use Rattle.store.proofs.State.abort.Statement.{statement}
 use Rattle.store.proofs.State.abort.Tie as tie
 
@@ -34,8 +32,7 @@ own : (c : tie.After-choose-running) → let a = c .before .before .before .befo
     abortNumber (a .self) (a .memory .now) (a .tail .now) (a .id) ≡ c .choose-running .result .number
 own c =
     let a = c .before .before .before .before .before .args in
-    number-after _ _ _ _ (c .before .admit .ensures) (λ n. abortChecks (a .self) (a .id .0))
-    ∙ choice-own _ _ _ _ (abortChecks (a .self) (a .id .0)) (c .choose-running .ensures)
+    chosen-number _ _ _ _ _ _ (λ n. abortChecks (a .self) (a .id .0)) (c .before .admit .ensures) (c .choose-running .ensures)
 
 returns : tie.Need-returns
 returns c =
@@ -44,14 +41,18 @@ returns c =
     (ap (λ (x : Outcome). x .result) (sym o), (ap (λ (x : Outcome). x .memory) (sym o), ap (λ (x : Outcome). x .tail) (sym o)))
 
 found : (c : tie.Else1) → let a = c .before .before .before .before .before .before .before .args in
-    Placed (a .self) (length (a .memory .now)) (a .tail .now) (a .id .0) (c .before .before .choose-running .result) (λ k. check7 (a .self) (a .id .0) ∷ [])
+    Placed (a .self) (a .tail .now) (a .id .0) (c .before .before .choose-running .result)
 found c = placed _ _ _ _ _ _ _ (c .before .before .before .admit .ensures) (c .before .before .choose-running .ensures) (c .if1 .left)
+
+known : (c : tie.Else1) → let a = c .before .before .before .before .before .before .before .args in
+    RunningPassed (a .self) (a .memory .now) (a .tail .now) (a .id .0)
+known c = abort-passed _ _ _ _ (own (c .before .before) ∙ c .if1 .left)
 
 abort-step-requires : tie.Need-abort-step-requires
 abort-step-requires c κs =
     let w = found (c .before .before) in
-    let u = usable-at _ _ _ _ _ _ w in
-    ((u .listed, u .few, w .memory), (u .undo, omega (arith, w .end, w .tail, u .fits)))
+    let p = known (c .before .before) in
+    ((omega (arith, w .slot, p .listed), p .few, p .memory), (rw (w .slot) (p .undo), omega (arith, w .end, p .tail, p .room)))
 
 same-length-2 : tie.Need-same-length-2
 same-length-2 c = search needs
@@ -74,7 +75,7 @@ returns-2 c =
         step .ensures .1 .0 ∙ ap (λ (k : ℕ). undoAll layBytes (writesOf (txAt s k .undo)) m) (w .slot) ∙ ap (λ (x : Outcome). x .memory) (sym o),
         step .ensures .1 .1
             ∙ ap₂ (λ (e i : ℕ). sets t e (encodeGroup (aborted i))) (w .end)
-            (ap (λ (k : ℕ). txAt s k .id .0) (w .slot) ∙ running s (a .id .0) [] (w .own) .0 .named)
+            (ap (λ (k : ℕ). txAt s k .id .0) (w .slot) ∙ known else .named)
             ∙ ap (λ (x : Outcome). x .tail) (sym o),
       ),
     )

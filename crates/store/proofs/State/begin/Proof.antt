@@ -1,23 +1,17 @@
 use borrow.Author.Needs.{needs}
-use Prim.Native.Nat.{ℕ, _+_, _<_}
+use Prim.Native.Nat.{_<_}
 use native.Mathlib.Omega.{arith}
-use mathlib.Core.List.{[], _∷_}
 use mathlib.Core.Path.{_≡_, sym, ap, _∙_}
-use lib.ListN.{length}
-use lib.Dec.{eqb, ltb}
 use mir.Val.{Fits}
 use mir.Syntax.{w16}
-use borrow.Author.Tests.{eqb-false}
-use Rattle.image.proofs.Rules.{image-count}
-use Rattle.store.specs.State.{imageOf}
 use Rattle.store.specs.declared.State.{State}
 use Rattle.store.specs.Answer.{done, tells}
-use Rattle.store.specs.Numbers.{check, beginChecks}
+use Rattle.store.specs.Numbers.{beginChecks}
 use Rattle.store.specs.Steps.{begunState}
 use Rattle.store.specs.Calls.{beginNumber}
-use Rattle.store.proofs.Checks.{passed}
-use Rattle.store.proofs.Admitting.{after-passed, number-after, seen}
+use Rattle.store.proofs.Admitting.{number-after, seen}
 use Rattle.store.proofs.Calling.{begin-refused, begin-done}
+use Rattle.store.proofs.Passing.{begin-passed}
 use Rattle.store.proofs.State.begin.Statement.{statement}
 use Rattle.store.proofs.State.begin.Tie as tie
 
@@ -43,16 +37,10 @@ returns c =
 
 free : (c : tie.Else1) → let s = start (c .before) .args .self in (s .count < 8) × (s .lastid .0 < 65535)
 free c =
-    let s = start (c .before) .args .self in
-    let x = c .before .before .admit in
-    let r = x .result .room in
-    let rest = check 12 (eqb (s .lastid .0) 65535) ∷ check 13 (ltb 16384 (r + 8)) ∷ [] in
-    let z = after-passed (x .result) (check 11 (eqb (s .count) 8) ∷ rest) (sym (c .before .begin-number .ensures) ∙ c .if1 .left) in
-    let p = passed 11 (eqb (s .count) 8) rest (omega arith) (z .1) in
-    let q = passed 12 (eqb (s .lastid .0) 65535) (check 13 (ltb 16384 (r + 8)) ∷ []) (omega arith) (p .1) in
-    let w : Fits w16 (s .lastid .0) = search needs in
-    let few = image-count (imageOf s) (seen _ _ _ _ (x .ensures) (z .0) .0) in
-    (omega (arith, few, eqb-false (s .count) 8 (p .0)), omega (arith, w, eqb-false (s .lastid .0) 65535 (q .0)))
+    let a = start (c .before) .args in
+    let p = begin-passed (a .self) (a .memory .now) (a .tail .now) (own (c .before) ∙ c .if1 .left) in
+    let w : Fits w16 (a .self .lastid .0) = search needs in
+    (p .free, omega (arith, w, p .unspent))
 
 begin-step-requires : tie.Need-begin-step-requires
 begin-step-requires c κs = free c

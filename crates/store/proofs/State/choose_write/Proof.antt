@@ -6,7 +6,8 @@ use mathlib.Core.Path.{_≡_, refl, sym, ap, _∙_}
 use borrow.Author.Tests.{eq-eqb, ne-eqb, lt-ltb, le-ltb}
 use Rattle.store.specs.State.{txAt}
 use Rattle.store.specs.Numbers.{Check, txOf, check7, check8, check9, check10, check13, readChecks}
-use Rattle.store.proofs.Choosing.{choice-stops, choice-refuses, choice-goes, Slotted, slotted, running, ranged-by-8}
+use Rattle.store.proofs.Checks.{passed}
+use Rattle.store.proofs.Choosing.{choice-stops, choice-refuses, choice-goes, Slotted, slotted, ranged-by-8}
 use Rattle.store.proofs.State.choose_write.Statement.{statement}
 use Rattle.store.proofs.State.choose_write.Tie as tie
 
@@ -32,8 +33,7 @@ found c = slotted _ _ _ _ _ (c .before .before .before .pre) (c .before .before 
 short : (c : tie.Else1) → c .before .before .before .args .len ≤ 32
 short c =
     let a = c .before .before .before .args in
-    let more = check9 (a .t1) (a .id .0) (a .addr) (a .len) ∷ [] in
-    ranged-by-8 (a .addr) (a .len) more (running (a .t1) (a .id .0) (check8 (a .addr) (a .len) ∷ more) (found c .own) .1) .1
+    ranged-by-8 (a .addr) (a .len) (passed (readChecks (a .t1) (a .id .0) (a .addr) (a .len)) [] refl (found c .own) .0 .1 .1 .0) .short
 
 -- its undo records are those in the slot chosen
 records : (c : tie.Else1) → let a = c .before .before .before .args in

@@ -1,27 +1,23 @@
 use borrow.Author.Needs.{needs}
 use Prim.Native.Nat.{ℕ, _+_, _<_}
 use native.Mathlib.Omega.{arith}
-use mathlib.Core.List.{List, [], _∷_}
+use mathlib.Core.List.{List}
 use mathlib.Core.Path.{_≡_, sym, ap, ap₂, _∙_}
-use lib.ListN.{length}
 use lib.Seq.{sets}
-use lib.Dec.{eqb}
 use mir.Val.{Fits}
 use mir.Syntax.{w32}
-use borrow.Author.Tests.{eqb-false}
 use Rattle.recovery.specs.Group.{committed}
 use Rattle.log.specs.Group.{encodeGroup}
 use Rattle.transaction.specs.View.{writesOf}
 use Rattle.store.specs.declared.State.{State}
 use Rattle.store.specs.State.{txAt}
 use Rattle.store.specs.Answer.{done, tells}
-use Rattle.store.specs.Numbers.{txOf, precommitChecks, check7, check12}
+use Rattle.store.specs.Numbers.{txOf, precommitChecks}
 use Rattle.store.specs.Steps.{precommittedState}
 use Rattle.store.specs.Calls.{Outcome, precommitNumber}
-use Rattle.store.proofs.Checks.{passed}
-use Rattle.store.proofs.Admitting.{number-after, seen}
-use Rattle.store.proofs.Choosing.{choice-own, running}
-use Rattle.store.proofs.Calling.{Placed, placed, precommit-refused, precommit-done, usable-at}
+use Rattle.store.proofs.Admitting.{seen}
+use Rattle.store.proofs.Calling.{chosen-number, Placed, placed, precommit-refused, precommit-done}
+use Rattle.store.proofs.Passing.{PrecommitPassed, precommit-passed}
 use Rattle.store.proofs.State.precommit.Statement.{statement}
 use Rattle.store.proofs.State.precommit.Tie as tie
 
@@ -39,8 +35,7 @@ own : (c : tie.After-choose-precommit) → let a = c .before .before .before .be
     precommitNumber (a .self) (a .memory .now) (a .tail .now) (a .id) ≡ c .choose-precommit .result .number
 own c =
     let a = c .before .before .before .before .before .args in
-    number-after _ _ _ _ (c .before .admit .ensures) (λ n. precommitChecks (a .self) (a .id .0))
-    ∙ choice-own _ _ _ _ (precommitChecks (a .self) (a .id .0)) (c .choose-precommit .ensures)
+    chosen-number _ _ _ _ _ _ (λ n. precommitChecks (a .self) (a .id .0)) (c .before .admit .ensures) (c .choose-precommit .ensures)
 
 returns : tie.Need-returns
 returns c =
@@ -49,22 +44,24 @@ returns c =
     (ap (λ (x : Outcome). x .result) (sym o), ap (λ (x : Outcome). x .tail) (sym o))
 
 found : (c : tie.Else1) → let a = c .before .before .before .before .before .before .before .args in
-    Placed (a .self) (length (a .memory .now)) (a .tail .now) (a .id .0) (c .before .before .choose-precommit .result)
-    (λ k. check7 (a .self) (a .id .0) ∷ check12 (a .self) ∷ [])
+    Placed (a .self) (a .tail .now) (a .id .0) (c .before .before .choose-precommit .result)
 found c = placed _ _ _ _ _ _ _ (c .before .before .before .admit .ensures) (c .before .before .choose-precommit .ensures) (c .if1 .left)
+
+known : (c : tie.Else1) → let a = c .before .before .before .before .before .before .before .args in
+    PrecommitPassed (a .self) (a .memory .now) (a .tail .now) (a .id .0)
+known c = precommit-passed _ _ _ _ (own (c .before .before) ∙ c .if1 .left)
 
 unspent : (c : tie.Else1) → c .before .before .before .before .before .before .before .args .self .assigned .0 < 4294967295
 unspent c =
     let a = c .before .before .before .before .before .before .before .args in
     let w : Fits w32 (a .self .assigned .0) = search needs in
-    let p = passed 12 (eqb (a .self .assigned .0) 4294967295) [] (omega arith) (running (a .self) (a .id .0) (check12 (a .self) ∷ []) (found c .own) .1) in
-    omega (arith, w, eqb-false (a .self .assigned .0) 4294967295 (p .0))
+    omega (arith, w, known c .unspent)
 
 precommit-step-requires : tie.Need-precommit-step-requires
 precommit-step-requires c κs =
     let w = found (c .before) in
-    let u = usable-at _ _ _ _ _ _ w in
-    ((omega (arith, u .listed, u .few), unspent (c .before)), (u .redo, omega (arith, w .end, w .tail, u .fits)))
+    let p = known (c .before) .runs in
+    ((omega (arith, w .slot, p .listed, p .few), unspent (c .before)), (rw (w .slot) (p .redo), rw (w .slot) (omega (arith, w .end, p .tail, p .room))))
 
 same-length-2 : tie.Need-same-length-2
 same-length-2 c = search needs
@@ -84,7 +81,7 @@ returns-2 c =
     let e : encodeGroup (committed (txAt s k .id .0) csn (writesOf (txAt s k .redo)))
     ≡ encodeGroup (committed (a .id .0) csn (writesOf (txOf s (a .id .0) .redo))) =
     ap (λ (j : ℕ). encodeGroup (committed (txAt s j .id .0) csn (writesOf (txAt s j .redo)))) (w .slot)
-    ∙ ap (λ (i : ℕ). encodeGroup (committed i csn (writesOf (txOf s (a .id .0) .redo)))) (running s (a .id .0) (check12 s ∷ []) (w .own) .0 .named) in (
+    ∙ ap (λ (i : ℕ). encodeGroup (committed i csn (writesOf (txOf s (a .id .0) .redo)))) (known else .runs .named) in (
       ap (λ (u : State). tells done (u .assigned .0) 0 u) (step .ensures .0 ∙ ap (precommittedState s) (w .slot)) ∙ ap (λ (x : Outcome). x .result) (sym o),
       step .ensures .1 ∙ ap₂ (λ (i : ℕ) (bs : List ℕ). sets t i bs) (w .end) e ∙ ap (λ (x : Outcome). x .tail) (sym o),
     )

@@ -1,14 +1,13 @@
 use borrow.Author.Needs.{needs}
-use Prim.Native.Nat.{ℕ, _+_, _-_, _≤_}
+use Prim.Native.Nat.{ℕ, _+_, _-_}
 use native.Mathlib.Omega.{arith}
-use mathlib.Core.List.{[], _∷_}
 use mathlib.Core.Path.{_≡_, sym, ap, _∙_}
-use lib.ListN.{length, take, drop}
-use Rattle.store.specs.Numbers.{readChecks, check7, check8, check9}
+use lib.ListN.{take, drop}
+use Rattle.store.specs.Numbers.{readChecks}
 use Rattle.store.specs.Calls.{readNumber}
-use Rattle.store.proofs.Admitting.{number-after, seen}
-use Rattle.store.proofs.Choosing.{choice-own, running, ranged-by-8}
-use Rattle.store.proofs.Calling.{Placed, placed, read-refused, read-done}
+use Rattle.store.proofs.Admitting.{seen}
+use Rattle.store.proofs.Calling.{chosen-number, read-refused, read-done}
+use Rattle.store.proofs.Passing.{ReadPassed, read-passed}
 use Rattle.store.proofs.State.read.Statement.{statement}
 use Rattle.store.proofs.State.read.Tie as tie
 
@@ -32,8 +31,7 @@ own : (c : tie.After-choose-read) → let a = c .before .before .before .before 
     readNumber (a .self) (a .memory .now) (a .tail .now) (a .id) (a .addr) (a .len) ≡ c .choose-read .result .number
 own c =
     let a = c .before .before .before .before .args in
-    number-after _ _ _ _ (c .before .admit .ensures) (λ n. readChecks (a .self) (a .id .0) (a .addr) (a .len))
-    ∙ choice-own _ _ _ _ (readChecks (a .self) (a .id .0) (a .addr) (a .len)) (c .choose-read .ensures)
+    chosen-number _ _ _ _ _ _ (λ n. readChecks (a .self) (a .id .0) (a .addr) (a .len)) (c .before .admit .ensures) (c .choose-read .ensures)
 
 returns : tie.Need-returns
 returns c =
@@ -41,19 +39,13 @@ returns c =
     sym (read-refused (a .self) (a .memory .now) (a .tail .now) (a .id) (a .addr) (a .len) _ (own (c .before .before .before)) (c .before .if1 .taken))
 
 found : (c : tie.Else1) → let a = c .before .before .before .before .before .before .args in
-    Placed (a .self) (length (a .memory .now)) (a .tail .now) (a .id .0) (c .before .before .choose-read .result)
-    (λ k. check7 (a .self) (a .id .0) ∷ check8 (a .addr) (a .len) ∷ check9 (a .self) (a .id .0) (a .addr) (a .len) ∷ [])
-found c = placed _ _ _ _ _ _ _ (c .before .before .before .admit .ensures) (c .before .before .choose-read .ensures) (c .if1 .left)
-
--- the range lies within memory
-ranged : (c : tie.Else1) → let a = c .before .before .before .before .before .before .args in a .addr + a .len ≤ 4096
-ranged c =
+    ReadPassed (a .self) (a .memory .now) (a .tail .now) (a .id .0) (a .addr) (a .len)
+found c =
     let a = c .before .before .before .before .before .before .args in
-    let last = check9 (a .self) (a .id .0) (a .addr) (a .len) ∷ [] in
-    ranged-by-8 (a .addr) (a .len) last (running (a .self) (a .id .0) (check8 (a .addr) (a .len) ∷ last) (found c .own) .1) .2
+    read-passed (a .self) (a .memory .now) (a .tail .now) (a .id) (a .addr) (a .len) (own (c .before .before) ∙ c .if1 .left)
 
 add-result : tie.Need-add-result
-add-result c = omega (arith, ranged c)
+add-result c = omega (arith, found c .range .within)
 
 sub-result-2 : tie.Need-sub-result-2
 sub-result-2 c = omega arith
@@ -62,7 +54,7 @@ part-result-start-2 : tie.Need-part-result-start-2
 part-result-start-2 c = omega arith
 
 part-result-end-2 : tie.Need-part-result-end-2
-part-result-end-2 c = omega (arith, ranged c, found c .memory)
+part-result-end-2 c = omega (arith, found c .range .within, found c .runs .memory)
 
 returns-2 : tie.Need-returns-2
 returns-2 c =

@@ -2,9 +2,8 @@ use borrow.Author.Needs.{needs}
 use mathlib.Core.Path.{_≡_, sym, _∙_}
 use Rattle.store.specs.Numbers.{readChecks}
 use Rattle.store.specs.Calls.{readNumber}
-use Rattle.store.proofs.Admitting.{number-after, seen}
-use Rattle.store.proofs.Choosing.{choice-own}
-use Rattle.store.proofs.Calling.{answer-refused, answer-done}
+use Rattle.store.proofs.Admitting.{seen}
+use Rattle.store.proofs.Calling.{chosen-number, answer-refused, answer-done}
 use Rattle.store.proofs.State.read_answer.Statement.{statement}
 use Rattle.store.proofs.State.read_answer.Tie as tie
 
@@ -19,8 +18,7 @@ own : (c : tie.After-choose-read) → let a = c .before .before .before .before 
     readNumber (a .self) (a .memory .now) (a .tail .now) (a .id) (a .addr) (a .len) ≡ c .choose-read .result .number
 own c =
     let a = c .before .before .before .before .args in
-    number-after _ _ _ _ (c .before .admit .ensures) (λ n. readChecks (a .self) (a .id .0) (a .addr) (a .len))
-    ∙ choice-own _ _ _ _ (readChecks (a .self) (a .id .0) (a .addr) (a .len)) (c .choose-read .ensures)
+    chosen-number _ _ _ _ _ _ (λ n. readChecks (a .self) (a .id .0) (a .addr) (a .len)) (c .before .admit .ensures) (c .choose-read .ensures)
 
 returns : tie.Need-returns
 returns c =

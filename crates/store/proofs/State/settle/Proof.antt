@@ -1,14 +1,13 @@
 use borrow.Author.Needs.{needs}
-use mathlib.Core.List.{[], _∷_}
+use native.Mathlib.Omega.{arith}
 use mathlib.Core.Path.{_≡_, sym, ap, _∙_}
-use lib.ListN.{length}
 use Rattle.store.specs.Answer.{done, tells}
-use Rattle.store.specs.Numbers.{settleChecks, check14}
+use Rattle.store.specs.Numbers.{settleChecks}
 use Rattle.store.specs.Steps.{droppedState}
 use Rattle.store.specs.Calls.{settleNumber}
-use Rattle.store.proofs.Admitting.{number-after, seen}
-use Rattle.store.proofs.Choosing.{choice-own}
-use Rattle.store.proofs.Calling.{Placed, placed, settle-refused, settle-done}
+use Rattle.store.proofs.Admitting.{seen}
+use Rattle.store.proofs.Calling.{chosen-number, Placed, placed, settle-refused, settle-done}
+use Rattle.store.proofs.Passing.{settle-passed}
 use Rattle.store.proofs.State.settle.Statement.{statement}
 use Rattle.store.proofs.State.settle.Tie as tie
 
@@ -23,8 +22,7 @@ own : (c : tie.After-choose-settle) → let a = c .before .before .before .befor
     settleNumber (a .self) (a .memory .now) (a .tail .now) (a .id) ≡ c .choose-settle .result .number
 own c =
     let a = c .before .before .before .before .args in
-    number-after _ _ _ _ (c .before .admit .ensures) (λ n. settleChecks (a .self) (a .id .0))
-    ∙ choice-own _ _ _ _ (settleChecks (a .self) (a .id .0)) (c .choose-settle .ensures)
+    chosen-number _ _ _ _ _ _ (λ n. settleChecks (a .self) (a .id .0)) (c .before .admit .ensures) (c .choose-settle .ensures)
 
 returns : tie.Need-returns
 returns c =
@@ -32,11 +30,14 @@ returns c =
     sym (settle-refused (a .self) (a .memory .now) (a .tail .now) (a .id) _ (own (c .before .before)) (c .if1 .taken))
 
 found : (c : tie.Else1) → let a = c .before .before .before .before .before .before .args in
-    Placed (a .self) (length (a .memory .now)) (a .tail .now) (a .id .0) (c .before .before .choose-settle .result) (λ k. check14 (a .self) (a .id .0) ∷ [])
+    Placed (a .self) (a .tail .now) (a .id .0) (c .before .before .choose-settle .result)
 found c = placed _ _ _ _ _ _ _ (c .before .before .before .admit .ensures) (c .before .before .choose-settle .ensures) (c .if1 .left)
 
 drop-step-requires : tie.Need-drop-step-requires
-drop-step-requires c κs = let w = found c in (w .listed, w .few)
+drop-step-requires c κs =
+    let a = c .before .before .before .before .before .before .args in
+    let p = settle-passed (a .self) (a .memory .now) (a .tail .now) (a .id) (own (c .before .before) ∙ c .if1 .left) in
+    (omega (arith, found c .slot, p .listed), p .few)
 
 returns-2 : tie.Need-returns-2
 returns-2 c =

@@ -1,16 +1,15 @@
 use borrow.Author.Needs.{needs}
 use Prim.Native.Nat.{ℕ}
-use mathlib.Core.List.{[], _∷_}
-use mathlib.Core.Path.{_≡_, sym, ap, _∙_, subst}
+use native.Mathlib.Omega.{arith}
+use mathlib.Core.Path.{_≡_, sym, ap, _∙_}
 use lib.ListN.{length}
-use Rattle.store.specs.Rules.{roomUsed}
 use Rattle.store.specs.Answer.{done, tells}
-use Rattle.store.specs.Numbers.{check7, check8, check9, check10, check13, writeChecks}
+use Rattle.store.specs.Numbers.{writeChecks}
 use Rattle.store.specs.Steps.{writtenState}
 use Rattle.store.specs.Calls.{Outcome, writeNumber}
-use Rattle.store.proofs.Admitting.{number-after, seen}
-use Rattle.store.proofs.Choosing.{choice-own}
-use Rattle.store.proofs.Calling.{Placed, placed, write-refused, write-done, Writable, writable}
+use Rattle.store.proofs.Admitting.{seen}
+use Rattle.store.proofs.Calling.{chosen-number, Placed, placed, write-refused, write-done}
+use Rattle.store.proofs.Passing.{write-passed}
 use Rattle.store.proofs.State.write.Statement.{statement}
 use Rattle.store.proofs.State.write.Tie as tie
 
@@ -25,8 +24,8 @@ own : (c : tie.After-choose-write) → let a = c .before .before .before .before
     writeNumber (a .self) (a .memory .now) (a .tail .now) (a .id) (a .addr) (length (a .bytes .now)) ≡ c .choose-write .result .number
 own c =
     let a = c .before .before .before .before .before .args in
-    number-after _ _ _ _ (c .before .admit .ensures) (λ n. writeChecks (a .self) n (a .id .0) (a .addr) (length (a .bytes .now)))
-    ∙ choice-own _ _ _ _ (writeChecks (a .self) (c .before .admit .result .room) (a .id .0) (a .addr) (length (a .bytes .now))) (c .choose-write .ensures)
+    chosen-number _ _ _ _ _ _ (λ n. writeChecks (a .self) n (a .id .0) (a .addr) (length (a .bytes .now))) (c .before .admit .ensures)
+    (c .choose-write .ensures)
 
 returns : tie.Need-returns
 returns c =
@@ -35,23 +34,17 @@ returns c =
     (ap (λ (x : Outcome). x .result) (sym o), ap (λ (x : Outcome). x .memory) (sym o))
 
 found : (c : tie.Else1) → let a = c .before .before .before .before .before .before .before .args in
-    let n = length (a .bytes .now) in
-    Placed (a .self) (length (a .memory .now)) (a .tail .now) (a .id .0) (c .before .before .choose-write .result)
-    (λ k. check7 (a .self) (a .id .0) ∷ check8 (a .addr) n ∷ check9 (a .self) (a .id .0) (a .addr) n ∷ check10 (a .self) (a .id .0) ∷ check13 k n ∷ [])
+    Placed (a .self) (a .tail .now) (a .id .0) (c .before .before .choose-write .result)
 found c = placed _ _ _ _ _ _ _ (c .before .before .before .admit .ensures) (c .before .before .choose-write .ensures) (c .if1 .left)
-
-ready : (c : tie.Else1) → let a = c .before .before .before .before .before .before .before .args in
-    Writable (a .self) (c .before .before .choose-write .result .slot) (a .addr) (length (a .bytes .now))
-ready c =
-    let a = c .before .before .before .before .before .before .before .args in
-    let w = found c in
-    subst (λ (k : ℕ). Writable (a .self) k (a .addr) (length (a .bytes .now))) (sym (w .slot))
-    (writable (a .self) (a .tail .now) (roomUsed (a .self) (a .tail .now)) (a .id .0) (a .addr) (length (a .bytes .now)) (w .fits) (w .own))
 
 write-step-requires : tie.Need-write-step-requires
 write-step-requires c κs =
-    let r = ready (c .before) in
-    ((r .slot, found (c .before) .memory, r .short, r .within), (r .undo, r .redo))
+    let x = c .before in
+    let a = x .before .before .before .before .before .before .before .args in
+    let p = write-passed (a .self) (a .memory .now) (a .tail .now) (a .id) (a .addr) (length (a .bytes .now)) (own (x .before .before) ∙ x .if1 .left) in
+    let r = p .runs in
+    let w = found x .slot in
+    ((omega (arith, w, r .listed, r .few), r .memory, p .range .short, p .range .within), (rw w (p .undo), rw w (p .redo)))
 
 same-length : tie.Need-same-length
 same-length c = search needs
