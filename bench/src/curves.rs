@@ -1,7 +1,7 @@
 //! What is plotted: restart over the log's length, begin over the tail's.
 
 use crate::clock::Clock;
-use crate::measure;
+use crate::measure::{self, Times};
 use crate::plot::{Curve, Plot};
 use crate::programs::Program;
 use crate::rows::{abort_many, commit_groups, logged, opened, RESTART};
@@ -22,35 +22,31 @@ const COLOURS: [(&str, &str); 3] = [
     ("tuned", "#2e8b57"),
 ];
 
-/// Writes both plots into a folder.
+/// Writes both plots into a folder. All their points are gone through together,
+/// so that a slow moment of the machine bends no curve.
 pub fn write_all(
     folder: &Path,
     clock: &Clock,
     programs: &mut [Box<dyn Program>],
 ) -> std::io::Result<()> {
-    let restart = Plot {
-        title: "Restart over the length of the log, time on a logarithmic scale".to_string(),
-        x_title: "bytes of groups in the log".to_string(),
-        curves: [
-            curves(clock, programs, "632-byte groups", &RESTART, &full_logs()),
-            curves(clock, programs, "empty groups", &RESTART, &empty_logs()),
-        ]
-        .concat(),
+    let sets = sets();
+    let points = || {
+        sets.iter()
+            .flat_map(|set| set.worlds.iter().map(|w| (&w.1, &set.call)))
     };
+    let calls: Vec<_> = points().collect();
+    let times = measure::least(|| measure::calls(clock, programs, &calls));
+    let names: Vec<&str> = programs.iter().map(|program| program.name()).collect();
+    let mut curves = curves(&sets, &names, &times);
     let begin = Plot {
         title: "Begin over the length of the tail, time on a logarithmic scale".to_string(),
         x_title: "bytes of groups in the tail".to_string(),
-        curves: [
-            curves(
-                clock,
-                programs,
-                "632-byte groups",
-                &Call::Begin,
-                &full_tails(),
-            ),
-            curves(clock, programs, "aborts", &Call::Begin, &abort_tails()),
-        ]
-        .concat(),
+        curves: curves.split_off(curves.len() / 2),
+    };
+    let restart = Plot {
+        title: "Restart over the length of the log, time on a logarithmic scale".to_string(),
+        x_title: "bytes of groups in the log".to_string(),
+        curves,
     };
     std::fs::write(folder.join("restart.svg"), restart.svg())?;
     std::fs::write(folder.join("tail.svg"), begin.svg())
@@ -58,6 +54,30 @@ pub fn write_all(
 
 /// Worlds with so many bytes of groups.
 type Worlds = Vec<(usize, World)>;
+
+/// A call over growing lengths of one kind of groups.
+struct Set {
+    groups: &'static str,
+    dashed: bool,
+    call: Call,
+    worlds: Worlds,
+}
+
+/// Two of restart, then two of begin.
+fn sets() -> [Set; 4] {
+    let set = |groups, dashed, call, worlds| Set {
+        groups,
+        dashed,
+        call,
+        worlds,
+    };
+    [
+        set("632-byte groups", false, RESTART, full_logs()),
+        set("empty groups", true, RESTART, empty_logs()),
+        set("632-byte groups", false, Call::Begin, full_tails()),
+        set("aborts", true, Call::Begin, abort_tails()),
+    ]
+}
 
 /// Parts of a number, from none to all of it, close together at first: there
 /// the curves bend most.
@@ -99,30 +119,29 @@ fn abort_tails() -> Worlds {
     worlds
 }
 
-/// A curve for each program, dashed where the groups are small.
-fn curves(
-    clock: &Clock,
-    programs: &mut [Box<dyn Program>],
-    what: &str,
-    call: &Call,
-    worlds: &Worlds,
-) -> Vec<Curve> {
-    let mut curves: Vec<Curve> = programs
-        .iter()
-        .map(|program| Curve {
-            label: format!("{}, {what}", program.name()),
-            colour: colour(program.name()),
-            dashed: what != "632-byte groups",
-            points: Vec::new(),
-        })
-        .collect();
-    let calls: Vec<_> = worlds.iter().map(|(_, world)| (world, call)).collect();
-    let times = measure::calls(clock, programs, &calls);
-    for (curve, i) in curves.iter_mut().zip(0..) {
-        let place = |((bytes, _), times): (&(usize, World), &Vec<f64>)| (*bytes as f64, times[i]);
-        curve.points = worlds.iter().zip(&times).map(place).collect();
+/// A curve of each program for each set; the times are those of all points in
+/// a row.
+fn curves(sets: &[Set], names: &[&str], times: &Times) -> Vec<Curve> {
+    let mut rest = &times[..];
+    let mut curves = Vec::new();
+    for set in sets {
+        let (own, others) = rest.split_at(set.worlds.len());
+        let curve = |(i, name): (usize, &&str)| Curve {
+            label: format!("{name}, {}", set.groups),
+            colour: colour(name),
+            dashed: set.dashed,
+            points: points(&set.worlds, own, i),
+        };
+        curves.extend(names.iter().enumerate().map(curve));
+        rest = others;
     }
     curves
+}
+
+/// The bytes and the times of the i-th program.
+fn points(worlds: &Worlds, times: &[Vec<f64>], i: usize) -> Vec<(f64, f64)> {
+    let bytes = worlds.iter().map(|(bytes, _)| *bytes as f64);
+    bytes.zip(times.iter().map(|times| times[i])).collect()
 }
 
 fn colour(name: &str) -> &'static str {

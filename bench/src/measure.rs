@@ -9,28 +9,28 @@ use crate::tuned::state::State;
 use second::trace::{Call, World};
 use std::hint::black_box;
 
-/// Times of calls, each with the world it finds: for each call the nanoseconds
-/// of each program. All calls are gone through several times and the least is
-/// taken, since the machine has slow seconds too.
-pub fn calls(
-    clock: &Clock,
-    programs: &mut [Box<dyn Program>],
-    calls: &[(&World, &Call)],
-) -> Vec<Vec<f64>> {
-    let mut least = vec![vec![f64::INFINITY; programs.len()]; calls.len()];
-    for turn in 0..PASSES * calls.len() {
-        let i = turn % calls.len();
-        keep_least(&mut least[i], &call(clock, programs, calls[i]));
+/// Lists of times, one for each thing that is timed.
+pub type Times = Vec<Vec<f64>>;
+
+/// Everything is gone through several times and the least is taken, since the
+/// machine has slow seconds too.
+const PASSES: usize = 6;
+
+/// The least of the passes, time by time.
+pub fn least(mut pass: impl FnMut() -> Times) -> Times {
+    let mut least = pass();
+    for _ in 1..PASSES {
+        let times = pass();
+        let pairs = least.iter_mut().flatten().zip(times.iter().flatten());
+        pairs.for_each(|(least, time)| *least = least.min(*time));
     }
     least
 }
 
-const PASSES: usize = 6;
-
-fn keep_least(least: &mut [f64], times: &[f64]) {
-    for (least, time) in least.iter_mut().zip(times) {
-        *least = least.min(*time);
-    }
+/// Calls, each with the world it finds: the nanoseconds of each program.
+pub fn calls(clock: &Clock, programs: &mut [Box<dyn Program>], calls: &[(&World, &Call)]) -> Times {
+    let times = |found: &(&World, &Call)| call(clock, programs, *found);
+    calls.iter().map(times).collect()
 }
 
 fn call(
@@ -90,21 +90,16 @@ impl Stepper {
     }
 }
 
-/// The nanoseconds of a whole step, for each of them.
-pub fn steps(clock: &Clock, steppers: &mut [Stepper]) -> Vec<f64> {
+/// The nanoseconds of a whole step, for each of them. `turn` counts the steps.
+pub fn steps(clock: &Clock, steppers: &mut [Stepper], turn: &mut usize) -> Vec<f64> {
     let world = opened();
     let state = Box::new(State::UNRECOVERED);
-    let mut least = vec![f64::INFINITY; steppers.len()];
-    let mut turn = 0;
-    let mut go = |stepper: &mut Stepper| {
+    let go = |stepper: &mut Stepper| {
         for _ in 0..STEPS {
-            stepper.step(turn, &world.tail, &state);
-            turn += 1;
+            stepper.step(*turn, &world.tail, &state);
+            *turn += 1;
         }
     };
-    for _ in 0..PASSES {
-        let times = clock.each(steppers, |stepper| stepper.prepare(&world), &mut go);
-        keep_least(&mut least, &times);
-    }
-    least.iter().map(|time| time / STEPS as f64).collect()
+    let times = clock.each(steppers, |stepper| stepper.prepare(&world), go);
+    times.iter().map(|time| time / STEPS as f64).collect()
 }

@@ -2,7 +2,6 @@
 
 use std::fmt::Write;
 
-#[derive(Clone)]
 pub struct Curve {
     pub label: String,
     pub colour: &'static str,

@@ -1,6 +1,7 @@
 //! The tables, as Markdown.
 
 use crate::floor::FLOORS;
+use crate::measure::Times;
 use crate::rows::Row;
 
 /// Why rows miss a goal: `name, case: reason` on a line each.
@@ -14,11 +15,11 @@ const OF_SQLITE: f64 = 0.5;
 /// The most that a step may take, in scans of a tail: 6 µs where one takes 0.4.
 const SCANS: f64 = 15.0;
 
-pub const CALLS_HEAD: &str =
+const CALLS_HEAD: &str =
     "| call | with | ours, ns | second, ns | tuned, ns | ours / second | ours / tuned | misses |
 |---|---|---:|---:|---:|---:|---:|---|";
 
-pub const STEPS_HEAD: &str = "| floor, or a step of | ns | ours / it | scans | misses |
+const STEPS_HEAD: &str = "| floor, or a step of | ns | ours / it | scans | misses |
 |---|---:|---:|---:|---|";
 
 /// Nanoseconds, with a comma between the thousands.
@@ -34,9 +35,18 @@ pub fn nanos(time: f64) -> String {
     text
 }
 
-/// A row of the programs' times, ours first; without the proved library its
-/// columns stay empty.
-pub fn call_line(row: &Row, times: &[f64]) -> String {
+/// The table of the calls, by the programs' times.
+pub fn calls(rows: &[Row], times: &Times) -> String {
+    let mut table = format!("{CALLS_HEAD}\n");
+    for (row, times) in rows.iter().zip(times) {
+        table += &call_line(row, times);
+        table.push('\n');
+    }
+    table
+}
+
+/// Ours is the first time; without the proved library its columns stay empty.
+fn call_line(row: &Row, times: &[f64]) -> String {
     let (name, case) = (row.name, row.case);
     let &[ours, second, tuned] = times else {
         let rest: Vec<String> = times.iter().map(|time| nanos(*time)).collect();
@@ -60,27 +70,29 @@ pub fn call_line(row: &Row, times: &[f64]) -> String {
     )
 }
 
-/// The rows of the floor and the steps, by names and nanoseconds; a scan is the
-/// first.
-pub fn step_lines(named: &[(String, f64)]) -> Vec<String> {
-    let scan = named[0].1;
-    let ours = named.iter().find(|(name, _)| name == "ours");
-    let line = |(name, time): &(String, f64)| {
+/// The table of the floor and the steps; a scan is its first row.
+pub fn steps(names: &[String], times: &[f64]) -> String {
+    let ours = names
+        .iter()
+        .position(|name| name == "ours")
+        .map(|i| times[i]);
+    let mut table = format!("{STEPS_HEAD}\n");
+    for (name, time) in names.iter().zip(times) {
         let is_floor = FLOORS.iter().any(|floor| floor.name == name);
         let (ratio, why) = match ours.filter(|_| !is_floor) {
-            Some((_, ours)) => (
+            Some(ours) => (
                 format!("{:.2}", ours / time),
-                step_misses(name, *time, *ours, scan),
+                step_misses(name, *time, ours, times[0]),
             ),
-            None => (String::new(), String::new()),
+            None => Default::default(),
         };
-        let scans = time / scan;
-        format!(
-            "| {name} | {} | {ratio} | {scans:.1} | {why} |",
+        let scans = time / times[0];
+        table += &format!(
+            "| {name} | {} | {ratio} | {scans:.1} | {why} |\n",
             nanos(*time)
-        )
-    };
-    named.iter().map(line).collect()
+        );
+    }
+    table
 }
 
 fn step_misses(name: &str, time: f64, ours: f64, scan: f64) -> String {

@@ -32,5 +32,6 @@ pub fn all(folder: &Path) -> (Vec<Box<dyn Peer>>, Vec<String>) {
             Err(word) => missing.push(word),
         }
     }
+    missing.dedup();
     (peers, missing)
 }

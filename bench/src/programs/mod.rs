@@ -1,6 +1,7 @@
 //! The programs that are timed, each behind the same calls.
 
 mod flat;
+mod outcome;
 #[cfg(proved)]
 mod proved;
 mod second;

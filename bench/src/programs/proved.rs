@@ -2,7 +2,7 @@
 //! comes back in the reply.
 
 use super::flat::{flat, unflat};
-use super::second::{part, stored, yes_or_no};
+use super::outcome::{part, stored, yes_or_no};
 use super::{Buffers, Program, StepWrite};
 use crate::tuned::state::State;
 use second::trace::{Call, Outcome, World};

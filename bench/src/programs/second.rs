@@ -1,11 +1,12 @@
 //! The second program, tests/second.
 
+use super::outcome::{part, stored, told, yes_or_no};
 use super::{Buffers, Program, StepWrite};
 use second::layout::{MAX_TXS, MAX_UNDOS};
 use second::log::Write;
 use second::restart::{equal_in_meaning, restart};
 use second::state::{Refusal, State};
-use second::trace::{Answer, Call, Outcome, World};
+use second::trace::{Call, Outcome, World};
 
 pub struct Second {
     state: State,
@@ -115,39 +116,5 @@ impl Program for Second {
 
     fn buffers(&self) -> &Buffers {
         &self.lent
-    }
-}
-
-pub fn told(result: Result<u32, Refusal>) -> Outcome {
-    stored(result.map(|value| (false, 0, value as usize)))
-}
-
-/// Of cut, the stores made and the value told.
-pub fn stored(result: Result<(bool, usize, usize), Refusal>) -> Outcome {
-    let (answer, stores, value) = match result {
-        Ok((false, stores, value)) => (Answer::Done, stores, value),
-        Ok((true, stores, value)) => (Answer::Cut, stores, value),
-        Err(number) => (Answer::Refused(number), 0, 0),
-    };
-    Outcome {
-        answer,
-        value: value as u32,
-        stores,
-    }
-}
-
-pub fn part(part: &[u8]) -> Outcome {
-    answer(Answer::Part(part.len()))
-}
-
-pub fn yes_or_no(yes: bool) -> Outcome {
-    answer(if yes { Answer::Yes } else { Answer::No })
-}
-
-fn answer(answer: Answer) -> Outcome {
-    Outcome {
-        answer,
-        value: 0,
-        stores: 0,
     }
 }

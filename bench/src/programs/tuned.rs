@@ -1,7 +1,7 @@
 //! The tuned program, `crate::tuned`.
 
 use super::flat::{flat, unflat};
-use super::second::{part, stored, told, yes_or_no};
+use super::outcome::{part, stored, told, yes_or_no};
 use super::{Buffers, Program, StepWrite};
 use crate::tuned::restart::{equal_in_meaning, restart};
 use crate::tuned::state::State;
