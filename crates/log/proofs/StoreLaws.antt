@@ -196,6 +196,12 @@ shift-all b n h =
     let e : length b ≡ min n (length b) = omega arith in
     sym (ap₂ _++_ (drop-of-length-le b {i = n} h) (ap (λ (j : ℕ). replicate j 0) (sym e)))
 
+pub shift-none : (b : List ℕ) → b ≡ shifted 0 b
+unfolding shifted
+shift-none b =
+    let e : min 0 (length b) ≡ 0 = omega arith in
+    sym (ap (λ (k : ℕ). b ++ replicate k 0) e ∙ append-nil b)
+
 pub length-shifted : (n : ℕ) (b : List ℕ) → length (shifted n b) ≡ length b
 unfolding shifted
 length-shifted n b = simp (length-append, length-drop, length-replicate) (omega arith)

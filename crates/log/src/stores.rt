@@ -35,7 +35,7 @@ pub fn fill_zero(b: &mut [u8])
 }
 
 // What stands from n on moves to the front, with zeros after it; all zeros if nothing does.
-pub fn shift_down(b: &mut [u8], n: usize)
+fn move_down(b: &mut [u8], n: usize)
     ensures { λ _. ⌜ now (b .exit) ≡ shifted n (now (b .entry)) ⌝ }
 {
     if b.len() <= n {
@@ -48,6 +48,16 @@ pub fn shift_down(b: &mut [u8], n: usize)
         i += 1;
     }
     fill_zero(&mut b[keep..]);
+}
+
+// The same; with n = 0 nothing moves, and no byte is touched.
+pub fn shift_down(b: &mut [u8], n: usize)
+    ensures { λ _. ⌜ now (b .exit) ≡ shifted n (now (b .entry)) ⌝ }
+{
+    if n == 0 {
+        return;
+    }
+    move_down(b, n);
 }
 
 fn least(a: usize, b: usize) -> usize
