@@ -139,7 +139,7 @@ module _ (from : Start) where
   -- ---- the claim
 
   -- of one more restart's outcome
-  abbrev Restored : List Commit → DiskOutcome → Type 0
+  abbrev pub Restored : List Commit → DiskOutcome → Type 0
   Restored durable x =
       (x .result .says ≡ done) × (x .memory ≡ layCommits durable (from .memory))
       × (commits (readLog (from .csn) (logFrom 0 (x .disk))) ≡ durable)
