@@ -9,7 +9,8 @@ use lib.ListN.{length, take, drop}
 use lib.Seq.{take-append-add, drop-drop}
 use borrow.Author.Tests.{ne-eqb}
 use Rattle.recovery.specs.Group.{groupsSize}
-use Rattle.recovery.specs.Machine.{Disk, Live, down, up, checkpoints, checkpointIsCut, afterCheckpoint, withoutRedo}
+use Rattle.recovery.specs.Machine.{Disk, standingBefore, standingIn, Live, down, up, checkpoints, checkpointIsCut, afterCheckpoint, withoutRedo}
+use Rattle.recovery.proofs.Log.{checkpoint-stands}
 use Rattle.log.specs.Log.{readLog}
 use Rattle.log.specs.Stores.{apply}
 use Rattle.log.proofs.RoundTrip.{drop-take}
@@ -35,7 +36,7 @@ use Rattle.store.proofs.Stepping.{same-or-other}
 use Rattle.disk.specs.Layout.{pointerOf, imageAt, imagePart}
 use Rattle.disk.specs.Examine.{Loaded, loadOf}
 use Rattle.history.specs.Calls.{checkpoint, stored, World, stepOf}
-use Rattle.history.proofs.OnDisk.{OnDisk, same-image}
+use Rattle.history.proofs.OnDisk.{Start, OnDisk, same-image}
 use Rattle.history.proofs.Shows.{LiveOn, awake, rests, cut-rests, FollowsBy, refused-follows, checkpoint-refuses}
 
 -- what a pointer byte above 0 loads, of the part of a disk that it names
@@ -48,7 +49,7 @@ load-none : (x y : List ℕ) → loadOf 0 x ≡ loadOf 0 y
 unfolding loadOf
 load-none x y = refl
 
-module _ (w : World) (d : Disk) (l : Live) (o : OnDisk (w .disk) d) (v : LiveOn w d l) (a : ℕ)
+module _ {from : Start} (w : World) (d : Disk) (l : Live) (o : OnDisk from (w .disk) d) (v : LiveOn w d l) (a : ℕ)
     (z : diskNumber (w .state) (w .disk) (w .memory) (w .tail) ≡ 0) where
   abbrev s : State
   s = w .state
@@ -89,16 +90,16 @@ module _ (w : World) (d : Disk) (l : Live) (o : OnDisk (w .disk) d) (v : LiveOn 
         subst (λ (j : ℕ). loadOf j left ≡ loadOf j (w .disk)) (sym k)
         (load-named 2 left (w .disk) (λ y. omega (arith, y)) (ap (take 8653) (kept-b s (w .disk) m t a z h (e ∙ k))))))
 
-    shows-cut : OnDisk left d
+    shows-cut : OnDisk from left d
     shows-cut =
         same-image (w .disk) left d d o left-length (kept-pointer s (w .disk) m t a z h) (load-kept p (o .low) refl) refl refl
-        (ap (readLog 0) (kept-log s (w .disk) m t a z h) ∙ o .log)
+        (ap (readLog (from .csn)) (kept-log s (w .disk) m t a z h) ∙ o .log)
 
-    cut-follows : FollowsBy (up d l) (checkpoint a) (stepOf (checkpoint a) w)
+    cut-follows : FollowsBy from (up d l) (checkpoint a) (stepOf (checkpoint a) w)
     unfolding stepOf checkpointOf
     cut-follows =
         let e = stored-cut s (w .disk) m t (checkpointPlan s (w .disk) m t) a z (omega (arith, need, h)) in
-        subst (FollowsBy (up d l) (checkpoint a)) (sym (ap stored e))
+        subst (FollowsBy from (up d l) (checkpoint a)) (sym (ap stored e))
         (record {
           next = down d;
           step = checkpointIsCut d l;
@@ -152,7 +153,11 @@ module _ (w : World) (d : Disk) (l : Live) (o : OnDisk (w .disk) d) (v : LiveOn 
     unfolding loadOf
     loads = rw (ne-eqb (pointerOf left) 0 above)
 
-    shows-done : OnDisk left (afterCheckpoint d l)
+    -- what stands in the log stays as it was
+    same-stands : standingIn (afterCheckpoint d l) ≡ standingIn d
+    same-stands = append-nil (standingBefore (afterCheckpoint d l)) ∙ checkpoint-stands d l
+
+    shows-done : OnDisk from left (afterCheckpoint d l)
     shows-done =
         let content : contentOf (loadOf (pointerOf left) left .decoded .image)
         ≡ contentOf (imageOf s) = ap (λ (x : Loaded). contentOf (x .decoded .image)) loads ∙ restored .content in
@@ -165,15 +170,15 @@ module _ (w : World) (d : Disk) (l : Live) (o : OnDisk (w .disk) d) (v : LiveOn 
               ∙ ap (map withoutRedo) (views ∙ ap (λ (x : Live). x .txs) (v .view));
           memory = ap (λ (x : Loaded). x .memory) loads ∙ restored .memory ∙ ap (λ (x : Live). x .memory) (v .view);
           csn = ap (λ (c : Content). c .ondisk) content ∙ ap (λ (x : Live). x .csn) (v .view);
-          place = ap (λ (c : Content). c .logend) content ∙ v .end;
-          log = ap (readLog 0) (new-log s (w .disk) m t a z h) ∙ o .log ∙ sym (append-nil (d .before ++ d .after));
+          place = ap (λ (c : Content). c .logend) content ∙ v .end ∙ ap groupsSize (sym (checkpoint-stands d l));
+          log = ap (readLog (from .csn)) (new-log s (w .disk) m t a z h) ∙ o .log ∙ sym same-stands;
         }
 
-    done-follows : FollowsBy (up d l) (checkpoint a) (stepOf (checkpoint a) w)
+    done-follows : FollowsBy from (up d l) (checkpoint a) (stepOf (checkpoint a) w)
     unfolding stepOf checkpointOf
     done-follows =
         let e = stored-done s (w .disk) m t (checkpointPlan s (w .disk) m t) a z (omega (arith, need, h)) in
-        subst (FollowsBy (up d l) (checkpoint a)) (sym (ap stored e))
+        subst (FollowsBy from (up d l) (checkpoint a)) (sym (ap stored e))
         (record {
           next = up (afterCheckpoint d l) l;
           step = checkpoints d l;
@@ -185,7 +190,7 @@ module _ (w : World) (d : Disk) (l : Live) (o : OnDisk (w .disk) d) (v : LiveOn 
               fits = v .fits;
               sizes = v .sizes;
               view = v .view;
-              end = v .end ∙ ap groupsSize (sym (append-nil (d .before ++ d .after)));
+              end = v .end ∙ ap groupsSize (sym same-stands);
               zeros =
                   sym (drop-drop (s .logend) 17307 left) ∙ ap (drop (s .logend)) (new-log s (w .disk) m t a z h) ∙ drop-drop (s .logend) 17307 (w .disk)
                   ∙ v .zeros;
@@ -194,8 +199,8 @@ module _ (w : World) (d : Disk) (l : Live) (o : OnDisk (w .disk) d) (v : LiveOn 
           );
         })
 
-pub checkpoint-follows : (w : World) (d : Disk) (l : Live) → OnDisk (w .disk) d → LiveOn w d l → (a : ℕ)
-    → FollowsBy (up d l) (checkpoint a) (stepOf (checkpoint a) w)
+pub checkpoint-follows : {from : Start} (w : World) (d : Disk) (l : Live) → OnDisk from (w .disk) d → LiveOn w d l → (a : ℕ)
+    → FollowsBy from (up d l) (checkpoint a) (stepOf (checkpoint a) w)
 checkpoint-follows w d l o v a =
     same-or-other (diskNumber (w .state) (w .disk) (w .memory) (w .tail)) 0
     (λ z. elim (decLe a (imageSize (imageOf (w .state)))) [ yes h ↦ cut-follows w d l o v a z h | no h ↦ done-follows w d l o v a z (omega (arith, h)) ])

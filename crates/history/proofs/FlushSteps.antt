@@ -8,8 +8,9 @@ use lib.ListN.{length, take, drop, replicate, length-take, length-append, take-a
 use lib.Seq.{sets, sets-eq, length-take-le, take-all, take-at, drop-at, drop-drop}
 use Rattle.recovery.specs.Group.{Group, groupsSize, lastCsn, fitting}
 use Rattle.recovery.specs.Ledger as ledger
-use Rattle.recovery.specs.Machine.{Disk, Live, down, up, flushes, flushIsCut, storing, afterFlush}
+use Rattle.recovery.specs.Machine.{Disk, standingIn, Live, down, up, flushes, flushIsCut, storing, afterFlush}
 use Rattle.recovery.proofs.Groups.{groupsSize-append, fitting-all}
+use Rattle.recovery.proofs.Log.{stored-before, stored-stands}
 use Rattle.log.specs.Log.{readLog, encodeLog}
 use Rattle.log.specs.Stores.{apply, shifted}
 use Rattle.log.proofs.Parts.{encode-append, formed-first}
@@ -27,10 +28,11 @@ use Rattle.store.proofs.Checkpointing.{sets-before}
 use Rattle.store.proofs.Stepping.{same-or-other}
 use Rattle.history.specs.Calls.{flush, stored, World, stepOf}
 use Rattle.history.proofs.Padded.{padded, padded-front, padded-shifted}
-use Rattle.history.proofs.OnDisk.{OnDisk, same-front}
+use Rattle.history.proofs.OnDisk.{Start, OnDisk, same-front}
 use Rattle.history.proofs.Shows.{Neat, LiveOn, awake, rests, cut-rests, FollowsBy, refused-follows, flush-refuses}
 
-module _ (w : World) (d : Disk) (l : Live) (o : OnDisk (w .disk) d) (v : LiveOn w d l) (number : lastCsn 0 (d .before ++ d .after) ≡ w .state .ondisk .0)
+module _ {from : Start} (w : World) (d : Disk) (l : Live) (o : OnDisk from (w .disk) d) (v : LiveOn w d l)
+    (number : lastCsn (from .csn) (standingIn d) ≡ w .state .ondisk .0)
     (k : ℕ) where
   abbrev s : State
   s = w .state
@@ -116,36 +118,36 @@ module _ (w : World) (d : Disk) (l : Live) (o : OnDisk (w .disk) d) (v : LiveOn 
         (sym (drop-drop (length new) at (w .disk)) ∙ ap (drop (length new)) (v .zeros) ∙ drop-zeros (length new) (16384 - s .logend))
 
     -- the groups that were stored whole are read after those that stood there
-    log-left : readLog 0 (drop 17307 left) ≡ (d .before ++ d .after) ++ fitting n firsts
+    log-left : readLog (from .csn) (drop 17307 left) ≡ standingIn d ++ fitting n firsts
     log-left =
-        let gs = d .before ++ d .after in
+        let gs = standingIn d in
         let same : take (groupsSize gs) (drop 17307 left) ≡ take (groupsSize gs) (drop 17307 (w .disk)) =
         ap (λ (j : ℕ). take j (drop 17307 left)) (sym (v .end))
         ∙ sym (drop-take 17307 (s .logend) left)
         ∙ ap (drop 17307) (kept at (omega arith))
         ∙ drop-take 17307 (s .logend) (w .disk)
         ∙ ap (λ (j : ℕ). take j (drop 17307 (w .disk))) (v .end) in
-        log-same 0 gs (drop 17307 (w .disk)) (drop 17307 left) (o .log) same
+        log-same (from .csn) gs (drop 17307 (w .disk)) (drop 17307 left) (o .log) same
         ∙ ap (λ (hs : List Group). gs ++ hs)
         (ap₂ readLog number (drop-drop (groupsSize gs) 17307 left ∙ ap (λ (j : ℕ). drop (17307 + j) left) (sym (v .end)) ∙ behind)
         ∙ log-cut (s .ondisk .0) firsts n (16384 - s .logend - length new) (formed-first k (s .ondisk .0) groups (log-formed (s .ondisk .0) groups t refl)))
 
-    shows-left : (gs : List Group) → fitting n firsts ≡ gs → OnDisk left (storing gs d)
+    shows-left : (gs : List Group) → fitting n firsts ≡ gs → OnDisk from left (storing gs d)
     shows-left gs e =
-        same-front (w .disk) left d (storing gs d) o left-length (kept 17307 (omega arith)) refl refl
-        (log-left ∙ append-assoc (d .before) (d .after) (fitting n firsts) ∙ ap (λ (hs : List Group). d .before ++ (d .after ++ hs)) e)
+        same-front (w .disk) left d (storing gs d) o left-length (kept 17307 (omega arith)) refl (stored-before gs d)
+        (log-left ∙ ap (λ (hs : List Group). standingIn d ++ hs) e ∙ sym (stored-stands gs d))
 
   -- ---- the call
 
   firsts-same : firsts ≡ take k (l .tail)
   firsts-same = ap (take k) tail-same
 
-  cut-follows : (a : ℕ) → diskNumber s (w .disk) (w .memory) t ≡ 0 → a < size → FollowsBy (up d l) (flush k a) (stepOf (flush k a) w)
+  cut-follows : (a : ℕ) → diskNumber s (w .disk) (w .memory) t ≡ 0 → a < size → FollowsBy from (up d l) (flush k a) (stepOf (flush k a) w)
   unfolding stepOf flushOf
   cut-follows a z h =
       let e = stored-cut s (w .disk) (w .memory) t (flushPlan s (w .memory) t k) a z (omega (arith, flush-length s t k, h)) in
       let few : a < groupsSize (take k (l .tail)) = omega (arith, h, ap groupsSize firsts-same) in
-      subst (FollowsBy (up d l) (flush k a)) (sym (ap stored e))
+      subst (FollowsBy from (up d l) (flush k a)) (sym (ap stored e))
       (record {
         next = down (storing (fitting a (take k (l .tail))) d);
         step = flushIsCut d l k a few;
@@ -155,7 +157,7 @@ module _ (w : World) (d : Disk) (l : Live) (o : OnDisk (w .disk) d) (v : LiveOn 
         );
       })
 
-  done-follows : (a : ℕ) → diskNumber s (w .disk) (w .memory) t ≡ 0 → size ≤ a → FollowsBy (up d l) (flush k a) (stepOf (flush k a) w)
+  done-follows : (a : ℕ) → diskNumber s (w .disk) (w .memory) t ≡ 0 → size ≤ a → FollowsBy from (up d l) (flush k a) (stepOf (flush k a) w)
   unfolding stepOf flushOf
   done-follows a z h =
       let e = stored-done s (w .disk) (w .memory) t (flushPlan s (w .memory) t k) a z (omega (arith, flush-length s t k, h)) in
@@ -171,7 +173,7 @@ module _ (w : World) (d : Disk) (l : Live) (o : OnDisk (w .disk) d) (v : LiveOn 
       ∙ ap (drop size) (behind a)
       ∙ drop-at (new a) (replicate (16384 - s .logend - length (new a)) 0) size n
       ∙ ap (λ (j : ℕ). replicate j 0) rest in
-      subst (FollowsBy (up d l) (flush k a)) (sym (ap stored e))
+      subst (FollowsBy from (up d l) (flush k a)) (sym (ap stored e))
       (record {
         next = up (storing gs d) (afterFlush k l);
         step = flushes d l k a enough;
@@ -196,10 +198,7 @@ module _ (w : World) (d : Disk) (l : Live) (o : OnDisk (w .disk) d) (v : LiveOn 
                 omega (
                   arith,
                   v .end,
-                  groupsSize-append (d .before) (d .after),
-                  groupsSize-append (d .before) (d .after ++ gs),
-                  groupsSize-append
-                      (d .after) gs,
+                  ap groupsSize (stored-stands gs d) ∙ groupsSize-append (standingIn d) gs,
                   ap groupsSize firsts-same,
                 );
             zeros = zeros;
@@ -208,7 +207,7 @@ module _ (w : World) (d : Disk) (l : Live) (o : OnDisk (w .disk) d) (v : LiveOn 
         );
       })
 
-  pub flush-follows : (a : ℕ) → FollowsBy (up d l) (flush k a) (stepOf (flush k a) w)
+  pub flush-follows : (a : ℕ) → FollowsBy from (up d l) (flush k a) (stepOf (flush k a) w)
   flush-follows a =
       same-or-other (diskNumber s (w .disk) (w .memory) t) 0
       (λ z. elim (decLe size a) [ yes h ↦ done-follows a z h | no h ↦ cut-follows a z (omega (arith, h)) ])

@@ -36,7 +36,7 @@ use Rattle.store.proofs.Premises.{held-view, room-view}
 use Rattle.store.proofs.Keeping.{Kept, begin-keeps, write-keeps, precommit-keeps, abort-keeps, settle-keeps}
 use Rattle.history.specs.Calls.{Call, begin, write, precommit, abort, settle, World, Stepped, returned, changed, stepOf}
 use Rattle.history.specs.Demand.{eventOf}
-use Rattle.history.proofs.OnDisk.{OnDisk, opens}
+use Rattle.history.proofs.OnDisk.{Start, opens, OnDisk}
 use Rattle.history.proofs.Shows.{Neat, LiveOn, awake, FollowsBy, refused-follows, begin-refuses, write-refuses, precommit-refuses, abort-refuses}
 use Rattle.history.proofs.Shows.{settle-refuses, appended-neat}
 
@@ -59,7 +59,7 @@ dropped-same : (s : State) (j : ℕ) → (droppedState s j .logend ≡ s .logend
 unfolding droppedState
 dropped-same s j = (refl, refl)
 
-module _ (w : World) (d : Disk) (l : Live) (o : OnDisk (w .disk) d) (v : LiveOn w d l) where
+module _ {from : Start} (w : World) (d : Disk) (l : Live) (o : OnDisk from (w .disk) d) (v : LiveOn w d l) where
   abbrev s : State
   s = w .state
 
@@ -87,11 +87,11 @@ module _ (w : World) (d : Disk) (l : Live) (o : OnDisk (w .disk) d) (v : LiveOn 
     neat = subst (λ (n : ℕ). Neat n t') (sym (same .1)) neat;
   }
 
-  follows : (c : Call) (x : Stepped) (e : ledger.Event) (l' : Live) → stepOf c w ≡ x → eventOf c (x .reply) ≡ e → Step opens (up d l) e (up d l')
-      → OnDisk (x .world .disk) d → LiveOn (x .world) d l' → FollowsBy (up d l) c (stepOf c w)
+  follows : (c : Call) (x : Stepped) (e : ledger.Event) (l' : Live) → stepOf c w ≡ x → eventOf c (x .reply) ≡ e → Step (opens from) (up d l) e (up d l')
+      → OnDisk from (x .world .disk) d → LiveOn (x .world) d l' → FollowsBy from (up d l) c (stepOf c w)
   follows c x e l' is event step disk lv =
-      subst (FollowsBy (up d l) c) (sym is)
-      (record { next = up d l'; step = subst (λ (y : ledger.Event). Step opens (up d l) y (up d l')) (sym event) step; shows = (disk, awake lv) })
+      subst (FollowsBy from (up d l) c) (sym is)
+      (record { next = up d l'; step = subst (λ (y : ledger.Event). Step (opens from) (up d l) y (up d l')) (sym event) step; shows = (disk, awake lv) })
 
   room : roomUsed s t ≡ machine.roomUsed d l
   room = room-view s m t (v .sizes) fits ∙ ap₂ (λ (n : ℕ) (x : Live). n + groupsSize (x .tail) + reserved (running (x .txs))) (v .end) (v .view)
@@ -104,7 +104,7 @@ module _ (w : World) (d : Disk) (l : Live) (o : OnDisk (w .disk) d) (v : LiveOn 
 
   -- ---- begin
 
-  pub begin-follows : FollowsBy (up d l) begin (stepOf begin w)
+  pub begin-follows : FollowsBy from (up d l) begin (stepOf begin w)
   unfolding stepOf
   begin-follows =
       same-or-other (beginNumber s m t) 0
@@ -133,7 +133,7 @@ module _ (w : World) (d : Disk) (l : Live) (o : OnDisk (w .disk) d) (v : LiveOn 
     isRunning : RunningPassed s m t id → tx .committing ≡ false
     isRunning r = rw (r .status)
 
-    pub write-follows : (a : ℕ) (bs : List ℕ) → FollowsBy (up d l) (write id a bs) (stepOf (write id a bs) w)
+    pub write-follows : (a : ℕ) (bs : List ℕ) → FollowsBy from (up d l) (write id a bs) (stepOf (write id a bs) w)
     unfolding stepOf
     write-follows a bs =
         same-or-other (writeNumber s m t tid a (length bs)) 0
@@ -155,7 +155,7 @@ module _ (w : World) (d : Disk) (l : Live) (o : OnDisk (w .disk) d) (v : LiveOn 
         (v .neat)))
         (λ h. refused-follows (up d l) w (write id a bs) (o, awake v) (write-refuses w id a bs h))
 
-    pub precommit-follows : FollowsBy (up d l) (precommit id) (stepOf (precommit id) w)
+    pub precommit-follows : FollowsBy from (up d l) (precommit id) (stepOf (precommit id) w)
     unfolding stepOf
     precommit-follows =
         same-or-other (precommitNumber s m t tid) 0
@@ -175,7 +175,7 @@ module _ (w : World) (d : Disk) (l : Live) (o : OnDisk (w .disk) d) (v : LiveOn 
         (appended-neat s t (commitOf s id) (v .tail) fits (v .neat) y)))
         (λ h. refused-follows (up d l) w (precommit id) (o, awake v) (precommit-refuses w id h))
 
-    pub abort-follows : FollowsBy (up d l) (abort id) (stepOf (abort id) w)
+    pub abort-follows : FollowsBy from (up d l) (abort id) (stepOf (abort id) w)
     unfolding stepOf
     abort-follows =
         same-or-other (abortNumber s m t tid) 0
@@ -193,7 +193,7 @@ module _ (w : World) (d : Disk) (l : Live) (o : OnDisk (w .disk) d) (v : LiveOn 
         (appended-neat s t g (v .tail) fits (v .neat) y)))
         (λ h. refused-follows (up d l) w (abort id) (o, awake v) (abort-refuses w id h))
 
-    pub settle-follows : FollowsBy (up d l) (settle id) (stepOf (settle id) w)
+    pub settle-follows : FollowsBy from (up d l) (settle id) (stepOf (settle id) w)
     unfolding stepOf
     settle-follows =
         same-or-other (settleNumber s m t tid) 0

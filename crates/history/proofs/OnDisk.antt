@@ -3,7 +3,7 @@
 use Prim.Native.Nat.{ℕ, _+_, _-_, _*_, _≤_}
 use native.Mathlib.Omega.{arith}
 use mathlib.Core.Bool.{true}
-use mathlib.Core.List.{List, _++_}
+use mathlib.Core.List.{List, [], _++_}
 use mathlib.Core.Path.{_≡_, refl, sym, ap, ap₂, _∙_, subst}
 use lib.ListN.{length, take, drop, getD, replicate, length-replicate}
 use lib.Seq.{drop-drop, take-take, getD-take}
@@ -11,8 +11,9 @@ use Rattle.recovery.specs.Group.{Group, groupsSize, lastCsn}
 use Rattle.recovery.specs.Transaction.{Tx}
 use Rattle.recovery.specs.Replay.{layBytes}
 use Rattle.recovery.specs.Restart.{undone, aborts, recover}
-use Rattle.recovery.specs.Machine.{Opening, freshOpening, Disk, openingDisk, undoneBy, recovered}
+use Rattle.recovery.specs.Machine.{Opening, Disk, standingBefore, standingIn, openingDisk, undoneBy, recovered}
 use Rattle.recovery.proofs.Groups.{groupsSize-append}
+use Rattle.recovery.proofs.Log.{opening-stands}
 use Rattle.log.specs.Log.{readLog, encodeLog}
 use Rattle.log.proofs.Parts.{log-split}
 use Rattle.log.proofs.RoundTrip.{drop-take}
@@ -32,21 +33,31 @@ use Rattle.disk.proofs.Examining.{keeps, means}
 use Rattle.disk.proofs.Accepted.{imageIn, memoryIn, logIn, stepsIn, Accepted}
 use Rattle.history.proofs.Padded.{padded}
 
-pub record OnDisk (disk : List ℕ) (d : Disk) : Type 0 where
+-- What a history of this store opens from: a memory of 4,096 bytes and the last commit number, as an image without transactions has them.
+pub record Start : Type 0 where
+  pub memory : List ℕ
+  pub csn : ℕ
+  pub sized : length memory ≡ 4096
+
+-- in the machine's words, with 16,384 bytes of log
+abbrev pub opens : Start → Opening
+opens from = record { size = 4096; capacity = 16384; memory = from .memory; csn = from .csn; sized = from .sized }
+
+pub record OnDisk (from : Start) (disk : List ℕ) (d : Disk) : Type 0 where
   pub long : length disk ≡ 33691
   pub low : pointerOf disk ≤ 2
   pub ok : loadOf (pointerOf disk) disk .decoded .ok ≡ true
   pub txs : transactionsIn (imageIn disk) ≡ d .image .txs
   pub memory : memoryIn disk ≡ d .image .memory
   pub csn : imageIn disk .ondisk .0 ≡ d .image .csn
-  pub place : imageIn disk .logend ≡ groupsSize (d .before)
-  pub log : readLog 0 (logFrom 0 disk) ≡ d .before ++ d .after
+  pub place : imageIn disk .logend ≡ groupsSize (standingBefore d)
+  pub log : readLog (from .csn) (logFrom 0 disk) ≡ standingIn d
 
--- the opening of demand 3's lists: 4,096 bytes of memory, 16,384 of log, all zero
-abbrev pub opens : Opening
-opens = freshOpening 4096 16384
+-- An all-zero disk: without an image, memory is zero and the last commit number 0.
+abbrev pub fresh : Start
+fresh = record { memory = replicate 4096 0; csn = 0; sized = length-replicate {A = ℕ} 4096 0 }
 
-pub fresh-shows : OnDisk (replicate 33691 0) (openingDisk opens)
+pub fresh-shows : OnDisk fresh (replicate 33691 0) (openingDisk (opens fresh))
 unfolding loadOf emptyImage
 fresh-shows = record {
   long = length-replicate {A = ℕ} 33691 0;
@@ -55,14 +66,14 @@ fresh-shows = record {
   txs = refl;
   memory = refl;
   csn = refl;
-  place = refl;
-  log = ap (readLog 0) (drop-zeros 17307 33691) ∙ log-zeros 0 16384;
+  place = ap groupsSize (sym (opening-stands (opens fresh)));
+  log = ap (readLog 0) (drop-zeros 17307 33691) ∙ log-zeros 0 16384 ∙ ap (λ (gs : List Group). gs ++ []) (sym (opening-stands (opens fresh)));
 }
 
 -- ---- a disk whose image in use is the same
 
-pub same-image : (x y : List ℕ) (d e : Disk) → OnDisk x d → length y ≡ 33691 → pointerOf y ≡ pointerOf x → loadOf (pointerOf x) y ≡ loadOf (pointerOf x) x
-    → e .image ≡ d .image → e .before ≡ d .before → readLog 0 (logFrom 0 y) ≡ e .before ++ e .after → OnDisk y e
+pub same-image : {from : Start} (x y : List ℕ) (d e : Disk) → OnDisk from x d → length y ≡ 33691 → pointerOf y ≡ pointerOf x
+    → loadOf (pointerOf x) y ≡ loadOf (pointerOf x) x → e .image ≡ d .image → standingBefore e ≡ standingBefore d → readLog (from .csn) (logFrom 0 y) ≡ standingIn e → OnDisk from y e
 same-image x y d e o long p l i b log =
     let f : loadOf (pointerOf y) y ≡ loadOf (pointerOf x) x = ap (λ (q : ℕ). loadOf q y) p ∙ l in
     record {
@@ -88,34 +99,34 @@ front-load : (x y : List ℕ) → take 17307 x ≡ take 17307 y → (pointer : �
 unfolding loadOf
 front-load x y e pointer = let s = slot-within pointer in rw (part-same x y e (imageAt pointer) 8653 (omega arith))
 
-pub same-front : (x y : List ℕ) (d e : Disk) → OnDisk x d → length y ≡ 33691 → take 17307 y ≡ take 17307 x
-    → e .image ≡ d .image → e .before ≡ d .before → readLog 0 (logFrom 0 y) ≡ e .before ++ e .after → OnDisk y e
+pub same-front : {from : Start} (x y : List ℕ) (d e : Disk) → OnDisk from x d → length y ≡ 33691 → take 17307 y ≡ take 17307 x
+    → e .image ≡ d .image → standingBefore e ≡ standingBefore d → readLog (from .csn) (logFrom 0 y) ≡ standingIn e → OnDisk from y e
 same-front x y d e o long f =
     let p : pointerOf y ≡ pointerOf x = sym (getD-take 17307 y 0 0 (omega arith)) ∙ ap (λ (z : List ℕ). getD z 0 0) f ∙ getD-take 17307 x 0 0 (omega arith) in
     same-image x y d e o long p (front-load y x f (pointerOf x))
 
 -- ---- the groups after the image
 
-module _ (disk : List ℕ) (d : Disk) (o : OnDisk disk d) (n : lastCsn 0 (d .before) ≡ d .image .csn) where
+module _ {from : Start} (disk : List ℕ) (d : Disk) (o : OnDisk from disk d) (n : lastCsn (from .csn) (standingBefore d) ≡ d .image .csn) where
   pub groups-after : groupsOf (imageIn disk) (logIn disk) ≡ d .after
   groups-after =
-      ap₂ readLog (o .csn ∙ sym n) (ap (λ (k : ℕ). drop (17307 + k) disk) (o .place) ∙ sym (drop-drop (groupsSize (d .before)) 17307 disk))
-      ∙ log-split 0 (d .before) (d .after) (drop 17307 disk) (o .log)
+      ap₂ readLog (o .csn ∙ sym n) (ap (λ (k : ℕ). drop (17307 + k) disk) (o .place) ∙ sym (drop-drop (groupsSize (standingBefore d)) 17307 disk))
+      ∙ log-split (from .csn) (standingBefore d) (d .after) (drop 17307 disk) (o .log)
 
   pub undone-shown : restarts.undoneBy (imageIn disk) (logIn disk) ≡ undoneBy d
   undone-shown =
       ap₂ (λ (ts : List Tx) (k : ℕ). undone ts k (groupsOf (imageIn disk) (logIn disk))) (o .txs) (o .csn)
       ∙ ap (undone (d .image .txs) (d .image .csn)) groups-after
 
-  module _ (room : groupsSize (d .before ++ d .after) + 4 * length (undoneBy d) ≤ 16384) where
+  module _ (room : groupsSize (standingIn d) + 4 * length (undoneBy d) ≤ 16384) where
     rules : keepsRules (imageIn disk) ≡ true
     rules = keeps disk (o .low) (loadOf (pointerOf disk) disk .decoded) (memoryIn disk) refl refl (o .ok)
 
-    ends : imageIn disk .logend + stepsIn disk .answer .end ≡ groupsSize (d .before ++ d .after)
+    ends : imageIn disk .logend + stepsIn disk .answer .end ≡ groupsSize (standingIn d)
     unfolding stepsOf
     ends =
         let e = end-is (imageIn disk) rules (logIn disk) (memoryIn disk) (replicate 16384 0) ∙ ap groupsSize groups-after in
-        omega (arith, e, o .place, groupsSize-append (d .before) (d .after))
+        omega (arith, e, o .place, groupsSize-append (standingBefore d) (d .after))
 
     counts : stepsIn disk .answer .undone ≡ length (undoneBy d)
     unfolding stepsOf
@@ -139,7 +150,7 @@ module _ (disk : List ℕ) (d : Disk) (o : OnDisk disk d) (n : lastCsn 0 (d .bef
 
     -- ---- what it makes of it
 
-    pub end-shown : examineOf disk .result .end ≡ groupsSize (d .before ++ d .after)
+    pub end-shown : examineOf disk .result .end ≡ groupsSize (standingIn d)
     end-shown = ap (λ (m : Meaning). m .result .end) (accepts .is) ∙ ends
 
     pub count-shown : examineOf disk .result .undone ≡ length (undoneBy d)

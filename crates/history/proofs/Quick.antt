@@ -1,5 +1,5 @@
--- The calls, fast enough to be computed in long lists: the tail without its zeros, stores in one piece, lengths taken as known. Where `quick`
--- answers, it answers what the definitions do: of one call `right`, of a list of calls `right-run` (QuickRun).
+-- The calls of the table M1 to M10, fast enough to be computed in long lists: the tail without its zeros, stores in one piece, lengths taken as
+-- known. Where a quick way answers, it answers what the definitions do: of one call `quickly`, of a list of calls `right-run` (QuickRun).
 use Prim.Native.Nat.{ℕ, _+_, _-_, _≤_}
 use mathlib.Core.Bool.{Bool, cond, _&&_}
 use mathlib.Core.List.{List, [], _++_}
@@ -28,7 +28,6 @@ use Rattle.store.specs.Checkpoint.{targetAt, targetName}
 use Rattle.disk.specs.Examine.{examineOf}
 use Rattle.disk.specs.Restart.{recoveredState}
 use Rattle.disk.proofs.Accepted.{imageIn, logIn}
-use Rattle.history.specs.Calls.{Call, begin, write, read, readAnswer, precommit, abort, flush, settle, checkpoint, restart}
 use Rattle.history.specs.Calls.{Reply, told, part, World}
 use Rattle.history.proofs.Padded.{padded, numberOf}
 
@@ -159,15 +158,3 @@ module _ (d m bs : List ℕ) (s : State) where
       (cond (ltb a need) (cutting a left)
       (telling (r .undone) need left (examineOf d .memory) (encodeLog (aborts (undoneBy (imageIn d) (logIn d)))) (recoveredState (r .end) (r .csn) (r .last))))
       none
-
-abbrev pub quick : Call → Short → Option Went
-quick begin q = beginQuick (q .disk) (q .memory) (q .tail) (q .state)
-quick (write id a new) q = writeQuick (q .disk) (q .memory) (q .tail) (q .state) id a new
-quick (read id a k) q = readQuick (q .disk) (q .memory) (q .tail) (q .state) id a k
-quick (readAnswer id a k) q = answerQuick (q .disk) (q .memory) (q .tail) (q .state) id a k
-quick (precommit id) q = precommitQuick (q .disk) (q .memory) (q .tail) (q .state) id
-quick (abort id) q = abortQuick (q .disk) (q .memory) (q .tail) (q .state) id
-quick (flush k a) q = flushQuick (q .disk) (q .memory) (q .tail) (q .state) k a
-quick (settle id) q = settleQuick (q .disk) (q .memory) (q .tail) (q .state) id
-quick (checkpoint a) q = checkpointQuick (q .disk) (q .memory) (q .tail) (q .state) a
-quick (restart a) q = restartQuick (q .disk) (q .memory) (q .tail) (q .state) a

@@ -11,7 +11,7 @@ use Rattle.recovery.specs.Lists.{All}
 use Rattle.recovery.specs.Transaction.{Tx}
 use Rattle.recovery.specs.Restart.{groupId, aborts}
 use Rattle.recovery.specs.Ledger as ledger
-use Rattle.recovery.specs.Machine.{Disk, System, down, up, diskOf, Step, restarts, restartIsCut, undoneBy, recovered, afterRestart}
+use Rattle.recovery.specs.Machine.{Disk, standingBefore, standingIn, System, down, up, diskOf, Step, restarts, restartIsCut, undoneBy, recovered, afterRestart}
 use Rattle.recovery.proofs.Groups.{fitting-all}
 use Rattle.log.specs.Log.{readLog, encodeLog}
 use Rattle.log.specs.Stores.{apply}
@@ -34,7 +34,7 @@ use Rattle.disk.proofs.Usable.{tail-reads, usable}
 use Rattle.disk.proofs.Again.{cleared}
 use Rattle.history.specs.Calls.{restart, stored, World, stepOf}
 use Rattle.history.proofs.Padded.{padded}
-use Rattle.history.proofs.OnDisk.{OnDisk, opens, same-front, groups-after, undone-shown, accepts, number-none, end-shown, count-shown, csn-shown}
+use Rattle.history.proofs.OnDisk.{Start, opens, OnDisk, same-front, groups-after, undone-shown, accepts, number-none, end-shown, count-shown, csn-shown}
 use Rattle.history.proofs.OnDisk.{memory-shown, tail-shown}
 use Rattle.history.proofs.Shows.{Neat, LiveOn, awake, rests, cut-rests, FollowsBy}
 
@@ -42,12 +42,12 @@ use Rattle.history.proofs.Shows.{Neat, LiveOn, awake, rests, cut-rests,
 recovered-sized : (s : State) → s .txs ≡ replicate 8 emptyTx → s .count ≡ 0 → SizedState s
 recovered-sized s e c = record { slots = ap length e ∙ length-replicate {A = Slot} 8 emptyTx; each = λ i h. absurd (omega (arith, h, c)) }
 
-module _ (disk : List ℕ) (d : Disk) (o : OnDisk disk d) (n : lastCsn 0 (d .before) ≡ d .image .csn)
-    (room : groupsSize (d .before ++ d .after) + 4 * length (undoneBy d) ≤ 16384) where
+module _ {from : Start} (disk : List ℕ) (d : Disk) (o : OnDisk from disk d) (n : lastCsn (from .csn) (standingBefore d) ≡ d .image .csn)
+    (room : groupsSize (standingIn d) + 4 * length (undoneBy d) ≤ 16384) where
   abbrev end : ℕ
   end = examineOf disk .result .end
 
-  ends : end ≡ groupsSize (d .before ++ d .after)
+  ends : end ≡ groupsSize (standingIn d)
   ends = end-shown disk d o n room
 
   ok : Accepted disk
@@ -77,17 +77,17 @@ module _ (disk : List ℕ) (d : Disk) (o : OnDisk disk d) (n : lastCsn 0 (d .bef
         ∙ take-append-le 17307 (take front disk) zeros (omega (arith, front-length))
         ∙ take-take 17307 front disk (omega arith)
 
-    pub log-left : readLog 0 (drop 17307 left) ≡ d .before ++ d .after
+    pub log-left : readLog (from .csn) (drop 17307 left) ≡ standingIn d
     log-left =
         let j = end + (16384 - end - k) in
         let e : front ≡ 17307 + j = omega arith in
-        ap (λ (x : List ℕ). readLog 0 (drop 17307 x)) left-is
-        ∙ ap (readLog 0) (drop-append-le 17307 (take front disk) zeros (omega (arith, front-length)))
-        ∙ ap (λ (x : List ℕ). readLog 0 (x ++ zeros)) (ap (λ (i : ℕ). drop 17307 (take i disk)) e ∙ drop-take 17307 j disk)
-        ∙ log-torn 0 (d .before ++ d .after) (drop 17307 disk) j (16384 - end - (16384 - end - k)) (o .log)
-        ∙ fitting-all j (d .before ++ d .after) (omega (arith, ends))
+        ap (λ (x : List ℕ). readLog (from .csn) (drop 17307 x)) left-is
+        ∙ ap (readLog (from .csn)) (drop-append-le 17307 (take front disk) zeros (omega (arith, front-length)))
+        ∙ ap (λ (x : List ℕ). readLog (from .csn) (x ++ zeros)) (ap (λ (i : ℕ). drop 17307 (take i disk)) e ∙ drop-take 17307 j disk)
+        ∙ log-torn (from .csn) (standingIn d) (drop 17307 disk) j (16384 - end - (16384 - end - k)) (o .log)
+        ∙ fitting-all j (standingIn d) (omega (arith, ends))
 
-    shows-left : OnDisk left d
+    shows-left : OnDisk from left d
     shows-left = same-front disk left d d o (length-apply (take k (clearing end)) disk ∙ o .long) same refl refl log-left
 
   -- ---- the state, memory and tail of a restart that is done
@@ -156,24 +156,24 @@ module _ (disk : List ℕ) (d : Disk) (o : OnDisk disk d) (n : lastCsn 0 (d .bef
     restart-broken : a < 16384 - end → restartOf disk m t a ≡ cutFrom (examineOf disk) disk a
     restart-broken h = restart-cut disk m t a (o .long) lm lt (number-none disk d o n room) h
 
-pub restart-follows : (w : World) (s : System) → OnDisk (w .disk) (diskOf s) → length (w .memory) ≡ 4096 → length (w .tail) ≡ 16384
-    → lastCsn 0 (diskOf s .before) ≡ diskOf s .image .csn → groupsSize (diskOf s .before ++ diskOf s .after) + 4 * length (undoneBy (diskOf s)) ≤ 16384
-    → (a : ℕ) → FollowsBy s (restart a) (stepOf (restart a) w)
+pub restart-follows : {from : Start} (w : World) (s : System) → OnDisk from (w .disk) (diskOf s) → length (w .memory) ≡ 4096 → length (w .tail) ≡ 16384
+    → lastCsn (from .csn) (standingBefore (diskOf s)) ≡ diskOf s .image .csn → groupsSize (standingIn (diskOf s)) + 4 * length (undoneBy (diskOf s)) ≤ 16384
+    → (a : ℕ) → FollowsBy from s (restart a) (stepOf (restart a) w)
 unfolding stepOf
-restart-follows w s o lm lt n room a =
+restart-follows {from} w s o lm lt n room a =
     let d = diskOf s in
     elim (decLe (16384 - end (w .disk) d o n room) a) [
       | yes h ↦
-          subst (FollowsBy s (restart a)) (sym (ap stored (restart-made (w .disk) d o n room (w .memory) (w .tail) lm lt a h)))
+          subst (FollowsBy from s (restart a)) (sym (ap stored (restart-made (w .disk) d o n room (w .memory) (w .tail) lm lt a h)))
           (record {
             next = up d (afterRestart d (last (w .disk) d o n room));
             step =
-                subst (λ (e : ledger.Event). Step opens s e (up d (afterRestart d (last (w .disk) d o n room))))
+                subst (λ (e : ledger.Event). Step (opens from) s e (up d (afterRestart d (last (w .disk) d o n room))))
                 (ap ledger.restarted (sym (count-shown (w .disk) d o n room)))
                 (restarts s (last (w .disk) d o n room) (ids-image (w .disk) d o n room) (ids-groups (w .disk) d o n room));
             shows = (shows-left (w .disk) d o n room a, awake (lives (w .disk) d o n room a h));
           })
       | no h ↦
-          subst (FollowsBy s (restart a)) (sym (ap stored (restart-broken (w .disk) d o n room (w .memory) (w .tail) lm lt a (omega (arith, h)))))
+          subst (FollowsBy from s (restart a)) (sym (ap stored (restart-broken (w .disk) d o n room (w .memory) (w .tail) lm lt a (omega (arith, h)))))
           (record { next = down d; step = restartIsCut s; shows = (shows-left (w .disk) d o n room a, rests cut-rests) })
     ]

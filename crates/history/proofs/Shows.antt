@@ -9,7 +9,7 @@ use lib.Seq.{sets}
 use borrow.Author.Tests.{eq-eqb}
 use Rattle.recovery.specs.Group.{Group, groupsSize}
 use Rattle.recovery.specs.Ledger.{Event, unchanged}
-use Rattle.recovery.specs.Machine.{Disk, Live, System, up, diskOf, Step, stays}
+use Rattle.recovery.specs.Machine.{Disk, standingIn, Live, System, up, diskOf, Step, stays}
 use Rattle.log.specs.Group.{encodeGroup}
 use Rattle.log.specs.Log.{readLog, encodeLog}
 use Rattle.log.proofs.Parts.{encode-append}
@@ -34,7 +34,7 @@ use Rattle.history.specs.Calls.{Call, begin, write, read, readAnswer, pr
 use Rattle.history.specs.Calls.{stored, stepOf}
 use Rattle.history.specs.Demand.{eventOf}
 use Rattle.history.proofs.Padded.{padded, padded-append}
-use Rattle.history.proofs.OnDisk.{OnDisk, opens}
+use Rattle.history.proofs.OnDisk.{Start, opens, OnDisk}
 
 -- a tail is its groups, and zeros
 abbrev pub Neat : ℕ → List ℕ → Type 0
@@ -46,7 +46,7 @@ pub record LiveOn (w : World) (d : Disk) (l : Live) : Type 0 where
   pub fits : unfit (w .state) (w .tail) ≡ false
   pub sizes : SizedState (w .state)
   pub view : live (w .state) (w .memory) (w .tail) ≡ l
-  pub end : w .state .logend ≡ groupsSize (d .before ++ d .after)
+  pub end : w .state .logend ≡ groupsSize (standingIn d)
   pub zeros : drop (17307 + w .state .logend) (w .disk) ≡ replicate (16384 - w .state .logend) 0
   pub neat : Neat (w .state .ondisk .0) (w .tail)
 
@@ -65,17 +65,17 @@ pub data Beside (w : World) : System → Type 0 where
   awake : {d : Disk} {l : Live} → LiveOn w d l → Beside w (up d l)
   rests : {s : System} → Resting w → Beside w s
 
-abbrev pub Shows : World → System → Type 0
-Shows w s = OnDisk (w .disk) (diskOf s) × Beside w s
+abbrev pub Shows : Start → World → System → Type 0
+Shows from w s = OnDisk from (w .disk) (diskOf s) × Beside w s
 
 -- what a step of the machine answers to
-pub record Follows (s : System) (e : Event) (w : World) : Type 0 where
+pub record Follows (from : Start) (s : System) (e : Event) (w : World) : Type 0 where
   pub next : System
-  pub step : Step opens s e next
-  pub shows : Shows w next
+  pub step : Step (opens from) s e next
+  pub shows : Shows from w next
 
-abbrev pub FollowsBy : System → Call → Stepped → Type 0
-FollowsBy s c x = Follows s (eventOf c (x .reply)) (x .world)
+abbrev pub FollowsBy : Start → System → Call → Stepped → Type 0
+FollowsBy from s c x = Follows from s (eventOf c (x .reply)) (x .world)
 
 -- ---- calls that change nothing
 
@@ -83,11 +83,11 @@ pub record Refuses (w : World) (c : Call) : Type 0 where
   pub event : eventOf c (stepOf c w .reply) ≡ unchanged
   pub world : stepOf c w .world ≡ w
 
-pub refused-follows : (s : System) (w : World) (c : Call) → Shows w s → Refuses w c → FollowsBy s c (stepOf c w)
-refused-follows s w c h r = record {
+pub refused-follows : {from : Start} (s : System) (w : World) (c : Call) → Shows from w s → Refuses w c → FollowsBy from s c (stepOf c w)
+refused-follows {from} s w c h r = record {
   next = s;
-  step = subst (λ (e : Event). Step opens s e s) (sym (r .event)) (stays s);
-  shows = subst (λ (x : World). Shows x s) (sym (r .world)) h;
+  step = subst (λ (e : Event). Step (opens from) s e s) (sym (r .event)) (stays s);
+  shows = subst (λ (x : World). Shows from x s) (sym (r .world)) h;
 }
 
 module _ (w : World) where

@@ -48,12 +48,19 @@ module _ {A : Type 0} (f : ℕ → A) (d : A) where
 
 -- ---- the keys
 
+module _ (txs : List Tx) (keys : Keys) (e : keys ≡ keysOf txs) (i : ℕ) (h : i < 8) where
+  pub key-id : getD (keys .ids) i (record { 0 = 0 }) ≡ idAt txs i
+  unfolding keysOf
+  key-id = ap (λ (s : Keys). getD (s .ids) i (record { 0 = 0 })) e ∙ up-eight (idAt txs) _ i h
+
+  pub key-csn : getD (keys .csns) i (record { 0 = 0 }) ≡ csnAt txs i
+  unfolding keysOf
+  key-csn = ap (λ (s : Keys). getD (s .csns) i (record { 0 = 0 })) e ∙ up-eight (csnAt txs) _ i h
+
 pub by-keys : (txs : List Tx) (keys : Keys) → keys ≡ keysOf txs → (id csn k i : ℕ) → i + k ≤ 8
     → any (alike id csn) (upFrom (keyAt keys) k i) ≡ any (alike id csn) (upFrom (outlineAt txs) k i)
-unfolding keysOf
 by-keys txs keys e id csn k i h =
     any-same (alike id csn) (alike id csn) (keyAt keys) (outlineAt txs) k i
     (λ x a b.
-    ap₂ (λ (j : TxId) (m : Csn). eqb id (j .0) || (not (eqb csn 0) && eqb csn (m .0)))
-    (ap (λ (s : Keys). getD (s .ids) x (record { 0 = 0 })) e ∙ up-eight (idAt txs) _ x (omega arith))
-    (ap (λ (s : Keys). getD (s .csns) x (record { 0 = 0 })) e ∙ up-eight (csnAt txs) _ x (omega arith)))
+    ap₂ (λ (j : TxId) (m : Csn). eqb id (j .0) || (not (eqb csn 0) && eqb csn (m .0))) (key-id txs keys e x (omega arith))
+    (key-csn txs keys e x (omega arith)))

@@ -13,8 +13,8 @@ ghost use Rattle.transaction.specs.Rules.{alike};
 ghost use Rattle.image.specs.Keys.{keysOf, keyAt};
 
 pub struct Keys {
-    ids: [TxId; MAX_TXS],
-    csns: [Csn; MAX_TXS],
+    pub ids: [TxId; MAX_TXS],
+    pub csns: [Csn; MAX_TXS],
 }
 
 pub fn keys_of(txs: [Tx; MAX_TXS]) -> Keys

@@ -6,18 +6,19 @@ use mathlib.Core.Bool.{Bool, true, false, cond, _&&_}
 use mathlib.Core.List.{List, [], _∷_}
 use mathlib.Core.Option.{Option, none, some}
 use mathlib.Core.Path.{_≡_, refl, sym, ap, ap₂, _∙_}
-use lib.ListN.{length, drop, length-drop}
+use lib.ListN.{length, getD, drop, length-drop}
 use lib.Seq.{drop-drop}
 use lib.Dec.{eqb}
 use borrow.Author.Tests.{eq-eqb, ne-eqb, eqb-true}
 use Rattle.recovery.specs.Group.{Write, Group, committed, aborted, redoSize, groupSize}
+use Rattle.log.specs.Number.{be16}
 use Rattle.log.specs.Record.{Record, redo, commit, abort, readRecord}
 use Rattle.log.specs.Group.{groupBy, turnOf, more, last, stop, andThen, onTurn, bodyStep, readBody, committedIf, readGroup, endOf}
 use Rattle.log.specs.declared.group.GroupEnd.{GroupEnd}
 use Rattle.log.specs.declared.group.GroupEnd.the-variants.{Aborted, Committed, NoGroup}
 use Rattle.log.proofs.Basics.{clash, and-left, and-right, Turned}
 use Rattle.log.proofs.Reader.{Shrinks, step}
-use Rattle.log.proofs.RecordLaws.{record-within}
+use Rattle.log.proofs.RecordLaws.{record-front, record-within}
 
 body-shrinks : (prev : ℕ) → Shrinks (bodyStep prev)
 body-shrinks prev k l id s h = go (readRecord s) refl
@@ -164,6 +165,20 @@ module _ (prev : ℕ) (s : List ℕ) where
   pub group-none : readRecord s ≡ none → readGroup prev s ≡ none
   unfolding readGroup
   group-none e = ap (groupBy prev s) e
+
+-- what does not begin as an abort is a body of the id after its first byte, or nothing
+pub group-other : (prev id : ℕ) (s : List ℕ) → (getD s 0 0 ≡ 3 → ⊥) → be16 s 1 ≡ id → readGroup prev s ≡ committedIf id (prev + 1) (readBody prev id s)
+group-other prev id s h k = go (readRecord s) refl
+  where
+    go : (x : Option Record) → readRecord s ≡ x → readGroup prev s ≡ committedIf id (prev + 1) (readBody prev id s)
+    go none e =
+        group-none prev s e
+        ∙ sym (ap (committedIf id (prev + 1)) (body-step prev id s ∙ ap (λ (x : Option Record). onTurn (readBody prev) id s (turnOf prev id x)) e))
+    go (some (redo i w)) e =
+        group-redo prev s i w e ∙ ap (λ (j : ℕ). committedIf j (prev + 1) (readBody prev j s)) (record-front s (redo i w) e .1 ∙ k)
+    go (some (commit i n)) e =
+        group-commit prev s i n e ∙ ap (λ (j : ℕ). committedIf j (prev + 1) (readBody prev j s)) (record-front s (commit i n) e .1 ∙ k)
+    go (some (abort i)) e = absurd (h (sym (record-front s (abort i) e .0)))
 
 abbrev pub GroupAt : ℕ → List ℕ → Group → Type 0
 GroupAt prev s (committed id n ws) = (n ≡ prev + 1) × (readBody prev id s ≡ some ws)

@@ -2,16 +2,16 @@
 use Prim.Native.Nat.{ℕ, suc, _+_, _-_, _≤_, _<_}
 use native.Mathlib.Decide.{decLe}
 use native.Mathlib.Omega.{arith}
-use mathlib.Core.Bool.{Bool, true, false, cond}
+use mathlib.Core.Bool.{Bool, true, false, cond, _&&_}
 use mathlib.Core.List.{List}
 use mathlib.Core.Option.{Option, none, some}
-use mathlib.Core.Path.{_≡_, refl, sym, _∙_, subst}
+use mathlib.Core.Path.{_≡_, refl, sym, ap, _∙_, subst}
 use lib.ListN.{length, getD, take, drop, List·getD-eq-default, length-drop}
 use lib.Seq.{length-take-le}
 use lib.Dec.{eqb, leb}
 use borrow.Author.Tests.{eqb-true, le-leb, lt-leb}
-use Rattle.log.specs.Number.{be16}
-use Rattle.log.specs.Record.{Record, size, keep, readRedo, readCommit, readAbort, readKind, readRecord}
+use Rattle.log.specs.Number.{be16, be32}
+use Rattle.log.specs.Record.{Record, redo, commit, abort, size, inRange, keep, readRedo, readCommit, readAbort, readKind, readRecord}
 use Rattle.log.proofs.Basics.{clash, and-left, nonzero-within}
 
 pub keep-inv : (t : Bool) (x r : Record) → keep t x ≡ some r → (t ≡ true) × (x ≡ r)
@@ -43,6 +43,42 @@ record-named s r = go (eqb (be16 s 1) 0)
     go true e = clash (cc)
     go false e = refl
 
+-- a record's first byte and its id
+abbrev kindOf : Record → ℕ
+kindOf (redo id w) = 1
+kindOf (commit id csn) = 2
+kindOf (abort id) = 3
+
+abbrev idOf : Record → ℕ
+idOf (redo id w) = id
+idOf (commit id csn) = id
+idOf (abort id) = id
+
+module _ (id : ℕ) (s : List ℕ) (r : Record) where
+  kept : (t : Bool) (x : Record) → keep t x ≡ some r → (kindOf r ≡ kindOf x) × (idOf r ≡ idOf x)
+  kept t x e = let p = keep-inv t x r e .1 in (ap kindOf (sym p), ap idOf (sym p))
+
+  redo-front : readRedo id s ≡ some r → (kindOf r ≡ 1) × (idOf r ≡ id)
+  unfolding readRedo
+  redo-front e =
+      kept (eqb (getD s (6 + getD s 5 0) 0) 1 && inRange (be16 s 3) (getD s 5 0))
+      (redo id (record { addr = be16 s 3; bytes = take (getD s 5 0) (drop 6 s) })) e
+
+  commit-front : readCommit id s ≡ some r → (kindOf r ≡ 2) × (idOf r ≡ id)
+  unfolding readCommit
+  commit-front e = kept (eqb (getD s 7 0) 2) (commit id (be32 s 3)) e
+
+  abort-front : readAbort id s ≡ some r → (kindOf r ≡ 3) × (idOf r ≡ id)
+  unfolding readAbort
+  abort-front e = kept (eqb (getD s 3 0) 3) (abort id) e
+
+pub record-front : (s : List ℕ) (r : Record) → readRecord s ≡ some r → (kindOf r ≡ getD s 0 0) × (idOf r ≡ be16 s 1)
+record-front s =
+    record-cases (λ r. (kindOf r ≡ getD s 0 0) × (idOf r ≡ be16 s 1)) s
+    (λ r k e. let x = redo-front _ s r e in (x .0 ∙ sym k, x .1))
+    (λ r k e. let x = commit-front _ s r e in (x .0 ∙ sym k, x .1))
+    (λ r k e. let x = abort-front _ s r e in (x .0 ∙ sym k, x .1))
+
 -- without an id there is none
 pub record-none : (s : List ℕ) → be16 s 1 ≡ 0 → readRecord s ≡ none
 unfolding readRecord
@@ -52,6 +88,11 @@ record-none s e = rw e
 pub record-by : (s : List ℕ) (kind id : ℕ) → getD s 0 0 ≡ kind → be16 s 1 ≡ id → eqb id 0 ≡ false → readRecord s ≡ readKind kind id s
 unfolding readRecord
 record-by s kind id k i n = rw (k, i, n)
+
+-- what begins as an abort is one if its last byte agrees
+pub record-abort : (s : List ℕ) (id : ℕ) → getD s 0 0 ≡ 3 → be16 s 1 ≡ id → eqb id 0 ≡ false → readRecord s ≡ keep (eqb (getD s 3 0) 3) (abort id)
+unfolding readAbort
+record-abort s id k i n = record-by s 3 id k i n
 
 -- nothing stands in fewer than 4 bytes
 pub record-short : (s : List ℕ) → length s < 4 → readRecord s ≡ none

@@ -2,12 +2,13 @@
 use Prim.Native.Nat.{ℕ, zero, suc, _+_, _-_, _≤_, _<_, min}
 use native.Mathlib.Nat.{add-zero, suc-add}
 use native.Mathlib.Numerals.{add-one, towards-suc}
+use native.Mathlib.Decide.{decLe}
 use native.Mathlib.Omega.{arith}
 use mathlib.Core.List.{List, [], _∷_, _++_, append-nil}
 use mathlib.Core.Path.{_≡_, refl, sym, ap, ap₂, _∙_}
 use lib.ListN.{length, take, drop, getD, set, replicate, length-set, length-append, length-drop, length-replicate, getD-replicate, take-append-drop}
 use lib.ListN.{drop-of-length-le}
-use lib.Seq.{sets, sets-eq, length-sets, take-suc, take-nil, take-all, take-at, length-take-le, take-set-le, drop-set-lt, drop-cons, getD-drop}
+use lib.Seq.{sets, sets-eq, length-sets, take-suc, take-all, take-length, take-at, length-take-le, take-set-le, drop-set-lt, drop-cons, getD-drop}
 use lib.Seq.{getD-set-same, getD-set-other}
 use Rattle.log.specs.Number.{bytes16}
 use Rattle.log.specs.Record.{redo, encode}
@@ -65,24 +66,15 @@ take-copies (suc k) at (v ∷ vs) = ap (λ (ss : List Store). store at v ∷ ss)
 pub copies-cut : (k at : ℕ) (vs b : List ℕ) → apply (take k (copies at vs)) b ≡ sets b at (take k vs)
 copies-cut k at vs b = ap (λ (ss : List Store). apply ss b) (take-copies k at vs) ∙ apply-copies at (take k vs) b
 
--- downward: one more store, none allowed any more, none left to make
-pub clears-step : (left at low : ℕ) (b : List ℕ) → low < at → 0 < left
-    → apply (take left (clears low (at - low))) b ≡ apply (take (left - 1) (clears low (at - 1 - low))) (set b (at - 1) 0)
-clears-step left at low b h p =
-    let f : at - low ≡ suc (at - 1 - low) = omega arith in
-    let g : left ≡ suc (left - 1) = omega arith in
-    let e : low + (at - 1 - low) ≡ at - 1 = omega arith in
-    ap (λ (k : ℕ). apply (take k (clears low (at - low))) b) g
-    ∙ ap (λ (k : ℕ). apply (take (suc (left - 1)) (clears low k)) b) f
-    ∙ ap (λ (k : ℕ). apply (take (left - 1) (clears low (at - 1 - low))) (set b k 0)) e
-
-pub clears-none : (left at low : ℕ) (b : List ℕ) → left ≡ 0 → apply (take left (clears low (at - low))) b ≡ b
-clears-none left at low b e = ap (λ (k : ℕ). apply (take k (clears low (at - low))) b) e
-
-pub clears-done : (left at low : ℕ) (b : List ℕ) → at ≤ low → apply (take left (clears low (at - low))) b ≡ b
-clears-done left at low b h =
-    let e : at - low ≡ 0 = omega arith in
-    ap (λ (k : ℕ). apply (take left (clears low k)) b) e ∙ ap (λ (ss : List Store). apply ss b) (take-nil left)
+-- no more than there are
+pub take-min : (k : ℕ) (vs : List ℕ) → take (min k (length vs)) vs ≡ take k vs
+take-min k vs =
+    elim (decLe k (length vs)) [
+      | yes h ↦ let e : min k (length vs) ≡ k = omega (arith, h) in ap (λ (j : ℕ). take j vs) e
+      | no h ↦
+          let e : min k (length vs) ≡ length vs = omega (arith, h) in
+          ap (λ (j : ℕ). take j vs) e ∙ take-length vs ∙ sym (take-all k vs (omega (arith, h)))
+    ]
 
 -- the first j of so many stores downward are the stores at the highest j offsets
 pub take-clears : (j low n : ℕ) → take j (clears low (j + n)) ≡ clears (low + n) j
@@ -110,6 +102,37 @@ apply-clears low (suc n) b h =
     roll : (k : ℕ) (l : List ℕ) → replicate k 0 ++ 0 ∷ l ≡ 0 ∷ (replicate k 0 ++ l)
     roll zero l = refl
     roll (suc k) l = ap (λ (x : List ℕ). 0 ∷ x) (roll k l)
+
+-- those of a clearing that are allowed are the stores at its highest offsets
+pub first-clears : (n low k : ℕ) → take n (clears low k) ≡ clears (low + (k - n)) (k - (k - n))
+first-clears n low k =
+    elim (decLe n k) [
+      | yes h ↦
+          let e : k ≡ n + (k - n) = omega (arith, h) in
+          let f : n ≡ k - (k - n) = omega (arith, h) in
+          ap (λ (x : ℕ). take n (clears low x)) e ∙ take-clears n low (k - n) ∙ ap (clears (low + (k - n))) f
+      | no h ↦
+          let e : low ≡ low + (k - n) = omega (arith, h) in
+          let f : k ≡ k - (k - n) = omega (arith, h) in
+          take-all n (clears low k) (omega (arith, h, length-clears low k)) ∙ ap₂ clears e f
+    ]
+
+-- a buffer cleared downward as far as allowed: zeros ys in the place of its last n bytes
+pub clears-cut : (allowed low from n m : ℕ) (b ys : List ℕ) → low ≤ length b → n ≡ min allowed (length b - low) → from + n ≡ length b → m ≡ n
+    → ys ≡ replicate (length (take m (drop from b))) 0
+    → take from b ++ (ys ++ drop m (drop from b)) ≡ apply (take allowed (clears low (length b - low))) b
+clears-cut allowed low from n m b ys q e h p z =
+    let k = length b - low in
+    let d : length (drop from b) ≡ m = length-drop from b ∙ omega arith in
+    let l : length (take m (drop from b)) ≡ n = length-take-le m (drop from b) (omega arith) ∙ p in
+    let f : low + (k - allowed) ≡ from = omega arith in
+    let g : k - (k - allowed) ≡ n = omega arith in
+    let zeros : ys ≡ replicate n 0 = z ∙ ap (λ (i : ℕ). replicate i 0) l in
+    let rest : drop m (drop from b) ≡ drop (from + n) b =
+    drop-of-length-le (drop from b) {i = m} (omega arith) ∙ sym (drop-of-length-le b {i = from + n} (omega arith)) in
+    ap₂ (λ (xs zs : List ℕ). take from b ++ (xs ++ zs)) zeros rest
+    ∙ sym (apply-clears from n b (omega arith))
+    ∙ sym (ap (λ (ss : List Store). apply ss b) (first-clears allowed low k ∙ ap₂ clears f g))
 
 -- ---- a whole buffer: filled, or moved to its front
 
@@ -172,6 +195,12 @@ unfolding shifted
 shift-all b n h =
     let e : length b ≡ min n (length b) = omega arith in
     sym (ap₂ _++_ (drop-of-length-le b {i = n} h) (ap (λ (j : ℕ). replicate j 0) (sym e)))
+
+pub shift-none : (b : List ℕ) → b ≡ shifted 0 b
+unfolding shifted
+shift-none b =
+    let e : min 0 (length b) ≡ 0 = omega arith in
+    sym (ap (λ (k : ℕ). b ++ replicate k 0) e ∙ append-nil b)
 
 pub length-shifted : (n : ℕ) (b : List ℕ) → length (shifted n b) ≡ length b
 unfolding shifted

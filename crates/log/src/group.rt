@@ -1,10 +1,12 @@
 // Groups: an abort, or the redo records of one transaction and their commit.
 use crate::Csn;
 use crate::TxId;
+use crate::number::be16;
 use crate::record::Head;
 use crate::record::put_commit;
 use crate::record::put_redo;
 use crate::record::read_record;
+use layout::ABORT;
 use layout::ABORT_LEN;
 use layout::COMMIT_LEN;
 use layout::MAX_WRITE;
@@ -73,19 +75,23 @@ fn read_body(s: &[u8], id: TxId, prev: Csn) -> GroupEnd
 pub fn read_group(s: &[u8], prev: Csn) -> GroupEnd
     ensures { λ r. ⌜ r ≡ endOf (readGroup (prev .0) (now (s .entry))) ⌝ }
 {
-    let head = read_record(s);
-    match head {
-        Head::Redo {
-            id,
-            addr: _,
-            len: _,
-        } => read_body(s, id, prev),
-        Head::Commit { id, csn: _ } => read_body(s, id, prev),
-        Head::Abort(id) => GroupEnd::Aborted {
-            id: id,
-            end: ABORT_LEN,
-        },
-        Head::Nothing => GroupEnd::NoGroup,
+    // An abort is the shortest, and told without a call: a log can have thousands.
+    if s.len() < ABORT_LEN {
+        return GroupEnd::NoGroup;
+    }
+    let id = be16(s, 1);
+    if s[0] != ABORT {
+        return read_body(s, TxId(id), prev);
+    }
+    if id == 0 {
+        return GroupEnd::NoGroup;
+    }
+    if s[3] != ABORT {
+        return GroupEnd::NoGroup;
+    }
+    GroupEnd::Aborted {
+        id: TxId(id),
+        end: ABORT_LEN,
     }
 }
 

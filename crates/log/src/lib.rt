@@ -6,7 +6,9 @@ pub mod scan;
 pub mod stores;
 
 // A transaction id. 0 is never given.
+#[repr(C)]
 pub struct TxId(pub u16);
 
 // A commit sequence number (document 01: commit number). 0 stands for "none yet".
+#[repr(C)]
 pub struct Csn(pub u32);

@@ -35,7 +35,7 @@ pub fn fill_zero(b: &mut [u8])
 }
 
 // What stands from n on moves to the front, with zeros after it; all zeros if nothing does.
-pub fn shift_down(b: &mut [u8], n: usize)
+fn move_down(b: &mut [u8], n: usize)
     ensures { λ _. ⌜ now (b .exit) ≡ shifted n (now (b .entry)) ⌝ }
 {
     if b.len() <= n {
@@ -50,18 +50,34 @@ pub fn shift_down(b: &mut [u8], n: usize)
     fill_zero(&mut b[keep..]);
 }
 
+// The same; with n = 0 nothing moves, and no byte is touched.
+pub fn shift_down(b: &mut [u8], n: usize)
+    ensures { λ _. ⌜ now (b .exit) ≡ shifted n (now (b .entry)) ⌝ }
+{
+    if n == 0 {
+        return;
+    }
+    move_down(b, n);
+}
+
+fn least(a: usize, b: usize) -> usize
+    ensures { λ r. ⌜ r ≡ min a b ⌝ }
+{
+    if a < b {
+        return a;
+    }
+    b
+}
+
 // Stores src upward from at on, as far as stores are allowed, and returns how many were made.
 pub fn copy_up(b: &mut [u8], at: usize, src: &[u8], allowed: usize) -> usize
     requires { ⌜ at + length (now src) ≤ length (now b) ⌝ }
     ensures { λ r. ⌜ r ≡ min allowed (length (copies at (now (src .entry)))) ⌝ }
     ensures { λ _. ⌜ now (b .exit) ≡ apply (take allowed (copies at (now (src .entry)))) (now (b .entry)) ⌝ }
 {
-    if allowed < src.len() {
-        copy(b, at, &src[..allowed]);
-        return allowed;
-    }
-    copy(b, at, src);
-    src.len()
+    let made = least(allowed, src.len());
+    copy(b, at, &src[..made]);
+    made
 }
 
 // Stores zeros from the last byte of b down to low, as far as stores are allowed, and returns how many were made.
@@ -69,15 +85,14 @@ pub fn clear_down(b: &mut [u8], low: usize, allowed: usize) -> usize
     ensures { λ r. ⌜ r ≡ min allowed (length (clears low (length (now (b .entry)) - low))) ⌝ }
     ensures { λ _. ⌜ now (b .exit) ≡ apply (take allowed (clears low (length (now (b .entry)) - low))) (now (b .entry)) ⌝ }
 {
-    let mut at = b.len();
-    let mut left = allowed;
-    while low < at {
-        if left == 0 {
-            return allowed;
-        }
-        at = at - 1;
-        left = left - 1;
-        b[at] = 0;
+    let end = b.len();
+    if end <= low {
+        return 0;
     }
-    allowed - left
+    let there = end - low;
+    let n = least(allowed, there);
+    // In one piece: the highest n bytes are the first n downward.
+    let from = end - n;
+    fill_zero(&mut b[from..from + n]);
+    n
 }

@@ -2,15 +2,16 @@
 use mathlib.Core.Path.{_≡_, refl, sym, _∙_, subst}
 use mathlib.Core.Logic.{inr}
 use mathlib.Core.List.{List, [], _∷_, _++_, append-nil}
-use Prim.Native.Nat.{ℕ}
+use Prim.Native.Nat.{ℕ, _+_, _≤_}
+use native.Mathlib.Omega.{arith}
 use lib.ListN.{length-map, getD, take, drop, take-append-drop}
-use Rattle.recovery.specs.Group.{Group}
+use Rattle.recovery.specs.Group.{Group, groupsSize}
 use Rattle.recovery.specs.Lists.{All, nil, cons}
-use Rattle.recovery.specs.Transaction.{Tx, running}
+use Rattle.recovery.specs.Transaction.{Tx, running, reserved}
 use Rattle.recovery.specs.Replay.{replay}
 use Rattle.recovery.specs.Restart.{finished, undone}
 use Rattle.recovery.specs.Ledger.{Ledger}
-use Rattle.recovery.specs.Machine.{Opening, Disk, Live, withoutRedo, afterCheckpoint}
+use Rattle.recovery.specs.Machine.{Opening, Disk, historyOf, standingBefore, Live, withoutRedo, afterCheckpoint}
 use Rattle.recovery.proofs.Lists.{all-mapped, all-map, all-zip, all-right, all-filter}
 use Rattle.recovery.proofs.Transactions.{running-committing, isUnfinished}
 use Rattle.recovery.proofs.Groups.{replay-append}
@@ -21,6 +22,7 @@ use Rattle.recovery.proofs.TailFit.{Fit}
 use Rattle.recovery.proofs.CheckpointLaw.{Undoes, checkpoint-law}
 use Rattle.recovery.proofs.Follows.{Linked, here, there}
 use Rattle.recovery.proofs.Numbers.{last-on-disk}
+use Rattle.recovery.proofs.Log.{checkpoint-room}
 use Rattle.recovery.proofs.Room.{roomy-image}
 use Rattle.recovery.proofs.Invariant.{Standing, AtByte, Up, baseAt}
 use Rattle.recovery.proofs.NoRedo.{erased-distinct, erased-running, erased-committing, erased-unfinished, erased-undone, erased-recover}
@@ -33,9 +35,6 @@ linked-self (r ∷ rs) = cons {x = r} (here refl (λ a e. e)) (all-map (λ t l. 
 module _ (o : Opening) (d : Disk) (l : Live) (k : Ledger) (u : Up o d l k) where
   abbrev s : Standing d l (u .late)
   s = u .standing
-
-  abbrev log : List Group
-  log = d .before ++ d .after
 
   checkpoint-standing : Standing (afterCheckpoint d l) l (u .late)
   checkpoint-standing = record {
@@ -56,13 +55,13 @@ module _ (o : Opening) (d : Disk) (l : Live) (k : Ledger) (u : Up o d l k) where
     csns = s .csns;
   }
 
-  new-base : (a : ℕ) → baseAt o log a ≡ replay (layByte a) (d .after) (baseAt o (d .before) a)
+  new-base : (a : ℕ) → baseAt o (historyOf d) a ≡ replay (layByte a) (d .after) (baseAt o (d .before) a)
   unfolding baseAt
   new-base a = replay-append (layByte a) (d .before) (d .after) (getD (o .memory) a 0)
 
   checkpoint-byte : (a : ℕ) → AtByte o d l (u .late) a → AtByte o (afterCheckpoint d l) l (u .late) a
   checkpoint-byte a b =
-      let base : ℕ = baseAt o log a in
+      let base : ℕ = baseAt o (historyOf d) a in
       let undoes : Undoes a base (l .tail) (u .late) = rw (new-base a) (b .undoes) in
       let live : RunningAt a (replay (layByte a) (l .tail) base) (getD (l .memory) a 0) (running (l .txs)) =
       rw (new-base a, ← replay-append (layByte a) (d .after) (l .tail) (baseAt o (d .before) a)) (b .live) in
@@ -77,6 +76,10 @@ module _ (o : Opening) (d : Disk) (l : Live) (k : Ledger) (u : Up o d l k) where
         live = live;
       }
 
+  -- the log takes no more room, and the live state is the same
+  checkpoint-used : groupsSize (standingBefore (afterCheckpoint d l)) + groupsSize (l .tail) + reserved (running (l .txs)) ≤ o .capacity
+  checkpoint-used = omega (arith, u .room .used, checkpoint-room d l)
+
   pub checkpoint-keeps : Up o (afterCheckpoint d l) l k
   checkpoint-keeps = record {
     late = u .late;
@@ -88,11 +91,11 @@ module _ (o : Opening) (d : Disk) (l : Live) (k : Ledger) (u : Up o d l k) where
       fits = λ q.
           let e : l .tail ≡ take q (l .tail) ++ drop q (l .tail) = sym (take-append-drop q (l .tail)) in
           rw (erased-undone (l .txs) (l .csn) (take q (l .tail)), length-map (undone (l .txs) (l .csn) (take q (l .tail))) withoutRedo)
-          (roomy-image o l log (take q (l .tail)) (drop q (l .tail)) (u .late)
-          (subst (λ (gs : List Group). Fit (l .txs) (l .csn) gs (u .late)) e (s .fit)) (rw (← e) (u .room .used)));
-      used = rw append-nil (u .room .used);
+          (roomy-image o l (standingBefore (afterCheckpoint d l)) (take q (l .tail)) (drop q (l .tail)) (u .late)
+          (subst (λ (gs : List Group). Fit (l .txs) (l .csn) gs (u .late)) e (s .fit)) (rw (← e) checkpoint-used));
+      used = rw append-nil checkpoint-used;
     };
-    numbers = record { log = rw append-nil (u .numbers .log); image = s .onDisk ∙ sym (last-on-disk o d (u .numbers)) };
+    numbers = record { history = rw append-nil (u .numbers .history); image = s .onDisk ∙ sym (last-on-disk o d (u .numbers)) };
     ledger = record {
       durable = rw append-nil (u .ledger .durable);
       assigned = rw append-nil (u .ledger .assigned);

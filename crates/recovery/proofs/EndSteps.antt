@@ -14,7 +14,7 @@ use Rattle.recovery.specs.Transaction.{Tx, running, committing, reserved
 use Rattle.recovery.specs.Replay.{replay}
 use Rattle.recovery.specs.Restart.{groupId, above, sortDesc}
 use Rattle.recovery.specs.Ledger.{Ledger, OpenTx, Commit, Entry, openWrites, others, enterPrecommitted, enterRolledBack}
-use Rattle.recovery.specs.Machine.{Opening, Disk, Live, Listed, lastAssigned, inCommit, afterPrecommit, afterAbort}
+use Rattle.recovery.specs.Machine.{Opening, Disk, historyOf, standingBefore, standingIn, Live, Listed, lastAssigned, inCommit, afterPrecommit, afterAbort}
 use Rattle.recovery.specs.Claim.{commits}
 use Rattle.recovery.proofs.Lists.{all-map, all-zip, all-append, all-here, all-less, all-more, all-edit, all-filter, filter-in, filter-append}
 use Rattle.recovery.proofs.Lists.{EveryPrefix, prefix-whole, prefix-snoc}
@@ -100,7 +100,7 @@ module _ (o : Opening) (d : Disk) (l : Live) (k : Ledger) (r : Tx) (listed : Lis
 
     -- the group takes no more than r had reserved
     module _ (small : groupSize g ≤ reserved (r ∷ [])) where
-      end-used : groupsSize (d .before ++ d .after) + groupsSize (l .tail ++ (g ∷ [])) + reserved (xs ++ ys) ≤ o .capacity
+      end-used : groupsSize (standingIn d) + groupsSize (l .tail ++ (g ∷ [])) + reserved (xs ++ ys) ≤ o .capacity
       end-used =
           omega (arith, u .room .used, groupsSize-append (l .tail) (g ∷ []), reserved-append xs ys, ap reserved runnings ∙ reserved-append xs (r ∷ ys))
 
@@ -108,7 +108,7 @@ module _ (o : Opening) (d : Disk) (l : Live) (k : Ledger) (r : Tx) (listed : Lis
       end-fits w =
           let now : Roomy o d (d .after ++ (l .tail ++ (g ∷ []))) =
           roomy-now o d (d .after ++ (l .tail ++ (g ∷ []))) (xs ++ ys) (s .imageDistinct) w
-          (omega (arith, end-used, groupsSize-append (d .before) (d .after), groupsSize-append (d .after) (l .tail ++ (g ∷ [])))) in
+          (omega (arith, end-used, groupsSize-append (standingBefore d) (d .after), groupsSize-append (d .after) (l .tail ++ (g ∷ [])))) in
           subst (λ (gs : List Group). EveryPrefix (Roomy o d) gs) regroup
           (prefix-snoc (Roomy o d) (d .after ++ l .tail) g (u .room .fits) (subst (λ (gs : List Group). Roomy o d gs) (sym regroup) now))
 
@@ -281,12 +281,12 @@ module _ (o : Opening) (d : Disk) (l : Live) (k : Ledger) (r : Tx) (listed : Lis
 
   -- soFar commits assigned so far, and the new one
   abbrev soFar : List Commit
-  soFar = commits (d .before ++ d .after) ++ commits (l .tail)
+  soFar = commits (historyOf d) ++ commits (l .tail)
 
-  precommit-commits : commits (d .before ++ d .after) ++ commits (l .tail ++ (commitGroup ∷ [])) ≡ soFar ++ (entry ∷ [])
+  precommit-commits : commits (historyOf d) ++ commits (l .tail ++ (commitGroup ∷ [])) ≡ soFar ++ (entry ∷ [])
   precommit-commits =
-      ap (λ (cs : List Commit). commits (d .before ++ d .after) ++ cs) (commits-append (l .tail) (commitGroup ∷ []))
-      ∙ sym (append-assoc (commits (d .before ++ d .after)) (commits (l .tail)) (entry ∷ []))
+      ap (λ (cs : List Commit). commits (historyOf d) ++ cs) (commits-append (l .tail) (commitGroup ∷ []))
+      ∙ sym (append-assoc (commits (historyOf d)) (commits (l .tail)) (entry ∷ []))
 
   precommit-latests : All (HasLatest (soFar ++ (entry ∷ []))) (committing (found .before) ++ r′ ∷ committing (found .after))
   precommit-latests =

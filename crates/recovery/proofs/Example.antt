@@ -7,8 +7,8 @@ use Rattle.recovery.specs.Group.{Write}
 use Rattle.recovery.specs.Lists.{nil}
 use Rattle.recovery.specs.Restart.{undoOrder}
 use Rattle.recovery.specs.Ledger.{Commit, Ledger}
-use Rattle.recovery.specs.Machine.{Opening, freshOpening, System, diskOf, recovered, newTx, withWrite, inCommit, begins, writes, precommits, rollsBack}
-use Rattle.recovery.specs.Machine.{flushes, flushIsCut, settles, checkpoints, restarts, Run, opened, next}
+use Rattle.recovery.specs.Machine.{Opening, freshOpening, standingBefore, System, diskOf, recovered, newTx, withWrite, inCommit, begins, writes}
+use Rattle.recovery.specs.Machine.{precommits, rollsBack, flushes, flushIsCut, settles, checkpoints, restarts, Run, opened, next}
 use Rattle.recovery.specs.Claim.{layCommits}
 use Rattle.recovery.proofs.Cases.{byte10}
 use Rattle.recovery.proofs.Theorem.{theorem}
@@ -30,7 +30,7 @@ abbrev m1Old : Write
 m1Old = record { addr = 10; bytes = 0 ∷ 0 ∷ [] }
 
 unfoldable m1 : History
-unfolding undoOrder
+unfolding undoOrder standingBefore
 m1 =
     let r0 = next opened (restarts _ 0 nil nil) in
     let r1 = next r0 (begins _ _ (lit≤ tt)) in
@@ -57,7 +57,7 @@ m1-cut-recovers = theorem store (m1-cut .run) .restores
 
 -- restart; id 1 writes 5 at 10, checkpoint, abort; id 2 writes 7 there, precommit, flush 2, settle
 unfoldable pub m3 : History
-unfolding undoOrder
+unfolding undoOrder standingBefore
 m3 =
     let r0 = next opened (restarts _ 0 nil nil) in
     let r1 = next r0 (begins _ _ (lit≤ tt)) in

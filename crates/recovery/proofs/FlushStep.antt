@@ -8,7 +8,7 @@ use lib.ListN.{length, take, drop, take-append-drop}
 use lib.Seq.{drop-append-seam}
 use Rattle.recovery.specs.Group.{Group, groupsSize, lastCsn, fitting}
 use Rattle.recovery.specs.Ledger.{Entry, Ledger, fittingEntries, leave, emptied, enterFlushed}
-use Rattle.recovery.specs.Machine.{Opening, Disk, Live, storing, afterFlush}
+use Rattle.recovery.specs.Machine.{Opening, Disk, historyOf, standingIn, Live, storing, afterFlush}
 use Rattle.recovery.specs.Claim.{commits}
 use Rattle.recovery.proofs.Lists.{all-map, take-map}
 use Rattle.recovery.proofs.Groups.{groupsSize-append, lastCsn-append, replay-append, fitting-split, fitting-all}
@@ -16,6 +16,7 @@ use Rattle.recovery.proofs.Byte.{layByte}
 use Rattle.recovery.proofs.TailFit.{Fit, late, fit-late, tied-early}
 use Rattle.recovery.proofs.CheckpointLaw.{undoes-late}
 use Rattle.recovery.proofs.Numbers.{Consecutive, consecutive-append, consecutive-tied, last-on-disk}
+use Rattle.recovery.proofs.Log.{stored-before, stored-stands}
 use Rattle.recovery.proofs.Ledger.{Agrees, entryOf, entries, commits-append, commits-entries, fitting-entries}
 use Rattle.recovery.proofs.Invariant.{Standing, AtByte, Up, Down, baseAt, crash, down-emptied}
 
@@ -50,15 +51,15 @@ module _ (o : Opening) (d : Disk) (l : Live) (k : Ledger) (P U : List Group) (sp
     csns = rw (split, lastCsn-append (l .csn) P U) at (s .csns);
   }
 
-  stored-log : d .before ++ (d .after ++ P) ≡ (d .before ++ d .after) ++ P
-  stored-log = sym (append-assoc (d .before) (d .after) P)
+  stored-history : historyOf (storing P d) ≡ historyOf d ++ P
+  stored-history = sym (append-assoc (d .before) (d .after) P)
 
-  stored-commits : commits (d .before ++ (d .after ++ P)) ≡ commits (d .before ++ d .after) ++ commits P
-  stored-commits = ap commits stored-log ∙ commits-append (d .before ++ d .after) P
+  stored-commits : commits (historyOf (storing P d)) ≡ commits (historyOf d) ++ commits P
+  stored-commits = ap commits stored-history ∙ commits-append (historyOf d) P
 
   -- all commits assigned stay as they are
-  same-commits : commits (d .before ++ d .after) ++ commits (l .tail) ≡ commits (d .before ++ (d .after ++ P)) ++ commits U
-  same-commits = rw (split, commits-append P U, stored-commits) (sym (append-assoc (commits (d .before ++ d .after)) (commits P) (commits U)))
+  same-commits : commits (historyOf d) ++ commits (l .tail) ≡ commits (historyOf (storing P d)) ++ commits U
+  same-commits = rw (split, commits-append P U, stored-commits) (sym (append-assoc (commits (historyOf d)) (commits P) (commits U)))
 
   stored-ledger : Agrees (storing P d) (storedLive P U l) (leave (entries P) k)
   stored-ledger = record {
@@ -85,12 +86,12 @@ module _ (o : Opening) (d : Disk) (l : Live) (k : Ledger) (P U : List Group) (sp
           live = rw whole at (b .live);
         };
     room = record {
-      fits = rw whole at (u .room .fits);
-      used = rw stored-log (omega (arith, u .room .used, groupsSize-append (d .before ++ d .after) P, ap groupsSize split ∙ groupsSize-append P U));
+      fits = rw (stored-before P d) (rw whole at (u .room .fits));
+      used = rw (stored-stands P d) (omega (arith, u .room .used, groupsSize-append (standingIn d) P, ap groupsSize split ∙ groupsSize-append P U));
     };
     numbers = record {
-      log = rw stored-log
-          (consecutive-append (u .numbers .log)
+      history = rw stored-history
+          (consecutive-append (u .numbers .history)
           (subst (λ (n : ℕ). Consecutive n P) (s .onDisk ∙ sym (last-on-disk o d (u .numbers))) (consecutive-tied (tied-early P U (fit-split .tied)))));
       image = u .numbers .image;
     };

@@ -9,7 +9,7 @@ use Rattle.recovery.specs.Transaction.{Tx, running, committing}
 use Rattle.recovery.specs.Replay.{replay}
 use Rattle.recovery.specs.Restart.{groupId}
 use Rattle.recovery.specs.Ledger.{Commit, Ledger, emptied}
-use Rattle.recovery.specs.Machine.{Opening, Disk, Live, System, down, up, lastAssigned}
+use Rattle.recovery.specs.Machine.{Opening, Disk, historyOf, Live, System, down, up, lastAssigned}
 use Rattle.recovery.specs.Claim.{commits}
 use Rattle.recovery.proofs.Lists.{EveryPrefix, prefix-left}
 use Rattle.recovery.proofs.Transactions.{DistinctIds}
@@ -38,7 +38,7 @@ pub record Standing (d : Disk) (l : Live) (late : List Tx) : Type 0 where
   pub fit : Fit (l .txs) (l .csn) (l .tail) late
   pub csns : All (λ c. c .csn ≤ lastAssigned l) (committing (l .txs))
 
--- the byte a by the commits of these groups, the first of the log
+-- the byte a by the commits of these groups, the first of the history
 unfoldable pub baseAt : Opening → List Group → ℕ → ℕ
 baseAt o gs a = replay (layByte a) gs (getD (o .memory) a 0)
 
@@ -70,8 +70,8 @@ pub record Down (o : Opening) (d : Disk) (k : Ledger) : Type 0 where
   pub bytes : (a : ℕ) → a < o .size → EveryPrefix (ImageAt o d a) (d .after)
   pub fits : EveryPrefix (Roomy o d) (d .after)
   pub numbers : Numbers o d
-  pub durable : k .durable ≡ commits (d .before ++ d .after)
-  pub assigned : (rest : List Commit) × (k .assigned ≡ commits (d .before ++ d .after) ++ rest)
+  pub durable : k .durable ≡ commits (historyOf d)
+  pub assigned : (rest : List Commit) × (k .assigned ≡ commits (historyOf d) ++ rest)
   pub settled : All (λ c. List·Memᴰ c (k .durable)) (k .settled)
 
 abbrev pub Inv : Opening → System → Ledger → Type 0

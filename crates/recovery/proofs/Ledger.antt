@@ -16,7 +16,7 @@ use Rattle.recovery.specs.Replay.{redoAll, replay, layBytes}
 use Rattle.recovery.specs.Restart.{aborts}
 use Rattle.recovery.specs.Ledger.{OpenTx, Commit, Entry, commit, abort, Ledger, entrySize, fittingEntries, committedIn, openWrites, others, addWrite}
 use Rattle.recovery.specs.Ledger.{latest}
-use Rattle.recovery.specs.Machine.{Disk, Live, withWrite}
+use Rattle.recovery.specs.Machine.{Disk, historyOf, Live, withWrite}
 use Rattle.recovery.specs.Claim.{commits, layCommits}
 use Rattle.recovery.proofs.Bool.{eqb-same, some-none}
 use Rattle.recovery.proofs.Lists.{else-none, else-assoc}
@@ -152,9 +152,9 @@ settles n t durable queued h low high =
 
 -- Agreement with the store that is up.
 pub record Agrees (d : Disk) (l : Live) (k : Ledger) : Type 0 where
-  pub durable : k .durable ≡ commits (d .before ++ d .after)
-  pub assigned : k .assigned ≡ commits (d .before ++ d .after) ++ commits (l .tail)
+  pub durable : k .durable ≡ commits (historyOf d)
+  pub assigned : k .assigned ≡ commits (historyOf d) ++ commits (l .tail)
   pub queue : k .queue ≡ entries (l .tail)
   pub active : k .active ≡ opens (running (l .txs))
   pub settled : All (λ c. List·Memᴰ c (k .durable)) (k .settled)
-  pub latests : All (HasLatest (commits (d .before ++ d .after) ++ commits (l .tail))) (committing (l .txs))
+  pub latests : All (HasLatest (commits (historyOf d) ++ commits (l .tail))) (committing (l .txs))

@@ -17,6 +17,7 @@ pub mod CheckpointLaw
 pub mod Follows
 pub mod GrowthLaw
 pub mod Numbers
+pub mod Log
 pub mod Room
 pub mod Ledger
 pub mod Invariant

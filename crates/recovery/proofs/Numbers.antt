@@ -6,7 +6,7 @@ use native.Mathlib.Omega.{arith}
 use Rattle.recovery.specs.Group.{Write, Group, committed, aborted, lastCsn}
 use Rattle.recovery.specs.Lists.{All, nil, cons}
 use Rattle.recovery.specs.Transaction.{Tx}
-use Rattle.recovery.specs.Machine.{Opening, Disk}
+use Rattle.recovery.specs.Machine.{Opening, Disk, historyOf}
 use Rattle.recovery.specs.Claim.{commits, Numbered}
 use Rattle.recovery.proofs.Lists.{all-map}
 use Rattle.recovery.proofs.Groups.{lastCsn-append}
@@ -38,11 +38,11 @@ consecutive-high (consecutive-abort c) = consecutive-high c
 consecutive-high (consecutive-commit {i} {m} {ws} e c) =
     cons {x = record { id = i; csn = m; writes = ws }} (omega arith) (all-map (λ b h. omega arith) (consecutive-high c))
 
--- the log goes on from the starting number, and the image has the number on disk of its place
+-- the history goes on from the opening number, and the image has the number on disk of its place in it
 pub record Numbers (o : Opening) (d : Disk) : Type 0 where
-  pub log : Consecutive (o .csn) (d .before ++ d .after)
+  pub history : Consecutive (o .csn) (historyOf d)
   pub image : d .image .csn ≡ lastCsn (o .csn) (d .before)
 
 -- the last number on disk
-pub last-on-disk : (o : Opening) (d : Disk) → Numbers o d → lastCsn (o .csn) (d .before ++ d .after) ≡ lastCsn (d .image .csn) (d .after)
+pub last-on-disk : (o : Opening) (d : Disk) → Numbers o d → lastCsn (o .csn) (historyOf d) ≡ lastCsn (d .image .csn) (d .after)
 last-on-disk o d n = lastCsn-append (o .csn) (d .before) (d .after) ∙ ap (λ (m : ℕ). lastCsn m (d .after)) (sym (n .image))

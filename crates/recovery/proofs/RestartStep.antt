@@ -11,7 +11,7 @@ use Rattle.recovery.specs.Transaction.{Tx, running}
 use Rattle.recovery.specs.Replay.{replay}
 use Rattle.recovery.specs.Restart.{groupId, finished, unfinished, undone, aborts}
 use Rattle.recovery.specs.Ledger.{Commit, Ledger, enterRestarted}
-use Rattle.recovery.specs.Machine.{Opening, Disk, Live, undoneBy, afterRestart}
+use Rattle.recovery.specs.Machine.{Opening, Disk, historyOf, standingBefore, Live, undoneBy, afterRestart}
 use Rattle.recovery.specs.Claim.{commits}
 use Rattle.recovery.proofs.Lists.{all-mapped, all-map, all-append, all-filter, filter-none, EveryPrefix, prefix-whole, prefix-append, take-map}
 use Rattle.recovery.proofs.Distinct.{Distinct, empty, more, distinct-filter}
@@ -131,13 +131,13 @@ module _ (o : Opening) (d : Disk) (k : Ledger) (lastId : ℕ) (image-ids : All (
     bytes = λ a h. restart-byte a (w .imageLength) h (w .bytes a h);
     room = record {
       fits = restart-fits;
-      used = rw (groupsSize-append (d .before) (d .after), groupsSize-aborts us) (omega (arith, prefix-whole (Roomy o d) (d .after) (w .fits)));
+      used = rw (groupsSize-append (standingBefore d) (d .after), groupsSize-aborts us) (omega (arith, prefix-whole (Roomy o d) (d .after) (w .fits)));
     };
     numbers = w .numbers;
     ledger = record {
       durable = w .durable;
-      assigned = w .durable ∙ sym (ap (λ (cs : List Commit). commits (d .before ++ d .after) ++ cs) (commits-aborts us)
-          ∙ append-nil (commits (d .before ++ d .after)));
+      assigned = w .durable ∙ sym (ap (λ (cs : List Commit). commits (historyOf d) ++ cs) (commits-aborts us)
+          ∙ append-nil (commits (historyOf d)));
       queue = entries-aborts us;
       active = refl;
       settled = w .settled;

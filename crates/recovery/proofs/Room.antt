@@ -10,7 +10,7 @@ use Rattle.recovery.specs.Group.{Group, groupsSize}
 use Rattle.recovery.specs.Lists.{All, nil, cons}
 use Rattle.recovery.specs.Transaction.{Tx, running, reserved}
 use Rattle.recovery.specs.Restart.{finished, unfinished, undone}
-use Rattle.recovery.specs.Machine.{Opening, Disk, Live, roomUsed}
+use Rattle.recovery.specs.Machine.{Opening, Disk, standingBefore, Live, roomUsed}
 use Rattle.recovery.proofs.Lists.{all-map, all-zip, EveryPrefix}
 use Rattle.recovery.proofs.Distinct.{empty, more, distinct-filter}
 use Rattle.recovery.proofs.Transactions.{DistinctIds, isRunning, isUnfinished}
@@ -45,7 +45,7 @@ linked-length (more {x = t} {xs = L} n d) (cons l ls) =
 
 -- there is room for the abort records of a restart from this image and these groups after it
 abbrev pub Roomy : Opening → Disk → List Group → Type 0
-Roomy o d P = groupsSize (d .before) + groupsSize P + 4 * length (undone (d .image .txs) (d .image .csn) P) ≤ o .capacity
+Roomy o d P = groupsSize (standingBefore d) + groupsSize P + 4 * length (undone (d .image .txs) (d .image .csn) P) ≤ o .capacity
 
 pub record Room (o : Opening) (d : Disk) (l : Live) : Type 0 where
   pub fits : EveryPrefix (Roomy o d) (d .after ++ l .tail)
@@ -53,7 +53,7 @@ pub record Room (o : Opening) (d : Disk) (l : Live) : Type 0 where
 
 -- log and tail whole: what the image has left to undo is still running
 pub roomy-now : (o : Opening) (d : Disk) (G : List Group) (rs : List Tx) → DistinctIds (d .image .txs) → Follows (d .image .txs) (d .image .csn) G rs
-    → groupsSize (d .before) + groupsSize G + reserved rs ≤ o .capacity → Roomy o d G
+    → groupsSize (standingBefore d) + groupsSize G + reserved rs ≤ o .capacity → Roomy o d G
 roomy-now o d G rs distinct w used =
     let ls : List Tx = unfinished (finished G []) (running (d .image .txs)) in
     let few : length ls ≤ length rs = linked-length (distinct-filter (isUnfinished (finished G [])) (distinct-filter isRunning distinct)) (w .runnings) in

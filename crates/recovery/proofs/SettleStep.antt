@@ -8,7 +8,7 @@ use Rattle.recovery.specs.Lists.{nil, cons}
 use Rattle.recovery.specs.Transaction.{Tx, running, committing}
 use Rattle.recovery.specs.Restart.{above, sortDesc}
 use Rattle.recovery.specs.Ledger.{Ledger, committedIn, enterSettled}
-use Rattle.recovery.specs.Machine.{Opening, Disk, Live, Listed, afterSettle}
+use Rattle.recovery.specs.Machine.{Opening, Disk, historyOf, Live, Listed, afterSettle}
 use Rattle.recovery.specs.Claim.{commits}
 use Rattle.recovery.proofs.Lists.{all-map, all-append, all-here, all-less, filter-out, filter-append}
 use Rattle.recovery.proofs.Distinct.{distinct-less}
@@ -73,7 +73,7 @@ module _ (o : Opening) (d : Disk) (l : Live) (k : Ledger) (r : Tx) (listed : Lis
   settle-finds =
       let queued : committedIn (k .queue) ≡ commits (l .tail) = ap committedIn (u .ledger .queue) ∙ commits-entries (l .tail) in
       rw (u .ledger .durable, queued)
-      (settles (l .csn) r (commits (d .before ++ d .after)) (commits (l .tail)) (all-here cs r ds (rw committings at (u .ledger .latests))) on-disk
+      (settles (l .csn) r (commits (historyOf d)) (commits (l .tail)) (all-here cs r ds (rw committings at (u .ledger .latests))) on-disk
       (consecutive-high (consecutive-tied (s .fit .tied))))
 
   pub settle-keeps : Up o d (afterSettle r l) (enterSettled (r .id) k)

@@ -7,19 +7,20 @@ use Prim.Native.Nat.{_≤_}
 use native.Mathlib.Omega.{arith}
 use lib.ListN.{getD}
 use lib.Seq.{take-nil}
-use Rattle.recovery.specs.Group.{Group}
+use Rattle.recovery.specs.Group.{Group, groupsSize}
 use Rattle.recovery.specs.Lists.{nil}
 use Rattle.recovery.specs.Transaction.{Tx}
 use Rattle.recovery.specs.Restart.{undoOrder}
 use Rattle.recovery.specs.Ledger.{Event, Commit, Ledger, noLedger, committedIn, enter}
-use Rattle.recovery.specs.Machine.{Opening, Disk, Live, System, down, up, diskOf, openingDisk, Listed, Step, stays, begins, writes, precommits}
-use Rattle.recovery.specs.Machine.{rollsBack, flushes, flushIsCut, settles, checkpoints, checkpointIsCut, restarts, restartIsCut, Run, opened, next}
-use Rattle.recovery.specs.Claim.{layCommits, Claim}
+use Rattle.recovery.specs.Machine.{Opening, Disk, historyOf, standingBefore, Live, System, down, up, diskOf, openingDisk, Listed, Step, stays, begins}
+use Rattle.recovery.specs.Machine.{writes, precommits, rollsBack, flushes, flushIsCut, settles, checkpoints, checkpointIsCut, restarts, restartIsCut, Run, opened, next}
+use Rattle.recovery.specs.Claim.{commits, layCommits, Claim}
 use Rattle.recovery.proofs.Lists.{prefix-whole}
 use Rattle.recovery.proofs.Distinct.{empty}
 use Rattle.recovery.proofs.Groups.{groupsSize-append, replay-append}
 use Rattle.recovery.proofs.Byte.{layByte, by-bytes}
 use Rattle.recovery.proofs.Numbers.{consecutive-nil, consecutive-numbered}
+use Rattle.recovery.proofs.Log.{form-one, opening-stands}
 use Rattle.recovery.proofs.Room.{Roomy}
 use Rattle.recovery.proofs.Ledger.{Settles, replay-commits}
 use Rattle.recovery.proofs.Invariant.{Down, Inv, ImageAt, baseAt, crash, down-emptied}
@@ -58,8 +59,8 @@ module _ (o : Opening) where
     imageDistinct = empty;
     imageLength = o .sized;
     bytes = λ a h q. subst (λ (gs : List Group). ImageAt o (openingDisk o) a gs) (sym (take-nil q)) refl;
-    fits = λ q. subst (λ (gs : List Group). Roomy o (openingDisk o) gs) (sym (take-nil q)) (omega arith);
-    numbers = record { log = consecutive-nil; image = refl };
+    fits = λ q. subst (λ (gs : List Group). Roomy o (openingDisk o) gs) (sym (take-nil q)) (omega (arith, ap groupsSize (opening-stands o)));
+    numbers = record { history = consecutive-nil; image = refl };
     durable = refl;
     assigned = ([], refl);
     settled = nil;
@@ -73,14 +74,14 @@ module _ (o : Opening) where
   unfolding baseAt
   claimed d k w = record {
     restores =
-        by-bytes (o .size) (d .image .txs) (d .image .csn) (d .after) (d .before ++ d .after) (d .image .memory) (o .memory) (w .imageLength) (o .sized)
+        by-bytes (o .size) (d .image .txs) (d .image .csn) (d .after) (historyOf d) (d .image .memory) (o .memory) (w .imageLength) (o .sized)
         (λ a h. prefix-whole (ImageAt o d a) (d .after) (w .bytes a h) ∙ sym (replay-append (layByte a) (d .before) (d .after) (getD (o .memory) a 0)))
-        ∙ (replay-commits (d .before ++ d .after) (o .memory) ∙ ap (λ (cs : List Commit). layCommits cs (o .memory)) (sym (w .durable)));
-    logged = sym (w .durable);
-    numbered = rw (w .durable) (consecutive-numbered (w .numbers .log));
+        ∙ (replay-commits (historyOf d) (o .memory) ∙ ap (λ (cs : List Commit). layCommits cs (o .memory)) (sym (w .durable)));
+    logged = ap (λ (gs : List Group). commits (gs ++ d .after)) (form-one d) ∙ sym (w .durable);
+    numbered = rw (w .durable) (consecutive-numbered (w .numbers .history));
     first = (w .assigned .0, rw (w .durable) (w .assigned .1));
     settled = w .settled;
-    fits = rw (groupsSize-append (d .before) (d .after)) (prefix-whole (Roomy o d) (d .after) (w .fits));
+    fits = rw (groupsSize-append (standingBefore d) (d .after)) (prefix-whole (Roomy o d) (d .after) (w .fits));
   }
 
   -- The theorem. It is Theorem 4.1 of the 1993 paper, for physical logging, with restarts, cuts and the ledger added. The cases of the

@@ -8,7 +8,7 @@ use Rattle.recovery.specs.Group.{Group, committed, aborted, groupsSize}
 use Rattle.recovery.specs.Lists.{All}
 use Rattle.recovery.specs.Replay.{redoAll, layBytes}
 use Rattle.recovery.specs.Ledger.{Commit, Ledger}
-use Rattle.recovery.specs.Machine.{Opening, Disk, undoneBy, recovered}
+use Rattle.recovery.specs.Machine.{Opening, Disk, standingIn, undoneBy, recovered}
 
 -- the commits of a log
 abbrev pub commits : List Group → List Commit
@@ -30,7 +30,7 @@ pub record Claim (o : Opening) (d : Disk) (k : Ledger) : Type 0 where
   -- one more restart leaves the opening memory with the writes of the durable ones laid over it
   pub restores : recovered d ≡ layCommits (k .durable) (o .memory)
   -- the log, read from its first byte, has as its commits exactly the durable ones in order, with ids, numbers and writes
-  pub logged : commits (d .before ++ d .after) ≡ k .durable
+  pub logged : commits (standingIn d) ≡ k .durable
   -- the numbers being 1, 2, 3 and on, or what follows the opening one
   pub numbered : Numbered (o .csn) (k .durable)
   -- the durable ones are the first so many assigned
@@ -38,4 +38,4 @@ pub record Claim (o : Opening) (d : Disk) (k : Ledger) : Type 0 where
   -- each settled one is among them
   pub settled : All (λ c. List·Memᴰ c (k .durable)) (k .settled)
   -- the restart isn't refused: number 5 finds room for its abort records
-  pub fits : groupsSize (d .before ++ d .after) + abortLen * length (undoneBy d) ≤ o .capacity
+  pub fits : groupsSize (standingIn d) + abortLen * length (undoneBy d) ≤ o .capacity

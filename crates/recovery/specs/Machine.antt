@@ -32,11 +32,24 @@ pub record Image : Type 0 where
   pub memory : List ℕ
   pub csn : ℕ
 
--- the image in use and the groups of the log, those before the image's place and those after it
+-- the image in use, and every group stored whole since the opening: those stored before the image was, and those after it
 pub record Disk : Type 0 where
   pub image : Image
   pub before : List Group
   pub after : List Group
+
+-- "The groups of the log" are two things. History: every group stored whole since the opening. The ledger and the commit numbers go by it.
+abbrev pub historyOf : Disk → List Group
+historyOf d = d .before ++ d .after
+
+-- What stands in the log: room, offsets and bytes go by it. First the part before the image's place. The log is never wiped, so that its whole
+-- history stands in it; what rests on that cites `form-one` (proofs/Log.antt).
+unfoldable pub standingBefore : Disk → List Group
+standingBefore d = d .before
+
+-- from the log's first byte to its end
+abbrev pub standingIn : Disk → List Group
+standingIn d = standingBefore d ++ d .after
 
 -- csn: the last commit number on disk; lastId: the last id given
 pub record Live : Type 0 where
@@ -64,7 +77,7 @@ Listed r txs = lookup (r .id) txs ≡ some r
 
 -- Log room used = log end + tail length + for each running transaction its redo bytes + 8.
 abbrev pub roomUsed : Disk → Live → ℕ
-roomUsed d l = groupsSize (d .before ++ d .after) + groupsSize (l .tail) + reserved (running (l .txs))
+roomUsed d l = groupsSize (standingIn d) + groupsSize (l .tail) + reserved (running (l .txs))
 
 -- the last commit number assigned
 abbrev pub lastAssigned : Live → ℕ
@@ -134,12 +147,12 @@ afterFlush k l = record { txs = l .txs; memory = l .memory; tail = drop k (l .ta
 abbrev pub afterSettle : Tx → Live → Live
 afterSettle r l = record { txs = remove (r .id) (l .txs); memory = l .memory; tail = l .tail; csn = l .csn; lastId = l .lastId }
 
--- Checkpoint: the image is the live state, without redo records, and the whole log stands before it.
+-- Checkpoint: the image is the live state, without redo records, and the whole history is before it.
 abbrev pub withoutRedo : Tx → Tx
 withoutRedo t = record { id = t .id; committing = t .committing; csn = t .csn; undo = t .undo; redo = [] }
 
 abbrev pub afterCheckpoint : Disk → Live → Disk
-afterCheckpoint d l = record { image = record { txs = map withoutRedo (l .txs); memory = l .memory; csn = l .csn }; before = d .before ++ d .after; after = [] }
+afterCheckpoint d l = record { image = record { txs = map withoutRedo (l .txs); memory = l .memory; csn = l .csn }; before = historyOf d; after = [] }
 
 -- Restart: what it undoes, the memory it leaves, and the live state, up to the last id.
 abbrev pub undoneBy : Disk → List Tx

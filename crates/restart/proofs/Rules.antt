@@ -1,32 +1,55 @@
 -- What the image rules say of the transactions in the slots.
 use Prim.Native.Nat.{ℕ, zero, suc, _+_, _≤_, _<_}
 use native.Mathlib.Omega.{arith}
-use mathlib.Core.Bool.{Bool, true, false}
+use mathlib.Core.Bool.{Bool, true, false, cond, not, _&&_}
 use mathlib.Core.List.{List}
 use mathlib.Core.Option.{none, some}
 use mathlib.Core.Path.{_≡_, refl, sym, subst}
 use lib.Dec.{leb, eqb}
-use borrow.Author.Tests.{leb-true, leb-false, eqb-true, eqb-false}
+use borrow.Author.Tests.{leb-true, leb-false, eqb-true, eqb-false, ne-eqb}
 use Rattle.recovery.specs.Lists.{All}
 use Rattle.recovery.specs.Transaction.{Tx as Transaction, lookup}
 use Rattle.recovery.proofs.Bool.{or-left}
 use Rattle.recovery.proofs.Distinct.{empty, more}
 use Rattle.recovery.proofs.Transactions.{DistinctIds, lookup-own, lookup-none}
+use Rattle.log.proofs.Basics.{and-left, and-right}
 use Rattle.transaction.specs.Lists.{upFrom}
+use Rattle.transaction.specs.Rules.{headOk}
 use Rattle.transaction.proofs.Lists.{all-at, all-up}
 use Rattle.image.specs.declared.Image.{Image}
 use Rattle.image.specs.Slots.{outlineAt}
 use Rattle.image.specs.Rules.{keepsRules}
-use Rattle.image.proofs.Rules.{image-count, image-distinct, undo-at, distinct-at}
+use Rattle.image.proofs.Rules.{image-count, image-distinct, head-at, undo-at, distinct-at}
 use Rattle.restart.specs.declared.forward.Slot.the-variants.{At, Nowhere}
 use Rattle.image.specs.Content.{transactionsIn}
 use Rattle.restart.specs.Slots.{transactionAt, hasIdAt, imageSlot}
 use Rattle.restart.specs.Turns.{Undoable}
 use Rattle.restart.proofs.SlotLaws.{first-at, first-none, txs-up}
 
+-- the number tells the status
+numbers : (last assigned id status csn : ℕ) → headOk last assigned id status csn ≡ true
+    → (eqb status 1 ≡ eqb csn 0) × (eqb status 2 ≡ not (eqb csn 0))
+unfolding headOk
+numbers last assigned id status csn e = go (eqb status 1) refl (and-right (leb id last) _ (and-right (leb 1 id) _ e))
+  where
+    go : (b : Bool) → eqb status 1 ≡ b → cond b (eqb csn 0) (eqb status 2 && (leb 1 csn && leb csn assigned)) ≡ true
+        → (b ≡ eqb csn 0) × (eqb status 2 ≡ not (eqb csn 0))
+    go true q h = let s : status ≡ 1 = eqb-true status 1 q in (sym h, rw (s, h))
+    go false q h =
+        let s = and-left (eqb status 2) _ h in
+        let n = leb-true 1 csn (and-left (leb 1 csn) _ (and-right (eqb status 2) _ h)) in
+        let z = ne-eqb csn 0 (λ z. omega (arith, n, z)) in
+        (sym z, rw (s, z))
+
 module _ (image : Image) (ok : keepsRules image ≡ true) where
   pub undoable : Undoable image
-  undoable = record { few = image-count image ok; ranged = undo-at image ok }
+  undoable =
+      record {
+        few = image-count image ok;
+        ranged = undo-at image ok;
+        running = λ i h. numbers _ _ _ _ _ (head-at image ok i h) .0;
+        committing = λ i h. numbers _ _ _ _ _ (head-at image ok i h) .1;
+      }
 
   -- no id stands in two slots
   apart : (a b : ℕ) → a < b → b < image .count → transactionAt image a .id ≡ transactionAt image b .id → ⊥

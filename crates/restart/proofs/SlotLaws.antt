@@ -17,13 +17,17 @@ use Rattle.log.proofs.Basics.{clash}
 use Rattle.transaction.specs.Lists.{upFrom}
 use Rattle.transaction.specs.View.{viewOf}
 use Rattle.transaction.proofs.Lists.{up-snoc}
+use Rattle.log.specs.declared.TxId.{TxId}
 use Rattle.image.specs.declared.Image.{Image}
+use Rattle.image.specs.declared.keys.Keys.{Keys}
+use Rattle.image.specs.Keys.{keysOf}
 use Rattle.image.specs.Slots.{slotAt}
+use Rattle.image.proofs.KeyLaws.{key-id}
 use Rattle.restart.specs.declared.forward.Slot.{Slot}
 use Rattle.restart.specs.declared.forward.Slot.the-variants.{At, Nowhere}
 use Rattle.image.specs.Content.{transactionsIn}
 use Rattle.restart.specs.Slots.{transactionAt, orAt, firstBelow, hasIdAt, imageSlot, oneIf, filterBelow}
-use Rattle.restart.specs.Turns.{Below}
+use Rattle.restart.specs.Turns.{Below, hasIdIn, slotIn}
 
 module _ (p : ℕ → Bool) (i : ℕ) where
   pub first-miss : firstBelow p i ≡ Nowhere → p i ≡ false → firstBelow p (i + 1) ≡ Nowhere
@@ -46,10 +50,22 @@ first-at p (suc n) i e = go (first-at p n i) (firstBelow p n) refl (p n) refl e
     go ih Nowhere q true r z = let s : n ≡ i = cc in (omega arith, ap p (sym s) ∙ r)
     go ih Nowhere q false r z = clash (cc)
 
--- where an id stands is a slot of the image
-pub slot-below : (image : Image) (id n : ℕ) (x : Slot) → image .count ≤ n → x ≡ imageSlot image id → Below n x
-slot-below image id n Nowhere h e = tt {0}
-slot-below image id n (At i) h e = omega (arith, first-at (hasIdAt image id) (image .count) i (sym e) .0)
+-- a slot that was found is one of the first n
+pub found-below : (p : ℕ → Bool) (n m : ℕ) (x : Slot) → n ≤ m → x ≡ firstBelow p n → Below m x
+found-below p n m Nowhere h e = tt {0}
+found-below p n m (At i) h e = omega (arith, first-at p n i (sym e) .0)
+
+-- by tests that agree
+pub first-same : (p q : ℕ → Bool) (n : ℕ) → ((j : ℕ) → j < n → q j ≡ p j) → firstBelow q n ≡ firstBelow p n
+first-same p q zero h = refl
+first-same p q (suc n) h = ap₂ (λ (f : Slot) (b : Bool). orAt f b n) (first-same p q n (λ j l. h j (omega arith))) (h n (omega arith))
+
+-- by the keys as by the image
+pub slot-in : (image : Image) (keys : Keys) → keys ≡ keysOf (image .txs) → image .count ≤ 8
+    → (id : ℕ) → slotIn (keys .ids) (image .count) id ≡ imageSlot image id
+slot-in image keys e few id =
+    first-same (hasIdAt image id) (hasIdIn (keys .ids) id) (image .count)
+    (λ j h. ap (λ (x : TxId). eqb (x .0) id) (key-id (image .txs) keys e j (omega arith)))
 
 -- where none was found, none passes it
 pub first-none : (p : ℕ → Bool) (n : ℕ) → firstBelow p n ≡ Nowhere → (i : ℕ) → i < n → p i ≡ false
@@ -78,6 +94,36 @@ module _ {A : Type 0} where
   filter-same p q f zero h = refl
   filter-same p q f (suc n) h =
       ap₂ (λ (xs : List A) (b : Bool). xs ++ oneIf b (f n)) (filter-same p q f n (λ j l. h j (omega arith))) (h n (omega arith))
+
+  -- none passes the test
+  pub filter-none : (p : ℕ → Bool) (f : ℕ → A) (n : ℕ) → firstBelow p n ≡ Nowhere → filterBelow p f n ≡ []
+  filter-none p f n e = filter-same (λ j. false) p f n (first-none p n e) ∙ go n
+    where
+      go : (n : ℕ) → filterBelow (λ j. false) f n ≡ []
+      go zero = refl
+      go (suc n) = rw (go n)
+
+  -- the first that passes it, and the list without it, by a test that differs there alone
+  pub filter-first : (p q : ℕ → Bool) (f : ℕ → A) (n i : ℕ) → firstBelow p n ≡ At i → q i ≡ false → ((j : ℕ) → (j ≡ i → ⊥) → q j ≡ p j)
+      → filterBelow p f n ≡ f i ∷ filterBelow q f n
+  filter-first p q f zero i e z h = clash (cc)
+  filter-first p q f (suc n) i e z h = go (filter-first p q f n i) (firstBelow p n) refl (p n) refl e
+    where
+      go : (firstBelow p n ≡ At i → q i ≡ false → ((j : ℕ) → (j ≡ i → ⊥) → q j ≡ p j) → filterBelow p f n ≡ f i ∷ filterBelow q f n)
+          → (x : Slot) → firstBelow p n ≡ x → (b : Bool) → p n ≡ b → orAt x b n ≡ At i
+          → filterBelow p f n ++ oneIf (p n) (f n) ≡ f i ∷ (filterBelow q f n ++ oneIf (q n) (f n))
+      go ih (At j) a b r s =
+          let same : j ≡ i = cc in
+          let at = a ∙ ap At same in
+          let low = first-at p n i at .0 in
+          ap₂ (λ (xs : List A) (t : Bool). xs ++ oneIf t (f n)) (ih at z h) (sym (h n (λ w. omega arith)))
+      go ih Nowhere a true r s =
+          let same : n ≡ i = cc in
+          let none = filter-none p f n a in
+          let left = filter-same p q f n (λ j l. h j (λ w. omega arith)) ∙ none in
+          let out : q n ≡ false = ap q same ∙ z in
+          rw (none, left, r, out, same)
+      go ih Nowhere a false r s = clash (cc)
 
   one-cond : (b : Bool) (x : A) → oneIf b x ≡ cond b (x ∷ []) []
   one-cond true x = refl

@@ -1,32 +1,50 @@
 -- Laws of the pass over the log, a group at a time.
-use Prim.Native.Nat.{ℕ, _+_, _≤_}
+use Prim.Native.Nat.{ℕ, _+_, _≤_, _<_}
 use native.Mathlib.Omega.{arith}
+use mathlib.Core.Bool.{Bool, true, false, cond}
 use mathlib.Core.List.{List}
 use mathlib.Core.Option.{Option, none, some}
 use mathlib.Core.Path.{_≡_, refl, sym, ap, _∙_}
-use lib.ListN.{length, drop, length-drop}
+use lib.Dec.{eqb}
+use lib.ListN.{length, getD, drop, length-drop}
 use lib.Seq.{drop-drop}
 use Rattle.recovery.specs.Group.{Write, Group, committed, aborted, redoSize, groupSize, csnAfter}
-use Rattle.recovery.specs.Replay.{redoAll, layBytes}
+use Rattle.recovery.specs.Replay.{redoAll, undoAll, layBytes}
 use Rattle.log.specs.Group.{readGroup}
 use Rattle.log.specs.Log.{readLog}
+use Rattle.log.proofs.Basics.{clash}
 use Rattle.log.proofs.GroupLaws.{group-inv, group-within}
 use Rattle.log.proofs.LogLaws.{log-none, log-more}
+use Rattle.log.specs.declared.TxId.{TxId}
 use Rattle.image.specs.declared.Image.{Image}
+use Rattle.image.specs.declared.keys.Keys.{Keys}
+use Rattle.image.specs.Keys.{keysOf}
 use Rattle.restart.specs.declared.forward.Pass.{Pass}
+use Rattle.restart.specs.declared.forward.Turn.{Turn}
 use Rattle.restart.specs.declared.forward.Slot.{Slot}
-use Rattle.restart.specs.Slots.{imageSlot}
+use Rattle.restart.specs.declared.forward.Slot.the-variants.{At, Nowhere}
+use Rattle.restart.specs.Slots.{transactionAt}
 use Rattle.restart.specs.Forward.{Went, wentBy, undoLogged, past, afterGroup, goOver}
-use Rattle.restart.specs.Turns.{frontWrites, onFound, groupStep}
+use Rattle.restart.specs.Turns.{hasIdIn, slotIn, unfinishedAt, frontWrites, Stepped, steppedBy, onGroup, turnStep}
+use Rattle.restart.proofs.SlotLaws.{first-at, slot-in}
 use Rattle.restart.proofs.RedoLaws.{front-body}
-
--- the two parts of a step from those of what it is
-pub as-step : (w v : Went) (p : Pass) (m : List ℕ) → w ≡ v → p ≡ v .pass → m ≡ v .memory → (p ≡ w .pass) × (m ≡ w .memory)
-as-step w v p m e a b = (a ∙ ap (λ (x : Went). x .pass) (sym e), b ∙ ap (λ (x : Went). x .memory) (sym e))
 
 -- what the pass leads to from here
 abbrev pub rest : Image → List ℕ → Went → Went
 rest image log w = goOver image (readLog (w .pass .csn .0) (drop (w .pass .end) log)) w
+
+-- the group at the end reached, if one stands there
+abbrev onFound : Image → Option Group → Went → Went
+onFound image none w = w
+onFound image (some g) w = afterGroup image g w
+
+unfoldable pub groupStep : Image → List ℕ → Went → Went
+groupStep image log w = onFound image (readGroup (w .pass .csn .0) (drop (w .pass .end) log)) w
+
+-- a group lies within the log
+pub step-room : (log : List ℕ) (p : Pass) (g : Group) → p .end ≤ length log → readGroup (p .csn .0) (drop (p .end) log) ≡ some g
+    → p .end + groupSize g ≤ length log
+step-room log p g h e = omega (arith, group-within _ _ g e, length-drop (p .end) log)
 
 module _ (image : Image) (log : List ℕ) (w : Went) where
   abbrev here : Option Group
@@ -36,24 +54,8 @@ module _ (image : Image) (log : List ℕ) (w : Went) where
   unfolding groupStep
   step-by x e = ap (λ (y : Option Group). onFound image y w) e
 
-  pub step-none : here ≡ none → groupStep image log w ≡ w
+  step-none : here ≡ none → groupStep image log w ≡ w
   step-none e = step-by none e
-
-  pub step-abort : (id k : ℕ) (slot : Slot) (m : List ℕ) → here ≡ some (aborted id) → k ≡ 4 → slot ≡ imageSlot image id
-      → m ≡ undoLogged image (w .pass .found) slot (w .memory)
-      → groupStep image log w ≡ wentBy m (past (w .pass) slot id (w .pass .csn .0) 2 (w .pass .end + k))
-  step-abort id k slot m e h x q = rw (q, h, x) (step-by _ e)
-
-  pub step-commit : (id n k : ℕ) (slot : Slot) (ws : List Write) (m : List ℕ) → here ≡ some (committed id n ws)
-      → k ≡ redoSize ws + 8 → slot ≡ imageSlot image id → m ≡ redoAll layBytes (frontWrites (drop (w .pass .end) log)) (w .memory)
-      → groupStep image log w ≡ wentBy m (past (w .pass) slot id n 1 (w .pass .end + k))
-  step-commit id n k slot ws m e h x q =
-      let f = front-body (w .pass .csn .0) id ws (drop (w .pass .end) log) (group-inv _ _ (committed id n ws) e .1) in
-      rw (q, h, x, f) (step-by _ e)
-
-  -- a group lies within the log
-  pub step-room : (g : Group) → w .pass .end ≤ length log → here ≡ some g → w .pass .end + groupSize g ≤ length log
-  step-room g h e = omega (arith, group-within _ _ g e, length-drop (w .pass .end) log)
 
   end-after : (g : Group) → afterGroup image g w .pass .end ≡ w .pass .end + groupSize g
   unfolding past
@@ -83,7 +85,7 @@ module _ (image : Image) (log : List ℕ) (w : Went) where
       go none e = let k : groupStep image log w .pass .end ≡ w .pass .end = ap (λ (v : Went). v .pass .end) (step-none e) in (omega arith, omega arith)
       go (some g) e =
           let k = grown g e in
-          let r = step-room g h e in
+          let r = step-room log (w .pass) g h e in
           (omega arith, omega arith)
 
   -- the last turn: the end stands still
@@ -96,3 +98,103 @@ module _ (image : Image) (log : List ℕ) (w : Went) where
           let k = grown g e in
           let z = group-within _ _ g e in
           absurd (omega arith)
+
+-- ---- a turn of the code: what an abort undoes is undone after it
+
+-- the transaction in this slot undone
+abbrev pub undoneAt : Image → Slot → List ℕ → List ℕ
+undoneAt image Nowhere m = m
+undoneAt image (At i) m = undoAll layBytes (transactionAt image i .undo) m
+
+abbrev pub afterTurn : Image → Stepped → Went
+afterTurn image s = wentBy (undoneAt image (s .turn .undo) (s .memory)) (s .turn .pass)
+
+undo-same : (image : Image) (found : List ℕ) (slot : Slot) (m : List ℕ) → undoLogged image found slot m ≡ undoneAt image (unfinishedAt found slot) m
+undo-same image found Nowhere m = refl
+undo-same image found (At i) m = go (eqb (getD found i 0) 0)
+  where
+    go : (b : Bool) → cond b (undoAll layBytes (transactionAt image i .undo) m) m ≡ undoneAt image (cond b (At i) Nowhere) m
+    go true = refl
+    go false = refl
+
+module _ (ids : List TxId) (n : ℕ) (log : List ℕ) (w : Went) where
+  abbrev read : Option Group
+  read = readGroup (w .pass .csn .0) (drop (w .pass .end) log)
+
+  turn-by : (x : Option Group) → read ≡ x → turnStep ids n log w ≡ onGroup ids n x w
+  unfolding turnStep
+  turn-by x e = ap (λ (y : Option Group). onGroup ids n y w) e
+
+  pub turn-none : read ≡ none → turnStep ids n log w ≡ steppedBy (w .memory) (w .pass) Nowhere
+  turn-none e = turn-by none e
+
+  pub turn-abort : (id k : ℕ) (slot undo : Slot) → read ≡ some (aborted id) → k ≡ 4 → slot ≡ slotIn ids n id → undo ≡ unfinishedAt (w .pass .found) slot
+      → turnStep ids n log w ≡ steppedBy (w .memory) (past (w .pass) slot id (w .pass .csn .0) 2 (w .pass .end + k)) undo
+  turn-abort id k slot undo e h x q = rw (q, h, x) (turn-by _ e)
+
+  pub turn-commit : (id csn k : ℕ) (slot : Slot) (ws : List Write) (m : List ℕ) → read ≡ some (committed id csn ws)
+      → k ≡ redoSize ws + 8 → slot ≡ slotIn ids n id → m ≡ redoAll layBytes (frontWrites (drop (w .pass .end) log)) (w .memory)
+      → turnStep ids n log w ≡ steppedBy m (past (w .pass) slot id csn 1 (w .pass .end + k)) Nowhere
+  turn-commit id csn k slot ws m e h x q =
+      let f = front-body (w .pass .csn .0) id ws (drop (w .pass .end) log) (group-inv _ _ (committed id csn ws) e .1) in
+      rw (q, h, x, f) (turn-by _ e)
+
+  -- the two parts of a turn from those of what it is
+  pub as-turn : (v : Stepped) (t : Turn) (m : List ℕ) → turnStep ids n log w ≡ v → t ≡ v .turn → m ≡ v .memory
+      → (t ≡ turnStep ids n log w .turn) × (m ≡ turnStep ids n log w .memory)
+  as-turn v t m e a b = (a ∙ ap (λ (x : Stepped). x .turn) (sym e), b ∙ ap (λ (x : Stepped). x .memory) (sym e))
+
+  -- one that is to be undone has a slot, and its abort record was passed
+  pub turn-undo : (i : ℕ) → turnStep ids n log w .turn .undo ≡ At i → (i < n) × (w .pass .end < turnStep ids n log w .turn .pass .end)
+  unfolding past
+  turn-undo i h = go read refl
+    where
+      found : (id : ℕ) (x : Slot) → slotIn ids n id ≡ x → unfinishedAt (w .pass .found) x ≡ At i → i < n
+      found id Nowhere e q = clash (cc)
+      found id (At j) e q =
+          let s = at-same (eqb (getD (w .pass .found) j 0) 0) j q in
+          omega (arith, s, first-at (hasIdIn ids id) n j e .0)
+        where
+          at-same : (b : Bool) (j : ℕ) → cond b (At j) Nowhere ≡ At i → j ≡ i
+          at-same true j q = cc
+          at-same false j q = clash (cc)
+
+      none-undone : (v : Stepped) → turnStep ids n log w ≡ v → v .turn .undo ≡ At i
+      none-undone v e = ap (λ (x : Stepped). x .turn .undo) (sym e) ∙ h
+
+      go : (x : Option Group) → read ≡ x → (i < n) × (w .pass .end < turnStep ids n log w .turn .pass .end)
+      go none e = let z = none-undone _ (turn-by none e) in clash (cc)
+      go (some (committed id c ws)) e = let z = none-undone _ (turn-by _ e) in clash (cc)
+      go (some (aborted id)) e =
+          let t = turn-by (some (aborted id)) e in
+          let k : turnStep ids n log w .turn .pass .end ≡ w .pass .end + 4 = ap (λ (x : Stepped). x .turn .pass .end) t in
+          (found id (slotIn ids n id) refl (none-undone _ t), omega (arith, k))
+
+-- for the ids of the image
+pub turn-step : (image : Image) (keys : Keys) (log : List ℕ) (w : Went) → keys ≡ keysOf (image .txs) → image .count ≤ 8
+    → groupStep image log w ≡ afterTurn image (turnStep (keys .ids) (image .count) log w)
+turn-step image keys log w k few = go (readGroup (w .pass .csn .0) (drop (w .pass .end) log)) refl
+  where
+    n : ℕ
+    n = image .count
+
+    turned : (x : Option Group) → readGroup (w .pass .csn .0) (drop (w .pass .end) log) ≡ x
+        → afterTurn image (onGroup (keys .ids) n x w) ≡ afterTurn image (turnStep (keys .ids) n log w)
+    turned x e = ap (afterTurn image) (sym (turn-by (keys .ids) n log w x e))
+
+    go : (x : Option Group) → readGroup (w .pass .csn .0) (drop (w .pass .end) log) ≡ x
+        → groupStep image log w ≡ afterTurn image (turnStep (keys .ids) n log w)
+    go none e = step-none image log w e ∙ turned none e
+    go (some (committed id c ws)) e =
+        step-by image log w _ e
+        ∙ ap (λ (slot : Slot). wentBy (redoAll layBytes ws (w .memory)) (past (w .pass) slot id c 1 (w .pass .end + (redoSize ws + 8))))
+        (sym (slot-in image keys k few id))
+        ∙ turned _ e
+    go (some (aborted id)) e =
+        step-by image log w _ e
+        ∙ ap (λ (slot : Slot).
+        wentBy (undoLogged image (w .pass .found) slot (w .memory)) (past (w .pass) slot id (w .pass .csn .0) 2 (w .pass .end + 4)))
+        (sym (slot-in image keys k few id))
+        ∙ ap (λ (m : List ℕ). wentBy m (past (w .pass) (slotIn (keys .ids) n id) id (w .pass .csn .0) 2 (w .pass .end + 4)))
+        (undo-same image (w .pass .found) (slotIn (keys .ids) n id) (w .memory))
+        ∙ turned _ e

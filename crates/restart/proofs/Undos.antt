@@ -1,28 +1,22 @@
 -- Laws of undoing one transaction after the other, with their abort records.
-use Prim.Native.Nat.{ℕ, _+_, _*_, _≤_}
+use Prim.Native.Nat.{ℕ, _+_, _*_}
 use native.Mathlib.Omega.{arith}
-use native.Mathlib.Nat.{zero-add}
-use mathlib.Core.Bool.{Bool, true, false, not}
 use mathlib.Core.List.{List, [], _∷_, _++_}
 use mathlib.Core.Path.{_≡_, refl, sym, ap, ap₂, _∙_}
 use lib.ListN.{length, length-append}
 use lib.Seq.{sets}
 use Rattle.recovery.specs.Transaction.{Tx}
 use Rattle.recovery.specs.Replay.{undoAll, undoEach, layBytes}
-use Rattle.recovery.specs.Restart.{sortDesc, aborts}
+use Rattle.recovery.specs.Restart.{aborts}
 use Rattle.recovery.proofs.Groups.{undoEach-append}
-use Rattle.recovery.proofs.Sorting.{sort-length}
 use Rattle.log.specs.Record.{encode, abort}
 use Rattle.log.specs.Log.{encodeLog}
-use Rattle.log.proofs.Basics.{clash}
 use Rattle.log.proofs.StoreLaws.{sets-append}
 use Rattle.image.specs.declared.Image.{Image}
 use Rattle.restart.specs.declared.forward.Pass.{Pass}
-use Rattle.restart.specs.Slots.{transactionAt, oneIf}
 use Rattle.restart.specs.Forward.{Went, wentBy, forwardOf}
-use Rattle.restart.specs.Undo.{runningAt, lostAt, lostBy, runningOf, lostOf}
+use Rattle.restart.specs.Undo.{undoneOf}
 use Rattle.restart.specs.Restart.{AfterSteps, afterSteps, recoverOf}
-use Rattle.restart.proofs.SlotLaws.{filter-length}
 
 aborts-append : (xs ys : List Tx) → encodeLog (aborts (xs ++ ys)) ≡ encodeLog (aborts xs) ++ encodeLog (aborts ys)
 aborts-append [] ys = refl
@@ -55,38 +49,23 @@ undid-more xs ys m t k m₁ t₁ k₁ m₂ t₂ k₂ a b =
           ∙ ap (λ (n : ℕ). sets (sets t (k * 4) (encodeLog (aborts xs))) n (encodeLog (aborts ys))) e);
     }
 
--- one that is not wanted, and one that is
-pub one-none : (b : Bool) (t : Tx) (m tail : List ℕ) (n : ℕ) → not b ≡ true
-    → (n ≡ n + length (oneIf b t)) × ((m ≡ undoEach layBytes (oneIf b t) m) × (tail ≡ sets tail (n * 4) (encodeLog (aborts (oneIf b t)))))
-one-none true t m tail n e = clash (cc)
-one-none false t m tail n e = (omega arith, (refl, refl))
+-- one alone
+pub undid-one : (x : Tx) (m t : List ℕ) (k : ℕ) (m₁ t₁ : List ℕ) → m₁ ≡ undoAll layBytes (x .undo) m → t₁ ≡ sets t (k * 4) (encode (abort (x .id)))
+    → Undid (x ∷ []) m t k m₁ t₁ (k + 1)
+undid-one x m t k m₁ t₁ p q = record { count = refl; memory = p; tail = q }
 
-pub one-some : (b : Bool) (t : Tx) (m tail m₁ t₁ : List ℕ) (n : ℕ) → not b ≡ false → m₁ ≡ undoAll layBytes (t .undo) m
-    → t₁ ≡ sets tail (n * 4) (encode (abort (t .id)))
-    → (n + 1 ≡ n + length (oneIf b t)) × ((m₁ ≡ undoEach layBytes (oneIf b t) m) × (t₁ ≡ sets tail (n * 4) (encodeLog (aborts (oneIf b t)))))
-one-some true t m tail m₁ t₁ n e p q = (refl, (p, q))
-one-some false t m tail m₁ t₁ n e p q = clash (cc)
-
--- there is room for as many abort records as the image has transactions
-pub running-few : (image : Image) (p : Pass) → length (runningOf image p) ≤ image .count
-unfolding runningOf
-running-few image p = filter-length (runningAt image (p .found)) (transactionAt image) (image .count)
-
-pub lost-few : (image : Image) (found : List ℕ) (n : ℕ) → length (sortDesc (lostBy image found n)) ≤ image .count
-lost-few image found n = omega (arith, sort-length (lostBy image found n), filter-length (lostAt image found n) (transactionAt image) (image .count))
-
--- both parts of step 4 after the pass
+-- step 4 after the pass
 module _ (image : Image) (log m tail : List ℕ) (p : Pass) (m₁ : List ℕ) (passed : p ≡ forwardOf image log m .pass)
     (forwarded : m₁ ≡ forwardOf image log m .memory) where
-  pub restart-case : (n k : ℕ) (m₂ t₂ m₃ t₃ : List ℕ) → Undid (runningOf image p) m₁ tail 0 m₂ t₂ n → Undid (lostOf image p) m₂ t₂ n m₃ t₃ k
+  pub restart-case : (k : ℕ) (m₂ t₂ : List ℕ) → k ≡ length (undoneOf image p) → m₂ ≡ undoEach layBytes (undoneOf image p) m₁
+      → t₂ ≡ sets tail 0 (encodeLog (aborts (undoneOf image p)))
       → (record { end = p .end; csn = p .csn; last = p .last; undone = k; found = p .found } ≡ recoverOf image log m tail .answer)
-      × ((m₃ ≡ recoverOf image log m tail .memory) × (t₃ ≡ recoverOf image log m tail .tail))
+      × ((m₂ ≡ recoverOf image log m tail .memory) × (t₂ ≡ recoverOf image log m tail .tail))
   unfolding recoverOf
-  restart-case n k m₂ t₂ m₃ t₃ a b =
-      let v = undid-more (runningOf image p) (lostOf image p) m₁ tail 0 m₂ t₂ n m₃ t₃ k a b in
+  restart-case k m₂ t₂ count memory laid =
       let e : afterSteps image (wentBy m₁ p) tail ≡ afterSteps image (forwardOf image log m) tail =
       ap (λ (w : Went). afterSteps image w tail) (ap₂ wentBy forwarded passed) in (
-        ap (λ (x : ℕ). record { end = p .end; csn = p .csn; last = p .last; undone = x; found = p .found }) (v .count ∙ zero-add _)
+        ap (λ (x : ℕ). record { end = p .end; csn = p .csn; last = p .last; undone = x; found = p .found }) count
             ∙ ap (λ (o : AfterSteps). o .answer) e,
-        (v .memory ∙ ap (λ (o : AfterSteps). o .memory) e, v .tail ∙ ap (λ (o : AfterSteps). o .tail) e),
+        (memory ∙ ap (λ (o : AfterSteps). o .memory) e, laid ∙ ap (λ (o : AfterSteps). o .tail) e),
       )

@@ -1,33 +1,40 @@
 -- What the contracts of the inner functions cite beside the steps: what they rest on, and single turns of their loops. `restartOf` has none
 -- of it.
 use Prim.Native.Nat.{ℕ, zero, suc, _+_, _≤_, _<_}
-use mathlib.Core.Bool.{true, cond}
+use mathlib.Core.Bool.{Bool, true, cond, not, _&&_}
 use mathlib.Core.List.{List, [], _∷_}
 use mathlib.Core.Option.{Option, none, some}
 use mathlib.Core.Path.{_≡_}
 use lib.ListN.{length, getD, drop}
-use Rattle.layout.specs.{redoLen, maxTxs}
-use Rattle.recovery.specs.Group.{Write, Group}
-use Rattle.recovery.specs.Replay.{layBytes}
+use lib.Dec.{eqb, ltb}
+use Rattle.layout.specs.{redoLen, maxTxs, statusRunning, statusCommitting}
+use Rattle.recovery.specs.Group.{Write, Group, committed, aborted, groupSize, csnAfter}
+use Rattle.recovery.specs.Replay.{redoAll, layBytes}
+use Rattle.recovery.specs.Restart.{groupId}
+use Rattle.log.specs.declared.TxId.{TxId}
 use Rattle.log.specs.declared.Csn.{Csn}
 use Rattle.log.specs.Record.{Record, redo, commit, abort, readRecord}
 use Rattle.log.specs.Reader.{whole}
 use Rattle.log.specs.Group.{readGroup}
-use Rattle.transaction.specs.declared.Tx.{Tx}
 use Rattle.transaction.specs.View.{rangesOf}
 use Rattle.transaction.specs.Rules.{recordsOk}
 use Rattle.image.specs.declared.Image.{Image}
 use Rattle.image.specs.Slots.{slotAt}
+use Rattle.restart.specs.declared.forward.Pass.{Pass}
+use Rattle.restart.specs.declared.forward.Turn.{Turn}
 use Rattle.restart.specs.declared.forward.Slot.{Slot}
 use Rattle.restart.specs.declared.forward.Slot.the-variants.{At, Nowhere}
 use Rattle.restart.specs.declared.undo.Best.{Best}
-use Rattle.restart.specs.Forward.{Went, afterGroup}
-use Rattle.restart.specs.Undo.{isLost}
+use Rattle.restart.specs.Slots.{firstBelow}
+use Rattle.restart.specs.Forward.{Went, codeOf, past}
 
 -- of the image rules, what undoing rests on
 pub record Undoable (image : Image) : Type 0 where
   pub few : image .count ≤ maxTxs
   pub ranged : (i : ℕ) → i < image .count → recordsOk (rangesOf (slotAt (image .txs) i .undo)) ≡ true
+  -- a running one has no number, a committing one has
+  pub running : (i : ℕ) → i < image .count → eqb (slotAt (image .txs) i .status) statusRunning ≡ eqb (slotAt (image .txs) i .csn .0) 0
+  pub committing : (i : ℕ) → i < image .count → eqb (slotAt (image .txs) i .status) statusCommitting ≡ not (eqb (slotAt (image .txs) i .csn .0) 0)
 
 -- a slot, if it is one, lies below n
 abbrev pub Below : ℕ → Slot → Type 0
@@ -63,21 +70,73 @@ redoStep rest u s = onRecord rest u s (readRecord s)
 unfoldable pub frontWrites : List ℕ → List Write
 frontWrites s = whole redoStep [] 0 s
 
--- ---- one group, and the highest number
+-- ---- one group
 
--- the group at the end reached, if one stands there
-abbrev pub onFound : Image → Option Group → Went → Went
-onFound image none w = w
-onFound image (some g) w = afterGroup image g w
+-- where an id stands among the first n
+abbrev pub idIn : List TxId → ℕ → ℕ
+idIn ids i = getD ids i (record { 0 = 0 }) .0
 
-unfoldable pub groupStep : Image → List ℕ → Went → Went
-groupStep image log w = onFound image (readGroup (w .pass .csn .0) (drop (w .pass .end) log)) w
+abbrev pub hasIdIn : List TxId → ℕ → ℕ → Bool
+hasIdIn ids id i = eqb (idIn ids i) id
 
--- the better of b and a transaction, which stands in slot i
-unfoldable pub betterOf : Tx → ℕ → Best → ℕ → Best
-betterOf t code b i = cond (isLost (b .top .0) code t) (record { at = At i; top = t .csn }) b
+abbrev pub slotIn : List TxId → ℕ → ℕ → Slot
+slotIn ids n id = firstBelow (hasIdIn ids id) n
 
--- the best of the first n slots: the unfinished committing one with the highest number above csn
-abbrev pub bestOf : Image → List ℕ → Csn → ℕ → Best
-bestOf image found csn zero = record { at = Nowhere; top = csn }
-bestOf image found csn (suc n) = betterOf (slotAt (image .txs) n) (getD found n 0) (bestOf image found csn n) n
+-- the slot, if its transaction is unfinished
+abbrev pub unfinishedAt : List ℕ → Slot → Slot
+unfinishedAt found Nowhere = Nowhere
+unfinishedAt found (At i) = cond (eqb (getD found i 0) 0) (At i) Nowhere
+
+-- what a turn of the pass leaves: memory without what is still to be undone
+pub record Stepped : Type 0 where
+  pub memory : List ℕ
+  pub turn : Turn
+
+abbrev pub steppedBy : List ℕ → Pass → Slot → Stepped
+steppedBy m p slot = record { memory = m; turn = record { pass = p; undo = slot } }
+
+-- a commit is done, an abort not yet
+abbrev pub redone : Group → List ℕ → List ℕ
+redone (committed id csn ws) m = redoAll layBytes ws m
+redone (aborted id) m = m
+
+abbrev pub toUndo : List TxId → ℕ → Group → List ℕ → Slot
+toUndo ids n (committed id csn ws) found = Nowhere
+toUndo ids n (aborted id) found = unfinishedAt found (slotIn ids n id)
+
+abbrev pub passBy : List TxId → ℕ → Group → Pass → Pass
+passBy ids n g p = past p (slotIn ids n (groupId g)) (groupId g) (csnAfter (p .csn .0) g) (codeOf g) (p .end + groupSize g)
+
+-- past the group at the end reached, if one stands there
+abbrev pub onGroup : List TxId → ℕ → Option Group → Went → Stepped
+onGroup ids n none w = steppedBy (w .memory) (w .pass) Nowhere
+onGroup ids n (some g) w = steppedBy (redone g (w .memory)) (passBy ids n g (w .pass)) (toUndo ids n g (w .pass .found))
+
+unfoldable pub turnStep : List TxId → ℕ → List ℕ → Went → Stepped
+turnStep ids n log w = onGroup ids n (readGroup (w .pass .csn .0) (drop (w .pass .end) log)) w
+
+-- ---- the next one that step 4 undoes
+
+abbrev pub csnIn : List Csn → ℕ → ℕ
+csnIn csns i = getD csns i (record { 0 = 0 }) .0
+
+-- unfinished and running
+abbrev pub runningIn : List Csn → List ℕ → ℕ → Bool
+runningIn csns found i = eqb (getD found i 0) 0 && eqb (csnIn csns i) 0
+
+-- the better of b and a transaction of that code, which stands in slot i: one that is unfinished, with a higher number
+unfoldable pub betterOf : Csn → ℕ → Best → ℕ → Best
+betterOf csn code b i = cond (eqb code 0 && ltb (b .top .0) (csn .0)) (record { at = At i; top = csn }) b
+
+-- the best of the first n slots: the unfinished one with the highest number above csn
+abbrev pub bestOf : List Csn → List ℕ → Csn → ℕ → Best
+bestOf csns found csn zero = record { at = Nowhere; top = csn }
+bestOf csns found csn (suc n) = betterOf (getD csns n (record { 0 = 0 })) (getD found n 0) (bestOf csns found csn n) n
+
+-- the first running one; if none is left, the committing one with the highest number
+abbrev pub orBest : Slot → Best → Slot
+orBest (At i) b = At i
+orBest Nowhere b = b .at
+
+abbrev pub nextOf : List Csn → List ℕ → Csn → ℕ → Slot
+nextOf csns found csn n = orBest (firstBelow (runningIn csns found) n) (bestOf csns found csn n)

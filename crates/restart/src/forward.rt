@@ -1,5 +1,6 @@
 // Steps 2 and 3: once over the log. A group is applied when it is found whole.
 use image::Image;
+use image::keys::Keys;
 use layout::MAX_TXS;
 use layout::REDO_LEN;
 use log::Csn;
@@ -15,9 +16,9 @@ ghost use lib.ListN.{length};
 ghost use Rattle.layout.specs.{memoryLen, maxTxs};
 ghost use Rattle.recovery.specs.Replay.{redoAll, layBytes};
 ghost use Rattle.log.specs.Record.{readRecord};
-ghost use Rattle.restart.specs.Slots.{imageSlot};
-ghost use Rattle.restart.specs.Forward.{wentBy, undoLogged, past, forwardOf};
-ghost use Rattle.restart.specs.Turns.{Undoable, Below, layFront, frontSize, frontWrites, groupStep};
+ghost use Rattle.image.specs.Keys.{keysOf};
+ghost use Rattle.restart.specs.Forward.{wentBy, past, forwardOf};
+ghost use Rattle.restart.specs.Turns.{Undoable, Below, slotIn, unfinishedAt, layFront, frontSize, frontWrites, turnStep};
 
 // What the pass has found: the end that it reached, the last commit number, the highest id, and for each transaction of the image a code by
 // the first group of its id: 0 none, 1 a commit, 2 an abort. A transaction with a code is finished.
@@ -34,14 +35,19 @@ pub(crate) enum Slot {
     Nowhere,
 }
 
-fn find(image: Image, id: TxId) -> Slot
-    requires { ⌜ image .count ≤ maxTxs ⌝ }
-    ensures { λ r. ⌜ r ≡ imageSlot image (id .0) ⌝ }
+// A turn of the pass: what it has found then, and the slot of the transaction that is to be undone.
+struct Turn {
+    pass: Pass,
+    undo: Slot,
+}
+
+fn find(ids: [TxId; MAX_TXS], n: usize, id: TxId) -> Slot
+    requires { ⌜ n ≤ maxTxs ⌝ }
+    ensures { λ r. ⌜ r ≡ slotIn ids n (id .0) ⌝ }
 {
-    let n = image.count as usize;
     let mut i: usize = 0;
     while i < n {
-        if image.txs[i].id.0 == id.0 {
+        if ids[i].0 == id.0 {
             return Slot::At(i);
         }
         i += 1;
@@ -99,21 +105,18 @@ fn redo_all(memory: &mut [u8], s: &[u8])
     }
 }
 
-// An abort of the transaction in this slot: it is undone if it is unfinished.
-fn undo_logged(image: Image, found: [u8; MAX_TXS], slot: Slot, memory: &mut [u8])
-    requires { ⌜ Undoable image × Below (image .count) slot ⌝ }
-    requires { ⌜ length (now memory) ≡ memoryLen ⌝ }
-    ensures { λ _. ⌜ now (memory .exit) ≡ undoLogged image found slot (now (memory .entry)) ⌝ }
+// The slot if its transaction is unfinished.
+fn unfinished(found: [u8; MAX_TXS], slot: Slot) -> Slot
+    requires { ⌜ Below maxTxs slot ⌝ }
+    ensures { λ r. ⌜ r ≡ unfinishedAt found slot ⌝ }
 {
     let Slot::At(i) = slot else {
-        return;
+        return Slot::Nowhere;
     };
     if found[i] != 0 {
-        return;
+        return Slot::Nowhere;
     }
-    let t = image.txs[i];
-    let undo = t.undo;
-    undo.lay_back(memory);
+    Slot::At(i)
 }
 
 // Past a group of the id in this slot, with that code and that commit number after it, to where it ends.
@@ -136,41 +139,55 @@ fn pass_group(mut p: Pass, slot: Slot, id: TxId, csn: Csn, code: u8, end: usize)
     p
 }
 
-// Applies the group at the end that p has reached, if one stands there.
-fn step(image: Image, p: Pass, log: &[u8], memory: &mut [u8]) -> Pass
-    requires { ⌜ Undoable image ⌝ }
+// Past the group at the end that p has reached, if one stands there. A commit is applied; an abort leaves its transaction to be undone.
+fn step(ids: [TxId; MAX_TXS], n: usize, p: Pass, log: &[u8], memory: &mut [u8]) -> Turn
+    requires { ⌜ n ≤ maxTxs ⌝ }
     requires { ⌜ length (now memory) ≡ memoryLen ⌝ }
     requires { ⌜ p .end ≤ length (now log) ⌝ }
-    ensures { λ r. ⌜ r ≡ groupStep image (now (log .entry)) (wentBy (now (memory .entry)) p) .pass ⌝ }
-    ensures { λ _. ⌜ now (memory .exit) ≡ groupStep image (now (log .entry)) (wentBy (now (memory .entry)) p) .memory ⌝ }
+    ensures { λ r. ⌜ r ≡ turnStep ids n (now (log .entry)) (wentBy (now (memory .entry)) p) .turn ⌝ }
+    ensures { λ _. ⌜ now (memory .exit) ≡ turnStep ids n (now (log .entry)) (wentBy (now (memory .entry)) p) .memory ⌝ }
 {
     let at = p.end;
     let csn = p.csn;
     let group = read_group(&log[at..], csn);
     match group {
         GroupEnd::Aborted { id, end } => {
-            let slot = find(image, id);
+            let slot = find(ids, n, id);
             let found = p.found;
-            undo_logged(image, found, slot, memory);
-            return pass_group(p, slot, id, csn, 2, at + end);
+            let undo = unfinished(found, slot);
+            let pass = pass_group(p, slot, id, csn, 2, at + end);
+            return Turn {
+                pass: pass,
+                undo: undo,
+            };
         }
-        GroupEnd::Committed { id, csn: n, end } => {
-            let slot = find(image, id);
+        GroupEnd::Committed { id, csn: c, end } => {
+            let slot = find(ids, n, id);
             redo_all(memory, &log[at..]);
-            return pass_group(p, slot, id, n, 1, at + end);
+            let pass = pass_group(p, slot, id, c, 1, at + end);
+            return Turn {
+                pass: pass,
+                undo: Slot::Nowhere,
+            };
         }
         GroupEnd::NoGroup => {
-            return p;
+            return Turn {
+                pass: p,
+                undo: Slot::Nowhere,
+            };
         }
     }
 }
 
-pub(crate) fn forward(image: Image, log: &[u8], memory: &mut [u8]) -> Pass
-    requires { ⌜ Undoable image ⌝ }
+// keys are those of the image: it is too long to hand on for each group.
+pub(crate) fn forward(image: Image, keys: Keys, log: &[u8], memory: &mut [u8]) -> Pass
+    requires { ⌜ Undoable image × (keys ≡ keysOf (image .txs)) ⌝ }
     requires { ⌜ length (now memory) ≡ memoryLen ⌝ }
     ensures { λ r. ⌜ r ≡ forwardOf image (now (log .entry)) (now (memory .entry)) .pass ⌝ }
     ensures { λ _. ⌜ now (memory .exit) ≡ forwardOf image (now (log .entry)) (now (memory .entry)) .memory ⌝ }
 {
+    let n = image.count as usize;
+    let ids = keys.ids;
     let csn = image.ondisk;
     let last = image.lastid;
     let mut p = Pass {
@@ -181,9 +198,17 @@ pub(crate) fn forward(image: Image, log: &[u8], memory: &mut [u8]) -> Pass
     };
     loop {
         let at = p.end;
-        p = step(image, p, log, memory);
-        if p.end == at {
-            return p;
-        }
+        let turn = step(ids, n, p, log, memory);
+        p = turn.pass;
+        let slot = turn.undo;
+        let Slot::At(i) = slot else {
+            if p.end == at {
+                return p;
+            }
+            continue;
+        };
+        let t = image.txs[i];
+        let undo = t.undo;
+        undo.lay_back(memory);
     }
 }

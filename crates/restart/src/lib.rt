@@ -3,9 +3,9 @@ mod forward;
 mod undo;
 
 use crate::forward::forward;
-use crate::undo::undo_lost;
-use crate::undo::undo_running;
+use crate::undo::undo_left;
 use image::Image;
+use image::keys::keys_of;
 use layout::MAX_TXS;
 use log::Csn;
 use log::TxId;
@@ -35,9 +35,10 @@ pub fn recover(image: Image, log: &[u8], memory: &mut [u8], tail: &mut [u8]) -> 
     ensures { λ _. ⌜ now (memory .exit) ≡ recoverOf image (now (log .entry)) (now (memory .entry)) (now (tail .entry)) .memory ⌝ }
     ensures { λ _. ⌜ now (tail .exit) ≡ recoverOf image (now (log .entry)) (now (memory .entry)) (now (tail .entry)) .tail ⌝ }
 {
-    let p = forward(image, log, memory);
-    let n = undo_running(image, p, memory, tail);
-    let k = undo_lost(image, p, memory, tail, n);
+    let txs = image.txs;
+    let keys = keys_of(txs);
+    let p = forward(image, keys, log, memory);
+    let k = undo_left(image, keys, p, memory, tail);
     let csn = p.csn;
     let last = p.last;
     let found = p.found;

@@ -22,19 +22,17 @@ undo-snoc : (ws : List Write) (w : Write) (m : List ℕ) → undoAll layBytes (w
 undo-snoc [] w m = refl
 undo-snoc (v ∷ ws) w m = ap (layBytes v) (undo-snoc ws w m)
 
--- the newest of the first so many records is laid, the others are left
-pub undo-turn : (addr len bytes : List ℕ) (i : ℕ) (m : List ℕ) → 0 < i
-    → undoAll layBytes (writesFrom addr len bytes i 0) m
-    ≡ undoAll layBytes (writesFrom addr len bytes (i - 1) 0) (layBytes (writeAt addr len bytes (i - 1)) m)
-undo-turn addr len bytes i m h =
-    let e : i ≡ suc (i - 1) = omega arith in
-    let o : 0 + (i - 1) ≡ i - 1 = omega arith in
+-- the newest of the first so many records is laid, the k others are left
+pub undo-turn : (addr len bytes : List ℕ) (i k : ℕ) (m : List ℕ) → i ≡ suc k
+    → undoAll layBytes (writesFrom addr len bytes i 0) m ≡ undoAll layBytes (writesFrom addr len bytes k 0) (layBytes (writeAt addr len bytes k) m)
+undo-turn addr len bytes i k m e =
+    let o : 0 + k ≡ k = omega arith in
     let w = writeAt addr len bytes in
-    ap (λ (k : ℕ). undoAll layBytes (writesFrom addr len bytes k 0) m) e
-    ∙ ap (λ (ws : List Write). undoAll layBytes ws m) (writes-up addr len bytes (suc (i - 1)) 0 ∙ up-snoc w (i - 1) 0)
-    ∙ ap (λ (j : ℕ). undoAll layBytes (upFrom w (i - 1) 0 ++ (w j ∷ [])) m) o
-    ∙ undo-snoc (upFrom w (i - 1) 0) (w (i - 1)) m
-    ∙ ap (λ (ws : List Write). undoAll layBytes ws (layBytes (w (i - 1)) m)) (sym (writes-up addr len bytes (i - 1) 0))
+    ap (λ (j : ℕ). undoAll layBytes (writesFrom addr len bytes j 0) m) e
+    ∙ ap (λ (ws : List Write). undoAll layBytes ws m) (writes-up addr len bytes (suc k) 0 ∙ up-snoc w k 0)
+    ∙ ap (λ (j : ℕ). undoAll layBytes (upFrom w k 0 ++ (w j ∷ [])) m) o
+    ∙ undo-snoc (upFrom w k 0) (w k) m
+    ∙ ap (λ (ws : List Write). undoAll layBytes ws (layBytes (w k) m)) (sym (writes-up addr len bytes k 0))
 
 -- a record whose bytes lie within the place set aside for it has as many bytes as its length says
 pub bytes-length : (r : Records) (j : ℕ) → length (r .bytes) ≡ 512 → j < 16 → getD (r .len) j 0 ≤ 32

@@ -23,6 +23,7 @@ ghost use Rattle.transaction.specs.Rules.{recordsOk, headOk, outlineOk, 
 ghost use Rattle.transaction.specs.Steps.{freshTx, written, precommitted};
 
 // A transaction. Its status is RUNNING or COMMITTING.
+#[repr(C)]
 pub struct Tx {
     pub id: TxId,
     pub status: u8,

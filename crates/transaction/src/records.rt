@@ -17,6 +17,7 @@ ghost use Rattle.transaction.specs.Rules.{recordsOk, sameRanges, meets, 
 ghost use Rattle.transaction.specs.Steps.{pushed};
 
 // Undo or redo records, oldest first: the i-th has the len[i] bytes from MAX_WRITE * i on.
+#[repr(C)]
 pub struct Records {
     pub count: u8,
     pub addr: [u16; MAX_RECORDS],
@@ -132,13 +133,15 @@ impl Records {
         ensures { λ _. ⌜ now (memory .exit) ≡ undoAll layBytes (writesOf self) (now (memory .entry)) ⌝ }
     {
         let bytes = self.bytes;
-        let mut i = self.count as usize;
-        while 0 < i {
-            i = i - 1;
-            let at = self.addr[i] as usize;
-            let n = self.len[i] as usize;
-            let from = i * MAX_WRITE;
-            copy(memory, at, &bytes[from..from + n]);
+        let n = self.count as usize;
+        let mut i: usize = 0;
+        while i < n {
+            i += 1;
+            let k = n - i;
+            let at = self.addr[k] as usize;
+            let l = self.len[k] as usize;
+            let from = k * MAX_WRITE;
+            copy(memory, at, &bytes[from..from + l]);
         }
     }
 }

@@ -1,32 +1,28 @@
-use Prim.Native.Nat.{_≤_}
-use native.Mathlib.Nat.{zero-add}
-use native.Mathlib.Omega.{arith}
-use mathlib.Core.Path.{sym, _∙_}
+use mathlib.Core.Path.{_∙_}
 use borrow.Author.Needs.{needs}
-use Rattle.image.proofs.Rules.{image-count}
 use Rattle.restart.proofs.Rules.{undoable}
-use Rattle.restart.proofs.Undos.{running-few, restart-case}
+use Rattle.restart.proofs.Undos.{restart-case}
 use Rattle.restart.proofs.recover.Statement.{statement}
 use Rattle.restart.proofs.recover.Tie as tie
 
+-- places of the code by name
+
+abbrev entryFromUndoLeftArg2 : tie.After-undo-left-arg2 → tie.Start
+entryFromUndoLeftArg2 c = c .before .before .before .before .before .before .before .before .before .before .before
+
+keys-of-requires : tie.Need-keys-of-requires
+keys-of-requires c κs = search needs
+
 forward-requires : tie.Need-forward-requires
 forward-requires c κs =
-    let s = c .before .before .before .before in
-    (undoable (s .args .image) (s .pre .0), s .pre .1 .0)
+    let s = c .before .before .before .before .before .before in
+    ((undoable (s .args .image) (s .pre .0), c .before .keys-of .ensures), s .pre .1 .0)
 
-undo-running-requires : tie.Need-undo-running-requires
-undo-running-requires c κs =
-    let s = c .before .before .before .before .before .before .before .before .before in
+undo-left-requires : tie.Need-undo-left-requires
+undo-left-requires c κs =
+    let s = entryFromUndoLeftArg2 c in
     let f = c .before .before .before .before .forward in
-    (undoable (s .args .image) (s .pre .0), (f .kept .1 .1 .0 ∙ s .pre .1 .0, s .pre .1 .1))
-
-undo-lost-requires : tie.Need-undo-lost-requires
-undo-lost-requires c κs =
-    let s = c .before .before .before .before .before .before .before .before .before .before .before .before .before .before .before .before in
-    let f = c .before .before .before .before .before .before .before .before .before .before .before .forward in
-    let r = c .before .before .before .before .before .before .undo-running in
-    let n : r .result ≤ 8 = omega (arith, r .ensures .0, running-few (s .args .image) (f .result), image-count (s .args .image) (s .pre .0)) in
-    (undoable (s .args .image) (s .pre .0), (r .kept .1 .1 .0 ∙ (f .kept .1 .1 .0 ∙ s .pre .1 .0), (r .kept .1 .1 .1 .0 ∙ s .pre .1 .1, n)))
+    ((undoable (s .args .image) (s .pre .0), c .before .before .before .before .before .before .keys-of .ensures), (f .kept .1 .1 .1 .0 ∙ s .pre .1 .0, s .pre .1 .1))
 
 same-length : tie.Need-same-length
 same-length c = search needs
@@ -36,24 +32,21 @@ same-length-2 c = search needs
 
 returns : tie.Need-returns
 returns c =
-    let lost = c .before .before .before .before .before .before .before in
-    let running = lost .before .before .before .before .before .before .before in
-    let passed = running .before .before .before .before .before in
-    let a = passed .before .before .before .before .before .args in
+    let left = c .before .before .before .before .before .before .before in
+    let passed = left .before .before .before .before .before in
+    let a = passed .before .before .before .before .before .before .before .args in
     let f = passed .forward in
-    let r = running .undo-running in
-    let u = lost .undo-lost in
-    restart-case (a .image) (a .log .now) (a .memory .now) (a .tail .now) (f .result) _ (f .ensures .0) (f .ensures .1) _ _ _ _ _ _
-    (record { count = r .ensures .0 ∙ sym (zero-add _); memory = r .ensures .1 .0; tail = r .ensures .1 .1 })
-    (record { count = u .ensures .0; memory = u .ensures .1 .0; tail = u .ensures .1 .1 })
+    let u = left .undo-left in
+    restart-case (a .image) (a .log .now) (a .memory .now) (a .tail .now) (f .result) _ (f .ensures .0) (f .ensures .1) _ _ _
+    (u .ensures .0) (u .ensures .1 .0) (u .ensures .1 .1)
 
 pub recover-spec : {M : Type 1} → statement M
 recover-spec =
     tie.close
     (tie.spec
+    keys-of-requires
     forward-requires
-    undo-running-requires
-    undo-lost-requires
+    undo-left-requires
     same-length
     same-length-2
     returns)

@@ -17,6 +17,14 @@ use Rattle.disk.proofs.Restarting.{clearing-length, log-cleared, log-co
 use Rattle.disk.proofs.call.restart.Statement.{statement}
 use Rattle.disk.proofs.call.restart.Tie as tie
 
+-- places of the code by name
+
+abbrev then5FromState : tie.After-state → tie.Then5
+then5FromState c = c .before .before .before .before .before .before .before .before
+
+abbrev afterClearDownFromState : tie.After-state → tie.After-clear-down
+afterClearDownFromState c = c .before .before .before .before .before .before .before .before .before .before .before
+
 refused-requires : tie.Need-refused-requires
 refused-requires c κs = search needs
 
@@ -150,7 +158,7 @@ same-length-6 c = search needs
 
 returns-5 : tie.Need-returns-5
 returns-5 c =
-    let k = c .before .before .before .before .before .before .before .before .before .before .before in
+    let k = afterClearDownFromState c in
     let x = examined k in
     let w = lent x in
     let a = start x .args in
@@ -158,7 +166,7 @@ returns-5 c =
     let off = c .before .before .before .before .before .cut-off in
     leaves
     (restart-cut (a .disk .now) (a .memory .now) (a .tail .now) (a .allowed) (w .before .before .if1 .left) (w .before .if2 .left) (w .if3 .left) (taken k)
-    (omega (arith, made k, found-end x, c .before .before .before .before .before .before .before .before .if5 .taken)))
+    (omega (arith, made k, found-end x, then5FromState c .if5 .taken)))
     (ap₂ (λ (n : ℕ) (s : State). tells cut 0 n s) (made k) (ap (λ (r : Told). r .state) (off .ensures .0)))
     (emptied k)
     (off .ensures .1 .0 ∙ ap (λ (n : ℕ). replicate n 0) (x .examine .kept .1 .0 ∙ w .before .if2 .left))

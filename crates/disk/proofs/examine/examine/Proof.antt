@@ -16,6 +16,23 @@ use Rattle.disk.proofs.Examining.{keeps, steps-are, end-within, undone-
 use Rattle.disk.proofs.examine.examine.Statement.{statement}
 use Rattle.disk.proofs.examine.examine.Tie as tie
 
+-- places of the code by name
+
+abbrev else2FromRecoverArg3 : tie.After-recover-arg3 → tie.Else2
+else2FromRecoverArg3 c = c .before .before .before .before .before .before .before .before .before
+
+abbrev afterRecoverFromRefuseArg6 : tie.After-refuse-arg6 → tie.After-recover
+afterRecoverFromRefuseArg6 c = c .before .before .before .before .before .before .before .before .before
+
+abbrev afterRecoverFromCodes : tie.After-codes → tie.After-recover
+afterRecoverFromCodes c = c .before .before .before .before .before .before .before .before .before .before
+
+abbrev afterLoadFromSliceKnown7 : tie.After-slice-known7 → tie.After-load
+afterLoadFromSliceKnown7 c = c .before .before .before .before .before .before .before .before .before .before .before
+
+abbrev entryFromSliceKnown4 : tie.After-slice-known4 → tie.Start
+entryFromSliceKnown4 c = c .before .before .before .before .before .before .before .before .before .before .before .before
+
 shared-slice-read-pointer : tie.Need-shared-slice-read-pointer
 shared-slice-read-pointer c = search needs
 
@@ -31,7 +48,7 @@ same-length-2 c = search needs
 returns : tie.Need-returns
 returns c =
     let r = c .before .before .before .before .refuse .ensures in
-    let e = means-3 (c .before .before .before .before .before .before .before .before .before .before .before .before .args .disk .now)
+    let e = means-3 (entryFromSliceKnown4 c .args .disk .now)
     (c .before .before .before .before .before .before .before .if1 .taken) in
     answered e (r .0) (r .1 .0) (r .1 .1)
 
@@ -54,7 +71,7 @@ entry l = l .before .before .before .before .before .before .before
 
 returns-2 : tie.Need-returns-2
 returns-2 c =
-    let l = c .before .before .before .before .before .before .before .before .before .before .before in
+    let l = afterLoadFromSliceKnown7 c in
     let r = c .before .before .before .before .refuse2 .ensures in
     let e = means-4 (entry l .args .disk .now) (l .before .before .if1 .left) (l .load .result) (l .load .last .1 .1 .0) (l .load .ensures .0)
     (l .load .ensures .1) (not-true _ (c .before .before .before .before .before .before .before .if2 .taken)) in
@@ -93,7 +110,7 @@ part-recover-end c = search needs
 
 recover-requires : tie.Need-recover-requires
 recover-requires c κs =
-    let x = c .before .before .before .before .before .before .before .before .before in
+    let x = else2FromRecoverArg3 c in
     let l = loaded x in
     (kept x, (l .load .kept .1 .1 .0 ∙ entry l .pre .1, c .before .before .before .before .before .before .before .fill-zero .kept .0 ∙ entry l .pre .2))
 
@@ -161,7 +178,7 @@ add-if3 : tie.Need-add-if3
 add-if3 c = omega (arith, ends (c .before .before .before .before .before .before), few (c .before .before .before .before .before .before))
 
 refuse-requires-3 : tie.Need-refuse-requires-3
-refuse-requires-3 c κs = let x = c .before .before .before .before .before .before .before .before .before in (memory-whole x, tail-whole x)
+refuse-requires-3 c κs = let x = afterRecoverFromRefuseArg6 c in (memory-whole x, tail-whole x)
 
 same-length-5 : tie.Need-same-length-5
 same-length-5 c =
@@ -189,14 +206,14 @@ returns-3 c =
     answered e (r .0) (r .1 .0) (r .1 .1)
 
 same-length-7 : tie.Need-same-length-7
-same-length-7 c = let x = c .before .before .before .before .before .before .before .before .before .before in memory-whole x ∙ sym (begun x .pre .1)
+same-length-7 c = let x = afterRecoverFromCodes c in memory-whole x ∙ sym (begun x .pre .1)
 
 same-length-8 : tie.Need-same-length-8
 same-length-8 c = search needs
 
 returns-4 : tie.Need-returns-4
 returns-4 c =
-    let x = c .before .before .before .before .before .before .before .before .before .before in
+    let x = afterRecoverFromCodes c in
     let l = loaded (passed x) in
     let f = found x in
     let e = means (diskAt x) (l .before .before .if1 .left) (l .load .result) (memoryAt x) (l .load .ensures .0) (l .load .ensures .1)

@@ -13,6 +13,14 @@ use Rattle.disk.proofs.Loading.{slot-within, load-none, load-image, mem
 use Rattle.disk.proofs.examine.load.Statement.{statement}
 use Rattle.disk.proofs.examine.load.Tie as tie
 
+-- places of the code by name
+
+abbrev entryFromEmpty : tie.After-empty → tie.Start
+entryFromEmpty c = c .before .before .before .before .before .before .before .before
+
+abbrev entryFromSliceKnown3 : tie.After-slice-known3 → tie.Start
+entryFromSliceKnown3 c = c .before .before .before .before .before .before .before .before .before
+
 fill-zero-requires : tie.Need-fill-zero-requires
 fill-zero-requires c κs = search needs
 
@@ -24,7 +32,7 @@ same-length c = search needs
 
 returns : tie.Need-returns
 returns c =
-    let start = c .before .before .before .before .before .before .before .before in
+    let start = entryFromEmpty c in
     let e = load-none (start .args .pointer) (start .args .disk .now) (c .before .before .before .before .before .if1 .taken) in (
       ap (λ (i : Image). record { ok = true; image = i }) (c .empty .ensures) ∙ sym (ap (λ (l : Loaded). l .decoded) e),
       c .before .before .before .fill-zero .ensures
@@ -67,7 +75,7 @@ part-decode-start c = search needs
 
 part-decode-end : tie.Need-part-decode-end
 part-decode-end c =
-    omega (arith, slot (c .before .before .before .before .before), c .before .before .before .before .before .before .before .before .before .pre .0)
+    omega (arith, slot (c .before .before .before .before .before), entryFromSliceKnown3 c .pre .0)
 
 decode-requires : tie.Need-decode-requires
 decode-requires c κs = search needs

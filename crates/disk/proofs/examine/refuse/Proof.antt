@@ -6,6 +6,11 @@ use Rattle.disk.specs.Examine.{refusedBy}
 use Rattle.disk.proofs.examine.refuse.Statement.{statement}
 use Rattle.disk.proofs.examine.refuse.Tie as tie
 
+-- places of the code by name
+
+abbrev entryFromSliceKnown4 : tie.After-slice-known4 → tie.Start
+entryFromSliceKnown4 c = c .before .before .before .before .before .before .before .before .before .before
+
 fill-zero-requires : tie.Need-fill-zero-requires
 fill-zero-requires c κs = search needs
 
@@ -21,7 +26,7 @@ same-length-2 c = search needs
 returns : tie.Need-returns
 unfolding refusedBy
 returns c =
-    let start = c .before .before .before .before .before .before .before .before .before .before in (
+    let start = entryFromSliceKnown4 c in (
       refl,
       (
         c .before .before .before .before .before .before .fill-zero .ensures ∙ ap (λ (n : ℕ). replicate n 0) (start .pre .0),

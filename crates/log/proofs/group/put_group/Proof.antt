@@ -23,6 +23,17 @@ Inv-loop b₀ at id csn n addr len bytes o₀ i₀ b o i =
 abbrev μ-loop : tie.MeasureT-loop
 μ-loop b₀ at id csn n addr len bytes o₀ i₀ b o i = n - i
 
+-- places of the code by name
+
+abbrev turnFromSliceKnown2 : tie.After-slice-known2 Inv-loop μ-loop → tie.At-loop Inv-loop μ-loop
+turnFromSliceKnown2 c = c .before .before .before .before .before .before .before .before
+
+abbrev entryFromSharedSliceKnown5 : tie.After-shared-slice-known5 Inv-loop μ-loop → tie.Start Inv-loop μ-loop
+entryFromSharedSliceKnown5 c = c .before .before .before .before .before .before .before .before .before
+
+abbrev entryFromPutRedoArg2 : tie.After-put-redo-arg2 Inv-loop μ-loop → tie.Start Inv-loop μ-loop
+entryFromPutRedoArg2 c = entryFromSharedSliceKnown5 (c .before)
+
 -- in a turn: the record has 32 bytes at most, and the place set aside for it lies within the bytes
 short : (c : tie.In-loop Inv-loop μ-loop) → getD (c .before .before .before .before .before .before .args .len .now) (c .before .loop .i) 0 ≤ 32
 short c = c .before .before .before .before .before .before .pre .1 .0 (c .before .loop .i) (c .loop-test .taken)
@@ -48,7 +59,7 @@ mul-put-redo : tie.Need-mul-put-redo Inv-loop μ-loop
 mul-put-redo c = omega (arith, aside (c .before .before))
 
 shared-slice-read-put-redo : tie.Need-shared-slice-read-put-redo Inv-loop μ-loop
-shared-slice-read-put-redo c = omega (arith, c .before .before .before .before .before .before .before .before .before .pre .0)
+shared-slice-read-put-redo c = omega (arith, entryFromSharedSliceKnown5 c .pre .0)
 
 add-put-redo : tie.Need-add-put-redo Inv-loop μ-loop
 add-put-redo c = omega (arith, aside (c .before .before .before), short (c .before .before .before))
@@ -64,7 +75,7 @@ part-put-redo-end c = omega (arith, aside (c .before .before .before), short (c 
 
 -- what a turn does to the size that is left
 size-turn : (c : tie.After-put-redo-arg2 Inv-loop μ-loop)
-    → let a = c .before .before .before .before .before .before .before .before .before .before .args in
+    → let a = entryFromPutRedoArg2 c .args in
     let i = c .before .before .before .before .before .loop .i in
     redoSize (writesFrom (a .addr .now) (a .len .now) (a .bytes .now) (a .n - i) i)
     ≡ 7 + getD (a .len .now) i 0 + redoSize (writesFrom (a .addr .now) (a .len .now) (a .bytes .now) (a .n - (i + 1)) (i + 1))
@@ -75,7 +86,7 @@ put-redo-requires c κs =
     let inv = c .before .before .before .before .before .loop .inv in (
       omega (arith, short (c .before .before .before .before)),
       omega
-          (arith, size-turn c, c .before .before .before .before .before .before .before .before .before .before .pre .1 .1),
+          (arith, size-turn c, entryFromPutRedoArg2 c .pre .1 .1),
     )
 
 add-o : tie.Need-add-o Inv-loop μ-loop
@@ -83,7 +94,7 @@ add-o c = omega (arith, short (c .before .before .before .before .before .before
 
 add-o-2 : tie.Need-add-o-2 Inv-loop μ-loop
 add-o-2 c =
-    let at = c .before .before .before .before .before .before .before .before in
+    let at = turnFromSliceKnown2 c in
     let inv = at .loop .inv in
     let s = at .before .before .before .before .before in
     omega (arith, size-turn (c .before .before .before), s .pre .1 .1, s .good .0)
@@ -96,7 +107,7 @@ loop-less c = omega (arith, c .before .before .before .before .before .before .b
 
 loop-again : tie.Need-loop-again Inv-loop μ-loop
 loop-again c =
-    let inv = c .before .before .before .before .before .before .before .before .loop .inv in
+    let inv = turnFromSliceKnown2 c .loop .inv in
     let h = c .before .before .before .before .before .before .before .loop-test .taken in (
       omega (arith, h),
       c .before .before .put-redo .kept .0 ∙ inv .1,

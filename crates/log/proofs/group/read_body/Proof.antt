@@ -23,6 +23,38 @@ Inv-loop s id prev at₀ at =
 abbrev μ-loop : tie.MeasureT-loop
 μ-loop s id prev at₀ at = length s - at
 
+-- places of the code by name
+
+abbrev turnFromThen1 : tie.Then1 Inv-loop μ-loop → tie.At-loop Inv-loop μ-loop
+turnFromThen1 c = c .before .before .before .before .before .before .before .before
+
+abbrev turnFromElse1 : tie.Else1 Inv-loop μ-loop → tie.At-loop Inv-loop μ-loop
+turnFromElse1 c = c .before .before .before .before .before .before .before .before
+
+abbrev turnFromThen2 : tie.Then2 Inv-loop μ-loop → tie.At-loop Inv-loop μ-loop
+turnFromThen2 c = c .before .before .before .before .before .before .before .before
+
+abbrev entryFromElse1 : tie.Else1 Inv-loop μ-loop → tie.Start Inv-loop μ-loop
+entryFromElse1 c = c .before .before .before .before .before .before .before .before .before .before
+
+abbrev afterHead2FromThen4 : tie.Then4 Inv-loop μ-loop → tie.After-head2 Inv-loop μ-loop
+afterHead2FromThen4 c = c .before .before .before .before .before .before .before .before .before .before
+
+abbrev afterHead2FromElse4 : tie.Else4 Inv-loop μ-loop → tie.After-head2 Inv-loop μ-loop
+afterHead2FromElse4 c = c .before .before .before .before .before .before .before .before .before .before
+
+abbrev turnFromThen3 : tie.Then3 Inv-loop μ-loop → tie.At-loop Inv-loop μ-loop
+turnFromThen3 c = c .before .before .before .before .before .before .before .before .before .before .before
+
+abbrev turnFromThen4 : tie.Then4 Inv-loop μ-loop → tie.At-loop Inv-loop μ-loop
+turnFromThen4 c = c .before .before .before .before .before .before .before .before .before .before .before .before .before .before
+
+abbrev turnFromElse4 : tie.Else4 Inv-loop μ-loop → tie.At-loop Inv-loop μ-loop
+turnFromElse4 c = c .before .before .before .before .before .before .before .before .before .before .before .before .before .before
+
+abbrev entryFromElse4 : tie.Else4 Inv-loop μ-loop → tie.Start Inv-loop μ-loop
+entryFromElse4 c = c .before .before .before .before .before .before .before .before .before .before .before .before .before .before .before .before
+
 loop-holds : tie.Need-loop-holds Inv-loop μ-loop
 loop-holds c =
     let a = c .before .args in
@@ -66,46 +98,46 @@ commit-at c = head-commit _ _ _ (sym (read-at (c .before .before)) ∙ c .head2 
 returns : tie.Need-returns Inv-loop μ-loop
 returns c =
     let w = redo-at (c .before .before .before .before) in
-    sym (c .before .before .before .before .before .before .before .before .loop .inv .1 ∙ body-other-redo _ _ _ _ _ (w .0) (w .1) (c .if1 .taken))
+    sym (turnFromThen1 c .loop .inv .1 ∙ body-other-redo _ _ _ _ _ (w .0) (w .1) (c .if1 .taken))
 
 -- over a redo record of this id
 over-redo : (c : tie.Else1 Inv-loop μ-loop)
-    → let s = c .before .before .before .before .before .before .before .before .before .before .args .s .now in
-    let at = c .before .before .before .before .before .before .before .before .loop .at in
-    let id = c .before .before .before .before .before .before .before .before .before .before .args .id .0 in
-    let prev = c .before .before .before .before .before .before .before .before .before .before .args .prev .0 in
+    → let s = entryFromElse1 c .args .s .now in
+    let at = turnFromElse1 c .loop .at in
+    let id = entryFromElse1 c .args .id .0 in
+    let prev = entryFromElse1 c .args .prev .0 in
     let next = at + 7 + c .before .before .before .before .head .given .0 .1 .1 .0 in
     Turned s at next (bodyEnd prev id at (drop at s)) (bodyEnd prev id next (drop next s))
 over-redo c =
     let w = redo-at (c .before .before .before .before) in
-    body-turn _ _ _ _ (w .0) _ _ (c .before .before .before .before .before .before .before .before .loop .inv .0) (w .1) (c .if1 .left) (omega (arith, w .3))
+    body-turn _ _ _ _ (w .0) _ _ (turnFromElse1 c .loop .inv .0) (w .1) (c .if1 .left) (omega (arith, w .3))
 
 add-at : tie.Need-add-at Inv-loop μ-loop
-add-at c = let w = over-redo c in omega (arith, w .within, c .before .before .before .before .before .before .before .before .before .before .good)
+add-at c = let w = over-redo c in omega (arith, w .within, entryFromElse1 c .good)
 
 cast-at : tie.Need-cast-at Inv-loop μ-loop
 cast-at c = search needs
 
 add-at-2 : tie.Need-add-at-2 Inv-loop μ-loop
-add-at-2 c = let w = over-redo c in omega (arith, w .within, c .before .before .before .before .before .before .before .before .before .before .good)
+add-at-2 c = let w = over-redo c in omega (arith, w .within, entryFromElse1 c .good)
 
 loop-less : tie.Need-loop-less Inv-loop μ-loop
 loop-less c = over-redo c .less
 
 loop-again : tie.Need-loop-again Inv-loop μ-loop
-loop-again c = (over-redo c .within, c .before .before .before .before .before .before .before .before .loop .inv .1 ∙ over-redo c .same)
+loop-again c = (over-redo c .within, turnFromElse1 c .loop .inv .1 ∙ over-redo c .same)
 
 enum-known-head-2 : tie.Need-enum-known-head-2 Inv-loop μ-loop
 enum-known-head-2 c = search needs
 
 returns-2 : tie.Need-returns-2 Inv-loop μ-loop
-returns-2 c = sym (c .before .before .before .before .before .before .before .before .loop .inv .1
+returns-2 c = sym (turnFromThen2 c .loop .inv .1
     ∙ body-other-commit _ _ _ _ _ _ (commit-at (c .before .before .before .before)) (c .if2 .taken))
 
 returns-3 : tie.Need-returns-3 Inv-loop μ-loop
 returns-3 c =
     sym
-    (c .before .before .before .before .before .before .before .before .before .before .before .loop .inv .1
+    (turnFromThen3 c .loop .inv .1
     ∙ body-other-csn _ _ _ _ _ _ (commit-at (c .before .before .before .before .before .before .before)) (c .before .before .before .if2 .left)
     (λ e. omega (arith, e, c .if3 .taken)))
 
@@ -115,23 +147,23 @@ sub-if4 c = search needs
 returns-4 : tie.Need-returns-4 Inv-loop μ-loop
 returns-4 c =
     sym
-    (c .before .before .before .before .before .before .before .before .before .before .before .before .before .before .loop .inv .1
-    ∙ body-other-csn _ _ _ _ _ _ (commit-at (c .before .before .before .before .before .before .before .before .before .before))
+    (turnFromThen4 c .loop .inv .1
+    ∙ body-other-csn _ _ _ _ _ _ (commit-at (afterHead2FromThen4 c))
     (c .before .before .before .before .before .before .if2 .left) (λ e. c .if4 .taken (omega (arith, e))))
 
 add-t19 : tie.Need-add-t19 Inv-loop μ-loop
 add-t19 c =
-    let s = c .before .before .before .before .before .before .before .before .before .before .before .before .before .before .before .before .args .s .now in
-    let at = c .before .before .before .before .before .before .before .before .before .before .before .before .before .before .loop .at in
+    let s = entryFromElse4 c .args .s .now in
+    let at = turnFromElse4 c .loop .at in
     let l : 8 ≤ length s - at = rw length-drop at
-    (record-within (drop at s) _ (commit-at (c .before .before .before .before .before .before .before .before .before .before))) in
-    omega (arith, c .before .before .before .before .before .before .before .before .before .before .before .before .before .before .before .before .good)
+    (record-within (drop at s) _ (commit-at (afterHead2FromElse4 c))) in
+    omega (arith, entryFromElse4 c .good)
 
 returns-5 : tie.Need-returns-5 Inv-loop μ-loop
 returns-5 c =
     sym
-    (c .before .before .before .before .before .before .before .before .before .before .before .before .before .before .loop .inv .1
-    ∙ body-last _ _ _ _ _ _ (commit-at (c .before .before .before .before .before .before .before .before .before .before))
+    (turnFromElse4 c .loop .inv .1
+    ∙ body-last _ _ _ _ _ _ (commit-at (afterHead2FromElse4 c))
     (c .before .before .before .before .before .before .if2 .left) (omega (arith, c .if4 .left, c .before .before .before .if3 .left)))
 
 enum-told : tie.Need-enum-told Inv-loop μ-loop

@@ -1,64 +1,58 @@
 use borrow.Author.Needs.{needs}
-use mathlib.Core.Path.{sym, ap, _∙_}
+use borrow.Author.Tests.{eq-eqb, ne-eqb}
+use mathlib.Core.Path.{_≡_, sym, ap, _∙_}
+use lib.ListN.{getD}
+use lib.Dec.{eqb}
+use Rattle.log.specs.Record.{abort, keep, readRecord}
 use Rattle.log.specs.Group.{endOf}
-use Rattle.log.proofs.GroupLaws.{group-redo, group-commit, group-abort, group-none}
-use Rattle.log.proofs.Inversions.{head-redo, head-commit, head-abort, head-nothing}
+use Rattle.log.proofs.RecordLaws.{record-none, record-short, record-abort}
+use Rattle.log.proofs.GroupLaws.{group-other, group-abort, group-none}
 use Rattle.log.proofs.group.read_group.Statement.{statement}
 use Rattle.log.proofs.group.read_group.Tie as tie
 
-read-record-requires : tie.Need-read-record-requires
-read-record-requires c κs = search needs
+returns : tie.Need-returns
+returns c = ap endOf (sym (group-none _ _ (record-short _ (c .if1 .taken))))
 
-enum-known-head : tie.Need-enum-known-head
-enum-known-head c = search needs
+be16-requires : tie.Need-be16-requires
+be16-requires c κs = search needs
+
+shared-slice-read-if2 : tie.Need-shared-slice-read-if2
+shared-slice-read-if2 c = search needs
 
 read-body-requires : tie.Need-read-body-requires
 read-body-requires c κs = search needs
 
-enum-known-head-2 : tie.Need-enum-known-head-2
-enum-known-head-2 c = search needs
-
-read-body-requires-2 : tie.Need-read-body-requires-2
-read-body-requires-2 c κs = search needs
-
-enum-known-head-3 : tie.Need-enum-known-head-3
-enum-known-head-3 c = search needs
-
-enum-told : tie.Need-enum-told
-enum-told c = search needs
-
-returns : tie.Need-returns
-returns c =
-    let w = head-redo _ _ _ _ (sym (c .before .before .before .before .read-record .ensures) ∙ c .before .before .head .given .1) in
-    c .read-body .ensures ∙ ap endOf (sym (group-redo _ _ _ (w .0) (w .1)))
-
 returns-2 : tie.Need-returns-2
-returns-2 c =
-    let e = head-commit _ _ _ (sym (c .before .before .before .before .read-record .ensures) ∙ c .before .before .head2 .given .1) in
-    c .read-body2 .ensures ∙ ap endOf (sym (group-commit _ _ _ _ e))
+returns-2 c = c .read-body .ensures ∙ ap endOf (sym (group-other _ _ _ (c .before .if2 .taken) (sym (c .before .before .before .be16 .ensures))))
 
 returns-3 : tie.Need-returns-3
-returns-3 c =
-    let e = head-abort _ _ (sym (c .before .before .before .read-record .ensures) ∙ c .before .head3 .given .1) in
-    ap endOf (sym (group-abort _ _ _ e))
+returns-3 c = ap endOf (sym (group-none _ _ (record-none _ (sym (c .before .before .before .be16 .ensures) ∙ c .if3 .taken))))
+
+shared-slice-read-if4 : tie.Need-shared-slice-read-if4
+shared-slice-read-if4 c = search needs
+
+-- it begins as an abort, and has an id
+begun : (c : tie.Else3)
+    → let s = c .before .before .before .before .before .before .args .s .now in
+    readRecord s ≡ keep (eqb (getD s 3 0) 3) (abort (c .before .before .before .be16 .result))
+begun c = record-abort _ _ (c .before .if2 .left) (sym (c .before .before .before .be16 .ensures)) (ne-eqb _ _ (c .if3 .left))
 
 returns-4 : tie.Need-returns-4
-returns-4 c =
-    let e = head-nothing _ (sym (c .before .before .read-record .ensures) ∙ c .enum-told .given .1) in
-    ap endOf (sym (group-none _ _ e))
+returns-4 c = ap endOf (sym (group-none _ _ (begun (c .before .before) ∙ simp (ne-eqb _ _ (c .if4 .taken)))))
+
+returns-5 : tie.Need-returns-5
+returns-5 c = ap endOf (sym (group-abort _ _ _ (begun (c .before .before) ∙ simp (eq-eqb _ _ (c .if4 .left)))))
 
 pub read-group-spec : {M : Type 1} → statement M
 read-group-spec =
     tie.close
     (tie.spec
-    read-record-requires
-    enum-known-head
-    read-body-requires
-    enum-known-head-2
-    read-body-requires-2
-    enum-known-head-3
-    enum-told
     returns
+    be16-requires
+    shared-slice-read-if2
+    read-body-requires
     returns-2
     returns-3
-    returns-4)
+    shared-slice-read-if4
+    returns-4
+    returns-5)

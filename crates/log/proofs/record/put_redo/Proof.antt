@@ -5,6 +5,14 @@ use Rattle.log.proofs.StoreLaws.{redo-stores}
 use Rattle.log.proofs.record.put_redo.Statement.{statement}
 use Rattle.log.proofs.record.put_redo.Tie as tie
 
+-- places of the code by name
+
+abbrev afterPut16FromSliceKnown4 : tie.After-slice-known4 → tie.After-put16
+afterPut16FromSliceKnown4 c = c .before .before .before .before .before .before .before .before .before .before
+
+abbrev entryFromSliceKnown4 : tie.After-slice-known4 → tie.Start
+entryFromSliceKnown4 c = c .before .before .before .before .before .before .before .before .before .before .before .before .before .before
+
 slice-write-b : tie.Need-slice-write-b
 slice-write-b c = search needs
 
@@ -54,7 +62,7 @@ slice-write-b-3 c = omega (
       (c .before .before .copy .kept .0),
   c .before .before .before .before .before .before .put162 .kept .0,
   simp length-set at
-      (c .before .before .before .before .before .before .before .before .before .before .put16 .kept .0),
+      (afterPut16FromSliceKnown4 c .put16 .kept .0),
 )
 
 same-length : tie.Need-same-length
@@ -65,14 +73,14 @@ same-length c = simp length-set
           (c .before .before .copy .kept .0),
       c .before .before .before .before .before .before .put162 .kept .0,
       simp length-set at
-          (c .before .before .before .before .before .before .before .before .before .before .put16 .kept .0),
+          (afterPut16FromSliceKnown4 c .put16 .kept .0),
     ))
 
 returns : tie.Need-returns
 returns c =
-    let a = c .before .before .before .before .before .before .before .before .before .before .before .before .before .before .args in
+    let a = entryFromSliceKnown4 c .args in
     redo-stores (a .b .now) (a .at) (a .id .0) (a .addr) (a .src .now) _ _ _
-    (c .before .before .before .before .before .before .before .before .before .before .put16 .ensures)
+    (afterPut16FromSliceKnown4 c .put16 .ensures)
     (c .before .before .before .before .before .before .put162 .ensures) (c .before .before .copy .ensures)
 
 pub put-redo-spec : {M : Type 1} → statement M

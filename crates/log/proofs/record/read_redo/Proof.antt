@@ -9,6 +9,11 @@ use Rattle.log.specs.Record.{readRedo}
 use Rattle.log.proofs.record.read_redo.Statement.{statement}
 use Rattle.log.proofs.record.read_redo.Tie as tie
 
+-- places of the code by name
+
+abbrev entryFromElse4 : tie.Else4 → tie.Start
+entryFromElse4 c = c .before .before .before .before .before .before .before .before .before
+
 returns : tie.Need-returns
 unfolding readRedo
 returns c =
@@ -60,7 +65,7 @@ returns-4 c =
 returns-5 : tie.Need-returns-5
 unfolding readRedo
 returns-5 c =
-    let s = now (c .before .before .before .before .before .before .before .before .before .args .s) in
+    let s = now (entryFromElse4 c .args .s) in
     let h : getD s 5 0 ≤ length (drop 6 s) = simp length-drop (omega arith) in
     simp (
       eq-eqb _ _ (c .before .before .before .if3 .left),

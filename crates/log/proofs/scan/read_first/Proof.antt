@@ -18,6 +18,14 @@ Inv-loop s k at₀ csn₀ left₀ at csn left = (at ≤ length s) × (logEndOf (
 abbrev μ-loop : tie.MeasureT-loop
 μ-loop s k at₀ csn₀ left₀ at csn left = left
 
+-- places of the code by name
+
+abbrev entryFromKnownTold : tie.After-known-told Inv-loop μ-loop → tie.Start Inv-loop μ-loop
+entryFromKnownTold c = c .before .before .before .before .before .before .before .before
+
+abbrev entryFromKnownTold2 : tie.After-known-told2 Inv-loop μ-loop → tie.Start Inv-loop μ-loop
+entryFromKnownTold2 c = c .before .before .before .before .before .before .before .before
+
 loop-holds : tie.Need-loop-holds Inv-loop μ-loop
 loop-holds c =
     let a = c .before .args in
@@ -72,7 +80,7 @@ enum-known-found : tie.Need-enum-known-found Inv-loop μ-loop
 enum-known-found c = search needs
 
 add-at : tie.Need-add-at Inv-loop μ-loop
-add-at c = let w = over-abort (c .before) in omega (arith, w .within, c .before .before .before .before .before .before .before .before .good)
+add-at c = let w = over-abort (c .before) in omega (arith, w .within, entryFromKnownTold c .good)
 
 loop-less : tie.Need-loop-less Inv-loop μ-loop
 loop-less c = omega (arith, c .before .before .before .before .before .loop-test .taken)
@@ -84,7 +92,7 @@ enum-known-found-2 : tie.Need-enum-known-found-2 Inv-loop μ-loop
 enum-known-found-2 c = search needs
 
 add-at-2 : tie.Need-add-at-2 Inv-loop μ-loop
-add-at-2 c = let w = over-commit (c .before) in omega (arith, w .within, c .before .before .before .before .before .before .before .before .good)
+add-at-2 c = let w = over-commit (c .before) in omega (arith, w .within, entryFromKnownTold2 c .good)
 
 loop-less-2 : tie.Need-loop-less-2 Inv-loop μ-loop
 loop-less-2 c = omega (arith, c .before .before .before .before .before .loop-test .taken)

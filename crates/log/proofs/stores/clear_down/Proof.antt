@@ -1,93 +1,72 @@
-use Prim.Native.Nat.{_+_, _-_, _≤_, min}
+use borrow.Author.Needs.{needs}
+use Prim.Native.Nat.{ℕ, _+_, _-_}
 use native.Mathlib.Omega.{arith}
-use mathlib.Core.Path.{_≡_, refl, sym, _∙_}
-use lib.ListN.{length, take, length-set}
-use Rattle.log.specs.Stores.{apply, clears}
-use Rattle.log.proofs.StoreLaws.{length-clears, clears-step, clears-none, clears-done}
+use mathlib.Core.List.{List}
+use mathlib.Core.Path.{_≡_, sym, ap, _∙_}
+use lib.ListN.{length, take}
+use lib.Seq.{take-nil}
+use Rattle.log.specs.Stores.{Store, apply, clears}
+use Rattle.log.proofs.StoreLaws.{length-clears, clears-cut}
 use Rattle.log.proofs.stores.clear_down.Statement.{statement}
 use Rattle.log.proofs.stores.clear_down.Tie as tie
 
-abbrev Inv-loop : tie.InvT-loop
-Inv-loop b₀ low allowed at₀ left₀ b at left =
-    (at ≤ length b₀)
-    × (min low (length b₀) ≤ at)
-    × (length b ≡ length b₀)
-    × (left ≤ allowed)
-    × (allowed + at ≡ left + length b₀)
-    × (apply (take allowed (clears low (length b₀ - low))) b₀ ≡ apply (take left (clears low (at - low))) b)
+returns : tie.Need-returns
+returns c =
+    let a = c .before .before .args in
+    let e : length (a .b .now) - a .low ≡ 0 = omega arith in (
+      omega (arith, length-clears (a .low) (length (a .b .now) - a .low)),
+      sym (ap (λ (k : ℕ). apply (take (a .allowed) (clears (a .low) k)) (a .b .now)) e ∙ ap (λ (ss : List Store). apply ss (a .b .now)) (take-nil (a .allowed))),
+    )
 
-abbrev μ-loop : tie.MeasureT-loop
-μ-loop b₀ low allowed at₀ left₀ b at left = at
+sub-there : tie.Need-sub-there
+sub-there c = omega arith
 
--- how many stores there are to make
-stores-made : (c : tie.Start Inv-loop μ-loop)
-    → length (clears (c .args .low) (length (c .args .b .now) - c .args .low)) ≡ length (c .args .b .now) - c .args .low
-stores-made c = length-clears _ _
+least-requires : tie.Need-least-requires
+least-requires c κs = search needs
 
-loop-holds : tie.Need-loop-holds Inv-loop μ-loop
-loop-holds c = (omega arith, omega arith, refl, omega arith, omega arith, refl)
+sub-from : tie.Need-sub-from
+sub-from c = omega arith
 
-same-length : tie.Need-same-length Inv-loop μ-loop
-same-length c = omega arith
+add-fill-zero : tie.Need-add-fill-zero
+add-fill-zero c = omega arith
 
-returns : tie.Need-returns Inv-loop μ-loop
-returns c = (
-  omega (arith, stores-made (c .before .before .before)),
-  sym
-      (c .before .before .loop .inv .5
-      ∙ clears-none (c .before .before .loop .left) (c .before .before .loop .at) (c .before .before .before .args .low) _ (c .if1 .taken)),
-)
+sub-fill-zero : tie.Need-sub-fill-zero
+sub-fill-zero c = omega arith
 
-sub-at : tie.Need-sub-at Inv-loop μ-loop
-sub-at c = omega arith
+part-fill-zero-start : tie.Need-part-fill-zero-start
+part-fill-zero-start c = omega arith
 
-sub-left : tie.Need-sub-left Inv-loop μ-loop
-sub-left c = omega arith
+part-fill-zero-end : tie.Need-part-fill-zero-end
+part-fill-zero-end c = omega arith
 
-slice-write-b : tie.Need-slice-write-b Inv-loop μ-loop
-slice-write-b c = omega arith
+fill-zero-requires : tie.Need-fill-zero-requires
+fill-zero-requires c κs = search needs
 
-loop-less : tie.Need-loop-less Inv-loop μ-loop
-loop-less c = omega arith
+same-length : tie.Need-same-length
+same-length c = search needs
 
-loop-again : tie.Need-loop-again Inv-loop μ-loop
-loop-again c = (
-  omega arith,
-  omega arith,
-  simp length-set (omega arith),
-  omega arith,
-  omega arith,
-  c .before .before .loop .inv .5
-      ∙ clears-step (c .before .before .loop .left) (c .before .before .loop .at) (c .before .before .before .args .low) _ (omega arith) (omega arith),
-)
-
-sub-result : tie.Need-sub-result Inv-loop μ-loop
-sub-result c = omega arith
-
-same-length-2 : tie.Need-same-length-2 Inv-loop μ-loop
-same-length-2 c = omega arith
-
-returns-2 : tie.Need-returns-2 Inv-loop μ-loop
-returns-2 c = (
-  omega (arith, stores-made (c .before .before)),
-  sym
-      (c .before .loop .inv .5 ∙ clears-done (c .before .loop .left) (c .before .loop .at) (c .before .before .args .low) _ (c .loop-test .left)),
-)
+returns-2 : tie.Need-returns-2
+returns-2 c =
+    let a = c .before .before .before .before .before .before .before .args in
+    let n = c .before .before .before .before .least .result in
+    let from = length (a .b .now) - n in (
+      omega (arith, length-clears (a .low) (length (a .b .now) - a .low)),
+      clears-cut (a .allowed) (a .low) from n (from + n - from) (a .b .now) _ (omega arith) (c .before .before .before .before .least .ensures)
+          (omega arith) (omega arith) (c .before .before .fill-zero .ensures),
+    )
 
 pub clear-down-spec : {M : Type 1} → statement M
 clear-down-spec =
     tie.close
     (tie.spec
-    Inv-loop
-    μ-loop
-    loop-holds
-    same-length
     returns
-    sub-at
-    sub-left
-    slice-write-b
-    loop-less
-    loop-again
-    sub-result
-    same-length-2
+    sub-there
+    least-requires
+    sub-from
+    add-fill-zero
+    sub-fill-zero
+    part-fill-zero-start
+    part-fill-zero-end
+    fill-zero-requires
+    same-length
     returns-2)

@@ -21,6 +21,14 @@ Inv-loop memory₀ s at₀ memory at =
 abbrev μ-loop : tie.MeasureT-loop
 μ-loop memory₀ s at₀ memory at = length s - at
 
+-- places of the code by name
+
+abbrev entryFromElse1 : tie.Else1 Inv-loop μ-loop → tie.Start Inv-loop μ-loop
+entryFromElse1 c = c .before .before .before .before .before .before .before .before .before
+
+abbrev entryFromThen1 : tie.Then1 Inv-loop μ-loop → tie.Start Inv-loop μ-loop
+entryFromThen1 c = c .before .before .before .before .before .before .before .before .before
+
 -- what the turn read, and did
 read-at : (c : tie.After-redo-one Inv-loop μ-loop)
     → let s = c .before .before .before .before .before .before .args .s .now in
@@ -35,7 +43,7 @@ read-at c =
     )
 
 turned : (c : tie.Else1 Inv-loop μ-loop)
-    → let s = c .before .before .before .before .before .before .before .before .before .args .s .now in
+    → let s = entryFromElse1 c .args .s .now in
     let l = c .before .before .before .before .before .before .loop in
     let k = c .before .before .before .redo-one .result in
     Turned s (l .at) (l .at + k) (redoAll layBytes (frontWrites (drop (l .at) s)) (l .memory))
@@ -43,7 +51,7 @@ turned : (c : tie.Else1 Inv-loop μ-loop)
 turned c =
     let l = c .before .before .before .before .before .before .loop in
     let e = read-at (c .before .before .before) in
-    redo-turn (c .before .before .before .before .before .before .before .before .before .args .s .now) (l .memory) _ (l .at) _ (e .0) (e .1) (l .inv .0)
+    redo-turn (entryFromElse1 c .args .s .now) (l .memory) _ (l .at) _ (e .0) (e .1) (l .inv .0)
     (c .if1 .left)
 
 loop-holds : tie.Need-loop-holds Inv-loop μ-loop
@@ -68,11 +76,11 @@ returns : tie.Need-returns Inv-loop μ-loop
 returns c =
     let l = c .before .before .before .before .before .before .loop in
     let e = read-at (c .before .before .before) in
-    sym (l .inv .2 ∙ redo-done (c .before .before .before .before .before .before .before .before .before .args .s .now) (l .memory) _ (l .at) _ (e .0)
+    sym (l .inv .2 ∙ redo-done (entryFromThen1 c .args .s .now) (l .memory) _ (l .at) _ (e .0)
     (e .1) (c .if1 .taken))
 
 add-at : tie.Need-add-at Inv-loop μ-loop
-add-at c = omega (arith, turned c .within, c .before .before .before .before .before .before .before .before .before .good)
+add-at c = omega (arith, turned c .within, entryFromElse1 c .good)
 
 loop-less : tie.Need-loop-less Inv-loop μ-loop
 loop-less c = turned c .less

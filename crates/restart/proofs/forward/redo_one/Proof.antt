@@ -11,6 +11,14 @@ use Rattle.restart.proofs.RedoLaws.{redo-parts, redo-case, other-case}
 use Rattle.restart.proofs.forward.redo_one.Statement.{statement}
 use Rattle.restart.proofs.forward.redo_one.Tie as tie
 
+-- places of the code by name
+
+abbrev entryFromCopyArg2 : tie.After-copy-arg2 → tie.Start
+entryFromCopyArg2 c = c .before .before .before .before .before .before .before .before
+
+abbrev entryFromSliceKnown2 : tie.After-slice-known2 → tie.Start
+entryFromSliceKnown2 c = entryFromCopyArg2 (c .before .before .before)
+
 redo-at : (c : tie.After-head)
     → (w : Write) × (readRecord (c .before .before .before .before .before .args .s .now) ≡ some (redo (c .head .given .0 .0 .0) w))
     × (w .addr ≡ c .head .given .0 .1 .0) × (length (w .bytes) ≡ c .head .given .0 .1 .1 .0)
@@ -47,7 +55,7 @@ copy-requires c κs =
     let w = redo-at (c .before .before .before) in
     let q = redo-parts _ _ _ (w .1) in
     let p = c .copy-arg2 .given .2 in
-    omega (arith, w .2, w .3, q, p, c .before .before .before .before .before .before .before .before .pre)
+    omega (arith, w .2, w .3, q, p, entryFromCopyArg2 c .pre)
 
 add-result : tie.Need-add-result
 add-result c = search needs
@@ -57,7 +65,7 @@ same-length c = search needs
 
 returns : tie.Need-returns
 returns c =
-    let a = c .before .before .before .before .before .before .before .before .before .before .before .args in
+    let a = entryFromSliceKnown2 c .args in
     let w = redo-at (c .before .before .before .before .before .before) in
     redo-case (a .s .now) (a .memory .now) _ _ _ (w .0) _ (w .1) (w .2) (w .3) (c .before .before .copy .ensures)
 

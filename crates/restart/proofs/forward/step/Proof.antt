@@ -10,12 +10,34 @@ use Rattle.recovery.specs.Replay.{redoAll, layBytes}
 use Rattle.log.specs.Group.{readGroup, endOf}
 use Rattle.log.proofs.Basics.{from}
 use Rattle.log.proofs.Inversions.{end-aborted, end-committed, end-none}
+use Rattle.restart.specs.declared.forward.Pass.{Pass}
+use Rattle.restart.specs.declared.forward.Slot.the-variants.{Nowhere}
 use Rattle.restart.specs.Forward.{wentBy}
-use Rattle.restart.specs.Turns.{frontWrites}
-use Rattle.restart.proofs.SlotLaws.{slot-below}
-use Rattle.restart.proofs.Steps.{as-step, step-none, step-abort, step-commit, step-room}
+use Rattle.restart.specs.Turns.{hasIdIn, frontWrites}
+use Rattle.restart.proofs.SlotLaws.{found-below}
+use Rattle.restart.proofs.Steps.{as-turn, turn-none, turn-abort, turn-commit, step-room}
 use Rattle.restart.proofs.forward.step.Statement.{statement}
 use Rattle.restart.proofs.forward.step.Tie as tie
+
+-- places of the code by name
+
+abbrev afterGroup2FromPassGroup2 : tie.After-pass-group2 → tie.After-group2
+afterGroup2FromPassGroup2 c = c .before .before .before .before .before .before .before .before
+
+abbrev entryFromFound : tie.After-found → tie.Start
+entryFromFound c = c .before .before .before .before .before .before .before .before .before .before
+
+abbrev entryFromUnfinished : tie.After-unfinished → tie.Start
+entryFromUnfinished c = entryFromFound (c .before)
+
+abbrev entryFromPassGroup : tie.After-pass-group → tie.Start
+entryFromPassGroup c = entryFromUnfinished (c .before)
+
+abbrev entryFromSliceKnown2 : tie.After-slice-known2 → tie.Start
+entryFromSliceKnown2 c = c .before .before .before .before .before .before .before .before .before .before .before .before .before .before
+
+abbrev entryFromPassGroup2 : tie.After-pass-group2 → tie.Start
+entryFromPassGroup2 c = entryFromSliceKnown2 (c .before)
 
 -- what was read at the end reached
 read-at : (c : tie.After-read-group) → let a =
@@ -54,33 +76,30 @@ enum-known-group c = search needs
 find-requires : tie.Need-find-requires
 find-requires c κs = search needs
 
-undo-logged-requires : tie.Need-undo-logged-requires
-undo-logged-requires c κs =
-    let s = c .before .before .before .before .before .before .before .before .before .before .before in
-    ((s .pre .0, slot-below (s .args .image) _ _ _ (omega arith) (c .before .before .find .ensures)), s .pre .1 .0)
+unfinished-requires : tie.Need-unfinished-requires
+unfinished-requires c κs =
+    let s = entryFromFound c in
+    found-below (hasIdIn (s .args .ids) _) (s .args .n) 8 _ (s .pre .0) (c .before .find .ensures)
 
 add-pass-group : tie.Need-add-pass-group
 add-pass-group c =
-    let s = c .before .before .before .before .before .before .before .before .before .before .before .before .before .before in
-    let a = s .args in
-    let e = abort-at (c .before .before .before .before .before .before .before) in
-    omega (arith, step-room (a .image) (a .log .now) (wentBy (a .memory .now) (a .p)) _ (s .pre .1 .1) (e .0), e .1, s .good)
+    let s = entryFromUnfinished c in
+    let e = abort-at (c .before .before .before .before) in
+    omega (arith, step-room (s .args .log .now) (s .args .p) _ (s .pre .1 .1) (e .0), e .1, s .good)
 
 pass-group-requires : tie.Need-pass-group-requires
 pass-group-requires c κs =
-    let s = c .before .before .before .before .before .before .before .before .before .before .before .before .before .before in
-    slot-below (s .args .image) _ 8 _ (s .pre .0 .few) (c .before .before .before .before .before .find .ensures)
-
-same-length : tie.Need-same-length
-same-length c = search needs
+    let s = entryFromUnfinished c in
+    found-below (hasIdIn (s .args .ids) _) (s .args .n) 8 _ (s .pre .0) (c .before .before .find .ensures)
 
 returns : tie.Need-returns
 returns c =
-    let a = c .before .before .before .before .before .before .before .before .before .before .before .before .before .before .before .args in
-    let e = abort-at (c .before .before .before .before .before .before .before .before) in
-    let s = step-abort (a .image) (a .log .now) (wentBy (a .memory .now) (a .p)) _ _ _ _ (e .0) (e .1)
-    (c .before .before .before .before .before .before .find .ensures) (c .before .before .before .undo-logged .ensures) in
-    as-step _ _ _ _ s (c .pass-group .ensures) refl
+    let a = entryFromPassGroup c .args in
+    let e = abort-at (c .before .before .before .before .before) in
+    let t = turn-abort (a .ids) (a .n) (a .log .now) (wentBy (a .memory .now) (a .p)) _ _ _ _ (e .0) (e .1) (c .before .before .before .find .ensures)
+    (c .before .unfinished .ensures) in
+    as-turn (a .ids) (a .n) (a .log .now) (wentBy (a .memory .now) (a .p)) _ _ _ t
+    (ap (λ (p : Pass). record { pass = p; undo = c .before .unfinished .result }) (c .pass-group .ensures)) refl
 
 enum-known-group-2 : tie.Need-enum-known-group-2
 enum-known-group-2 c = search needs
@@ -102,28 +121,28 @@ redo-all-requires c κs = search needs
 
 add-pass-group-2 : tie.Need-add-pass-group-2
 add-pass-group-2 c =
-    let s = c .before .before .before .before .before .before .before .before .before .before .before .before .before .before in
-    let a = s .args in
+    let s = entryFromSliceKnown2 c in
     let e = commit-at (c .before .before .before .before .before .before .before) in
-    omega (arith, step-room (a .image) (a .log .now) (wentBy (a .memory .now) (a .p)) _ (s .pre .1 .1) (e .1), e .2, s .good)
+    omega (arith, step-room (s .args .log .now) (s .args .p) _ (s .pre .1 .1) (e .1), e .2, s .good)
 
 pass-group-requires-2 : tie.Need-pass-group-requires-2
 pass-group-requires-2 c κs =
-    let s = c .before .before .before .before .before .before .before .before .before .before .before .before .before .before in
-    slot-below (s .args .image) _ 8 _ (s .pre .0 .few) (c .before .before .before .before .before .find2 .ensures)
+    let s = entryFromSliceKnown2 c in
+    found-below (hasIdIn (s .args .ids) _) (s .args .n) 8 _ (s .pre .0) (c .before .before .before .before .before .find2 .ensures)
 
-same-length-2 : tie.Need-same-length-2
-same-length-2 c = search needs
+same-length : tie.Need-same-length
+same-length c = search needs
 
 returns-2 : tie.Need-returns-2
 returns-2 c =
-    let a = c .before .before .before .before .before .before .before .before .before .before .before .before .before .before .before .args in
-    let e = commit-at (c .before .before .before .before .before .before .before .before) in
+    let a = entryFromPassGroup2 c .args in
+    let e = commit-at (afterGroup2FromPassGroup2 c) in
     let m = c .before .before .before .redo-all .ensures
     ∙ ap (λ (t : List ℕ). redoAll layBytes (frontWrites t) (a .memory .now)) (from (a .log .now) (a .p .end)) in
-    let s = step-commit (a .image) (a .log .now) (wentBy (a .memory .now) (a .p)) _ _ _ _ (e .0) _ (e .1) (e .2)
+    let t = turn-commit (a .ids) (a .n) (a .log .now) (wentBy (a .memory .now) (a .p)) _ _ _ _ (e .0) _ (e .1) (e .2)
     (c .before .before .before .before .before .before .find2 .ensures) m in
-    as-step _ _ _ _ s (c .pass-group2 .ensures) refl
+    as-turn (a .ids) (a .n) (a .log .now) (wentBy (a .memory .now) (a .p)) _ _ _ t
+    (ap (λ (p : Pass). record { pass = p; undo = Nowhere }) (c .pass-group2 .ensures)) refl
 
 enum-told : tie.Need-enum-told
 enum-told c = search needs
@@ -131,8 +150,9 @@ enum-told c = search needs
 returns-3 : tie.Need-returns-3
 returns-3 c =
     let a = c .before .before .before .before .before .before .before .args in
-    let s = step-none (a .image) (a .log .now) (wentBy (a .memory .now) (a .p)) (end-none _ (sym (read-at (c .before .before)) ∙ c .enum-told .given .1)) in
-    as-step _ _ _ _ s refl refl
+    let t = turn-none (a .ids) (a .n) (a .log .now) (wentBy (a .memory .now) (a .p))
+    (end-none _ (sym (read-at (c .before .before)) ∙ c .enum-told .given .1)) in
+    as-turn (a .ids) (a .n) (a .log .now) (wentBy (a .memory .now) (a .p)) _ _ _ t refl refl
 
 pub step-spec : {M : Type 1} → statement M
 step-spec =
@@ -144,10 +164,9 @@ step-spec =
     read-group-requires
     enum-known-group
     find-requires
-    undo-logged-requires
+    unfinished-requires
     add-pass-group
     pass-group-requires
-    same-length
     returns
     enum-known-group-2
     find-requires-2
@@ -157,7 +176,7 @@ step-spec =
     redo-all-requires
     add-pass-group-2
     pass-group-requires-2
-    same-length-2
+    same-length
     returns-2
     enum-told
     returns-3)

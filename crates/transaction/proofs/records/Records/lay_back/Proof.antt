@@ -1,7 +1,7 @@
-use Prim.Native.Nat.{ℕ, _+_, _-_, _*_, _≤_}
+use Prim.Native.Nat.{ℕ, suc, _+_, _-_, _*_, _≤_, _<_}
 use native.Mathlib.Omega.{arith}
 use mathlib.Core.List.{List}
-use mathlib.Core.Path.{_≡_, refl, sym, ap, _∙_}
+use mathlib.Core.Path.{_≡_, sym, ap, _∙_}
 use lib.ListN.{length, getD, take, drop}
 use lib.Seq.{sets}
 use borrow.Author.Needs.{needs}
@@ -14,29 +14,57 @@ use Rattle.transaction.proofs.records.Records.lay_back.Statement.{state
 use Rattle.transaction.proofs.records.Records.lay_back.Tie as tie
 
 abbrev Inv-loop : tie.InvT-loop
-Inv-loop memory₀ self bytes i₀ memory i =
-    (i ≤ self .count)
+Inv-loop memory₀ self bytes n i₀ memory i =
+    (i ≤ n)
     × (length memory ≡ 4096)
-    × (undoAll layBytes (writesOf self) memory₀ ≡ undoAll layBytes (writesFrom (self .addr) (self .len) bytes i 0) memory)
+    × (undoAll layBytes (writesOf self) memory₀ ≡ undoAll layBytes (writesFrom (self .addr) (self .len) bytes (n - i) 0) memory)
 
 abbrev μ-loop : tie.MeasureT-loop
-μ-loop memory₀ self bytes i₀ memory i = i
+μ-loop memory₀ self bytes n i₀ memory i = n - i
 
-cast-i : tie.Need-cast-i Inv-loop μ-loop
-cast-i c = search needs
+cast-n : tie.Need-cast-n Inv-loop μ-loop
+cast-n c = search needs
 
 loop-holds : tie.Need-loop-holds Inv-loop μ-loop
-loop-holds c = (omega arith, c .before .before .pre .1, refl)
+loop-holds c =
+    let r = c .before .before .args .t1 in
+    let z : r .count ≡ r .count - 0 = omega arith in (
+      omega arith,
+      c .before .before .pre .1,
+      ap (λ (k : ℕ). undoAll layBytes (writesFrom (r .addr) (r .len) (r .bytes) k 0) (c .before .before .args .memory .now)) z,
+    )
 
-sub-i : tie.Need-sub-i Inv-loop μ-loop
-sub-i c = search needs
+add-i : tie.Need-add-i Inv-loop μ-loop
+add-i c = omega arith
+
+sub-k : tie.Need-sub-k Inv-loop μ-loop
+sub-k c = omega arith
 
 mul-at : tie.Need-mul-at Inv-loop μ-loop
 mul-at c = search needs
 
--- in a turn: there are 16 records at most, and the one at hand keeps the range rule
-few-enough : (c : tie.In-loop Inv-loop μ-loop) → c .before .loop .i ≤ 16
-few-enough c = omega (arith, counted (c .before .before .before .before .args .t1) (c .before .before .before .before .pre .0), c .before .loop .inv .0)
+-- the record at hand in a turn: the newest of those left
+abbrev hand : tie.In-loop Inv-loop μ-loop → ℕ
+hand c = c .before .before .before .before .args .t1 .count - (c .before .loop .i + 1)
+
+-- it is what the turn lays
+laid : (c : tie.After-copy Inv-loop μ-loop)
+    → let r = c .before .before .before .before .before .before .before .before .before .before .args .t1 in
+    let k = hand (c .before .before .before .before .before .before) in
+    undoAll layBytes (writesFrom (r .addr) (r .len) (r .bytes) k 0)
+    (layBytes (writeAt (r .addr) (r .len) (r .bytes) k) (c .before .before .before .before .before .before .before .loop .memory))
+    ≡ undoAll layBytes (writesFrom (r .addr) (r .len) (r .bytes) k 0) (c .copy .last .0)
+laid c =
+    let r = c .before .before .before .before .before .before .before .before .before .before .args .t1 in
+    let k = hand (c .before .before .before .before .before .before) in
+    let m = c .before .before .before .before .before .before .before .loop .memory in
+    let e : k * 32 + getD (r .len) k 0 - k * 32 ≡ getD (r .len) k 0 = omega arith in
+    ap (undoAll layBytes (writesFrom (r .addr) (r .len) (r .bytes) k 0))
+    (sym (c .copy .ensures ∙ ap (λ (j : ℕ). sets m (getD (r .addr) k 0) (take j (drop (k * 32) (r .bytes)))) e))
+
+-- it is one of 16 at most, and keeps the range rule
+few-enough : (c : tie.In-loop Inv-loop μ-loop) → hand c < 16
+few-enough c = omega (arith, counted (c .before .before .before .before .args .t1) (c .before .before .before .before .pre .0))
 
 pub record Placed (at n i : ℕ) (bytes : List ℕ) : Type 0 where
   pub short : n ≤ 32
@@ -45,13 +73,13 @@ pub record Placed (at n i : ℕ) (bytes : List ℕ) : Type 0 where
 
 placed : (c : tie.In-loop Inv-loop μ-loop)
     → let r = c .before .before .before .before .args .t1 in
-    Placed (getD (r .addr) (c .before .loop .i - 1) 0) (getD (r .len) (c .before .loop .i - 1) 0) (c .before .loop .i - 1) (r .bytes)
+    Placed (getD (r .addr) (hand c) 0) (getD (r .len) (hand c) 0) (hand c) (r .bytes)
 placed c =
     let r = c .before .before .before .before .args .t1 in
     let h = few-enough c in
     let l : length (r .bytes) ≡ 512 = search needs in
-    let g = ranged r (c .before .before .before .before .pre .0) (c .before .loop .i - 1) (omega (arith, c .loop-test .taken, c .before .loop .inv .0)) in
-    record { short = g .1; within = g .2; aside = omega (arith, c .loop-test .taken, l, h, g .1) }
+    let g = ranged r (c .before .before .before .before .pre .0) (hand c) (omega arith) in
+    record { short = g .1; within = g .2; aside = omega (arith, l, h, g .1) }
 
 element-copy-out-at : tie.Need-element-copy-out-at Inv-loop μ-loop
 element-copy-out-at c = let h = few-enough c in omega arith
@@ -59,11 +87,11 @@ element-copy-out-at c = let h = few-enough c in omega arith
 cast-at : tie.Need-cast-at Inv-loop μ-loop
 cast-at c = search needs
 
-element-copy-out-n : tie.Need-element-copy-out-n Inv-loop μ-loop
-element-copy-out-n c = let h = few-enough (c .before) in omega arith
+element-copy-out-l : tie.Need-element-copy-out-l Inv-loop μ-loop
+element-copy-out-l c = let h = few-enough (c .before) in omega arith
 
-cast-n : tie.Need-cast-n Inv-loop μ-loop
-cast-n c = search needs
+cast-l : tie.Need-cast-l Inv-loop μ-loop
+cast-l c = search needs
 
 mul-from : tie.Need-mul-from Inv-loop μ-loop
 mul-from c = let h = few-enough (c .before .before) in omega arith
@@ -89,33 +117,19 @@ copy-requires c κs =
 loop-less : tie.Need-loop-less Inv-loop μ-loop
 loop-less c = omega (arith, c .before .before .before .before .before .before .before .before .loop-test .taken)
 
--- what a turn lays is the record at hand
-laid : (c : tie.After-copy Inv-loop μ-loop)
-    → let r = c .before .before .before .before .before .before .before .before .before .before .args .t1 in
-    let i = c .before .before .before .before .before .before .before .loop .i - 1 in
-    undoAll layBytes (writesFrom (r .addr) (r .len) (r .bytes) i 0)
-    (layBytes (writeAt (r .addr) (r .len) (r .bytes) i) (c .before .before .before .before .before .before .before .loop .memory))
-    ≡ undoAll layBytes (writesFrom (r .addr) (r .len) (r .bytes) i 0) (c .copy .last .0)
-laid c =
-    let r = c .before .before .before .before .before .before .before .before .before .before .args .t1 in
-    let i = c .before .before .before .before .before .before .before .loop .i - 1 in
-    let m = c .before .before .before .before .before .before .before .loop .memory in
-    let e : i * 32 + getD (r .len) i 0 - i * 32 ≡ getD (r .len) i 0 = omega arith in
-    ap (undoAll layBytes (writesFrom (r .addr) (r .len) (r .bytes) i 0))
-    (sym (c .copy .ensures ∙ ap (λ (k : ℕ). sets m (getD (r .addr) i 0) (take k (drop (i * 32) (r .bytes)))) e))
-
 loop-again : tie.Need-loop-again Inv-loop μ-loop
 loop-again c =
-    let h = c .before .before .before .before .before .before .before .before .loop-test .taken in
-    let v = c .before .before .before .before .before .before .before .before .before .loop .inv in
-    (omega (arith, v .0), c .before .before .copy .kept .0 ∙ v .1, v .2 ∙ undo-turn _ _ _ _ _ h ∙ laid (c .before .before))
+    let t = c .before .before .before .before .before .before .before .before in
+    let v = t .before .loop .inv in
+    let h : t .before .before .before .before .args .t1 .count - t .before .loop .i ≡ suc (hand t) = omega (arith, t .loop-test .taken) in
+    (omega (arith, t .loop-test .taken), c .before .before .copy .kept .0 ∙ v .1, v .2 ∙ undo-turn _ _ _ _ _ _ h ∙ laid (c .before .before))
 
 same-length : tie.Need-same-length Inv-loop μ-loop
 same-length c = c .before .loop .inv .1 ∙ sym (c .before .before .before .before .pre .1)
 
 returns : tie.Need-returns Inv-loop μ-loop
 returns c =
-    let z : c .before .loop .i ≡ 0 = omega (arith, c .loop-test .left) in
+    let z : c .before .before .before .before .args .t1 .count - c .before .loop .i ≡ 0 = omega (arith, c .loop-test .left) in
     sym (c .before .loop .inv .2 ∙ rw z)
 
 pub lay-back-spec : {M : Type 1} → statement M
@@ -124,14 +138,15 @@ lay-back-spec =
     (tie.spec
     Inv-loop
     μ-loop
-    cast-i
+    cast-n
     loop-holds
-    sub-i
+    add-i
+    sub-k
     mul-at
     element-copy-out-at
     cast-at
-    element-copy-out-n
-    cast-n
+    element-copy-out-l
+    cast-l
     mul-from
     add-copy
     sub-copy

@@ -1,0 +1,38 @@
+//! What a call gave back, in the second program's terms.
+
+use second::state::Refusal;
+use second::trace::{Answer, Outcome};
+
+pub fn told(result: Result<u32, Refusal>) -> Outcome {
+    stored(result.map(|value| (false, 0, value as usize)))
+}
+
+/// Of cut, the stores made and the value told.
+pub fn stored(result: Result<(bool, usize, usize), Refusal>) -> Outcome {
+    let (answer, stores, value) = match result {
+        Ok((false, stores, value)) => (Answer::Done, stores, value),
+        Ok((true, stores, value)) => (Answer::Cut, stores, value),
+        Err(number) => (Answer::Refused(number), 0, 0),
+    };
+    Outcome {
+        answer,
+        value: value as u32,
+        stores,
+    }
+}
+
+pub fn part(part: &[u8]) -> Outcome {
+    answer(Answer::Part(part.len()))
+}
+
+pub fn yes_or_no(yes: bool) -> Outcome {
+    answer(if yes { Answer::Yes } else { Answer::No })
+}
+
+fn answer(answer: Answer) -> Outcome {
+    Outcome {
+        answer,
+        value: 0,
+        stores: 0,
+    }
+}

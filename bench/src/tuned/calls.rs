@@ -1,0 +1,160 @@
+//! The calls that store nothing on disk.
+
+use super::admit::Admitted;
+use super::log::{put_abort, put_commit, put_redo};
+use super::state::{Records, State, Tx, COMMITTING, RUNNING};
+use super::Refusal;
+use second::layout::{range_ok, LOG_LEN, MAX_TXS, MAX_UNDOS};
+
+impl State {
+    pub fn begin(&mut self, memory: &[u8], tail: &[u8]) -> Result<u16, Refusal> {
+        let admitted = self.admit(memory, tail)?;
+        if self.count as usize == MAX_TXS {
+            return Err(11);
+        }
+        let id = self.lastid.checked_add(1).ok_or(12)?;
+        if admitted.room + 8 > LOG_LEN {
+            return Err(13);
+        }
+        self.lastid = id;
+        let tx = &mut self.txs[self.count as usize];
+        tx.id = id;
+        tx.status = RUNNING;
+        tx.csn = 0;
+        tx.undo.count = 0;
+        tx.redo.count = 0;
+        self.count += 1;
+        Ok(id)
+    }
+
+    pub fn write(
+        &mut self,
+        memory: &mut [u8],
+        tail: &[u8],
+        id: u16,
+        addr: usize,
+        bytes: &[u8],
+    ) -> Result<(), Refusal> {
+        let (admitted, slot) = self.find_range(memory, tail, id, addr, bytes.len())?;
+        let tx = &mut self.txs[slot];
+        if tx.undo.count as usize == MAX_UNDOS {
+            return Err(10);
+        }
+        if admitted.room + 7 + bytes.len() > LOG_LEN {
+            return Err(13);
+        }
+        let range = &mut memory[addr..addr + bytes.len()];
+        tx.undo.push(addr, range);
+        tx.redo.push(addr, bytes);
+        range.copy_from_slice(bytes);
+        Ok(())
+    }
+
+    /// The part of memory itself, empty when refused.
+    pub fn read<'a>(
+        &self,
+        memory: &'a [u8],
+        tail: &[u8],
+        id: u16,
+        addr: usize,
+        len: usize,
+    ) -> &'a [u8] {
+        match self.check_read(memory, tail, id, addr, len) {
+            Ok(()) => &memory[addr..addr + len],
+            Err(_) => &memory[0..0],
+        }
+    }
+
+    pub fn check_read(
+        &self,
+        memory: &[u8],
+        tail: &[u8],
+        id: u16,
+        addr: usize,
+        len: usize,
+    ) -> Result<(), Refusal> {
+        self.find_range(memory, tail, id, addr, len).map(|_| ())
+    }
+
+    pub fn precommit(&mut self, memory: &[u8], tail: &mut [u8], id: u16) -> Result<u32, Refusal> {
+        let (admitted, slot) = self.find_running(memory, tail, id)?;
+        let csn = self.assigned.checked_add(1).ok_or(12)?;
+        let tx = &mut self.txs[slot];
+        let end = admitted.end + put_redos(&mut tail[admitted.end..], id, &tx.redo);
+        put_commit(&mut tail[end..], id, csn);
+        tx.redo.count = 0;
+        tx.status = COMMITTING;
+        tx.csn = csn;
+        self.assigned = csn;
+        Ok(csn)
+    }
+
+    pub fn abort(&mut self, memory: &mut [u8], tail: &mut [u8], id: u16) -> Result<(), Refusal> {
+        let (admitted, slot) = self.find_running(memory, tail, id)?;
+        self.txs[slot].undo.undo(memory);
+        put_abort(&mut tail[admitted.end..], id);
+        self.drop_slot(slot);
+        Ok(())
+    }
+
+    pub fn settle(&mut self, memory: &[u8], tail: &[u8], id: u16) -> Result<(), Refusal> {
+        self.admit(memory, tail)?;
+        let slot = self.find(id).ok_or(6)?;
+        let tx = &self.txs[slot];
+        if tx.is_running() || tx.csn > self.ondisk {
+            return Err(14);
+        }
+        self.drop_slot(slot);
+        Ok(())
+    }
+
+    fn find(&self, id: u16) -> Option<usize> {
+        self.listed().iter().position(|tx| tx.id == id)
+    }
+
+    /// Numbers 1, 2, 6 and 7.
+    fn find_running(
+        &self,
+        memory: &[u8],
+        tail: &[u8],
+        id: u16,
+    ) -> Result<(Admitted, usize), Refusal> {
+        let admitted = self.admit(memory, tail)?;
+        let slot = self.find(id).ok_or(6)?;
+        if !self.txs[slot].is_running() {
+            return Err(7);
+        }
+        Ok((admitted, slot))
+    }
+
+    /// Numbers 1, 2 and 6 to 9.
+    fn find_range(
+        &self,
+        memory: &[u8],
+        tail: &[u8],
+        id: u16,
+        addr: usize,
+        len: usize,
+    ) -> Result<(Admitted, usize), Refusal> {
+        let found = self.find_running(memory, tail, id)?;
+        if !range_ok(addr, len) {
+            return Err(8);
+        }
+        let held = |tx: &Tx| tx.id != id && tx.is_running() && tx.undo.meets(addr, len);
+        if self.listed().iter().any(held) {
+            return Err(9);
+        }
+        Ok(found)
+    }
+}
+
+/// The redo records one after the other; their size.
+fn put_redos(out: &mut [u8], id: u16, redo: &Records) -> usize {
+    let mut at = 0;
+    for i in 0..redo.count as usize {
+        let bytes = redo.bytes_of(i);
+        put_redo(&mut out[at..], id, redo.addr[i], bytes);
+        at += 7 + bytes.len();
+    }
+    at
+}

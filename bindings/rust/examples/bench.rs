@@ -1,0 +1,74 @@
+//! A bench that books its steps on a file: one pane, one lead strip and one colour name together, or none of them.
+//!
+//! `cargo run --release --example bench -- FILE` books a step every half second. Kill it whenever you like (`kill -9`), or pull the plug, and
+//! start it again: it says what is booked and goes on with the next pane.
+
+use std::env;
+use std::error::Error;
+use std::process::ExitCode;
+use std::thread;
+use std::time::Duration;
+
+use luppaneth::{FileDevice, Store};
+
+/// Each pane has 32 bytes of the pattern: 1 once it is booked, the strip's number, the colour's name.
+const PANES: usize = 128;
+const PLACE: usize = 32;
+const STRIP: usize = 1;
+const COLOUR: usize = 16;
+const COLOURS: [&[u8]; 4] = [b"ruby", b"cobalt", b"amber", b"sea green"];
+
+/// Books a pane with its strip and its colour, and returns once that is durable.
+fn book_step(store: &mut Store<FileDevice>, pane: usize) -> Result<(), luppaneth::Error> {
+    let place = pane * PLACE;
+    let strip = (pane * 7 % 1_000) as u16;
+    let colour = COLOURS[pane % COLOURS.len()];
+    store.book(|tx| {
+        tx.write(place, &[1])?;
+        tx.write(place + STRIP, &strip.to_be_bytes())?;
+        tx.write(place + COLOUR, colour)
+    })?;
+    store.flush()?;
+    Ok(())
+}
+
+/// The panes that are booked: the pattern itself says it.
+fn booked(store: &Store<FileDevice>) -> Result<usize, luppaneth::Error> {
+    let pattern = store.pattern()?;
+    Ok((0..PANES)
+        .take_while(|pane| pattern[pane * PLACE] == 1)
+        .count())
+}
+
+fn run() -> Result<(), Box<dyn Error>> {
+    let path = env::args().nth(1).ok_or("usage: bench FILE")?;
+    let mut store = Store::open(FileDevice::open(&path)?)?;
+    let first = booked(&store)?;
+    println!(
+        "{path}: {first} panes are booked, {} bytes of log are left",
+        store.log_left()?
+    );
+    for pane in first..PANES {
+        // If the device fails here, only the next start knows whether this step is booked.
+        book_step(&mut store, pane)?;
+        println!("pane {pane} is booked");
+        if pane % 32 == 31 {
+            // The next start has less of the log to go over.
+            store.checkpoint()?;
+        }
+        thread::sleep(Duration::from_millis(500));
+    }
+    println!("all {PANES} panes are booked");
+    Ok(())
+}
+
+fn main() -> ExitCode {
+    match run() {
+        Ok(()) => ExitCode::SUCCESS,
+        Err(error) => {
+            // What is wrong, and what helps.
+            eprintln!("bench: {error}");
+            ExitCode::FAILURE
+        }
+    }
+}

@@ -1,0 +1,65 @@
+//! What a [`Store`](crate::Store) answers when it doesn't do what it was asked.
+
+use std::fmt;
+use std::io;
+
+use crate::refusal::Refusal;
+
+/// Why the store did not do it.
+#[derive(Debug)]
+#[non_exhaustive]
+pub enum Error {
+    /// A call was refused. The store is as it was, but that a step that was refused is aborted as a whole.
+    Refused(Refusal),
+    /// The device failed. How far its stores got is known to a restart alone, so the store answers nothing more.
+    Device(io::Error),
+    /// The device failed earlier: open the store again.
+    Poisoned,
+    /// The booking is of another opening of the store. Commit numbers of lost bookings are given out again, so its own says nothing here.
+    Stale,
+    /// The device to carry the pattern over to has bookings already.
+    NotFresh,
+    /// The step gave up by itself ([`Error::step`]) and is aborted.
+    Step(Box<dyn std::error::Error + Send + Sync>),
+}
+
+impl Error {
+    /// For a step that finds it must not be booked: return this and all its writes are taken back.
+    pub fn step(reason: impl Into<Box<dyn std::error::Error + Send + Sync>>) -> Error {
+        Error::Step(reason.into())
+    }
+}
+
+impl fmt::Display for Error {
+    fn fmt(&self, f: &mut fmt::Formatter<'_>) -> fmt::Result {
+        match self {
+            Error::Refused(refusal) => refusal.fmt(f),
+            Error::Device(error) => write!(f, "the device failed: {error}; open the store again"),
+            Error::Poisoned => f.write_str("the device failed before; open the store again"),
+            Error::Stale => f.write_str(
+                "the booking is of another opening of the store; ask how many bookings the store has",
+            ),
+            Error::NotFresh => f.write_str(
+                "the device has bookings already; carry the pattern over to a fresh one, all zeros",
+            ),
+            Error::Step(reason) => write!(f, "the step gave up: {reason}"),
+        }
+    }
+}
+
+impl std::error::Error for Error {
+    fn source(&self) -> Option<&(dyn std::error::Error + 'static)> {
+        match self {
+            Error::Refused(refusal) => Some(refusal),
+            Error::Device(error) => Some(error),
+            Error::Step(reason) => Some(reason.as_ref()),
+            Error::Poisoned | Error::Stale | Error::NotFresh => None,
+        }
+    }
+}
+
+impl From<Refusal> for Error {
+    fn from(refusal: Refusal) -> Error {
+        Error::Refused(refusal)
+    }
+}

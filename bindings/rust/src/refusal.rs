@@ -1,0 +1,123 @@
+//! The fourteen refusals of document 01 by name.
+
+use std::fmt;
+
+/// Why a call was refused. Refused, a call has changed nothing; restart alone zeroes memory and tail where it refuses a disk.
+///
+/// The variants stand in document 01's order, which is the order in which a call tests them.
+#[derive(Clone, Copy, Debug, PartialEq, Eq, Hash)]
+pub enum Refusal {
+    /// 1: a lent buffer hasn't its length. The types of this crate keep it away.
+    WrongLength = 1,
+    /// 2: the state is unrecovered or broken, or the lent tail isn't its own.
+    Unfit = 2,
+    /// 3, restart: the pointer byte is above 2.
+    BadPointer = 3,
+    /// 4, restart: the image that the pointer byte names breaks a rule.
+    BadImage = 4,
+    /// 5, restart: the log has no room for the abort records.
+    NoRoomToUndo = 5,
+    /// 6: no transaction has this id.
+    NotListed = 6,
+    /// 7: the transaction has precommitted.
+    Committing = 7,
+    /// 8: length 0 or above 32, or the range leaves memory.
+    BadRange = 8,
+    /// 9: another running transaction wrote a byte of the range.
+    Held = 9,
+    /// 10: the transaction has 16 writes.
+    TooManyWrites = 10,
+    /// 11: there are 8 transactions.
+    TooManyTransactions = 11,
+    /// 12: the last id or the last commit number was given.
+    CounterAtEnd = 12,
+    /// 13: the log has no room.
+    LogFull = 13,
+    /// 14: the transaction is running, or its commit isn't on disk.
+    NotDurable = 14,
+}
+
+impl Refusal {
+    /// All of them, in document 01's order.
+    pub const ALL: [Refusal; 14] = [
+        Refusal::WrongLength,
+        Refusal::Unfit,
+        Refusal::BadPointer,
+        Refusal::BadImage,
+        Refusal::NoRoomToUndo,
+        Refusal::NotListed,
+        Refusal::Committing,
+        Refusal::BadRange,
+        Refusal::Held,
+        Refusal::TooManyWrites,
+        Refusal::TooManyTransactions,
+        Refusal::CounterAtEnd,
+        Refusal::LogFull,
+        Refusal::NotDurable,
+    ];
+
+    /// Document 01's number, 1 to 14.
+    pub fn number(self) -> u8 {
+        self as u8
+    }
+
+    /// The refusal with that number.
+    pub fn from_number(number: u8) -> Option<Refusal> {
+        let index = usize::from(number).checked_sub(1)?;
+        Refusal::ALL.get(index).copied()
+    }
+
+    fn wrong(self) -> &'static str {
+        match self {
+            Refusal::WrongLength => "a lent buffer hasn't its length",
+            Refusal::Unfit => "the state is unrecovered or broken, or the tail isn't its own",
+            Refusal::BadPointer => "the disk's pointer byte is above 2",
+            Refusal::BadImage => "the image in use on the disk breaks a rule",
+            Refusal::NoRoomToUndo => "the disk's log has no room for what has to be undone",
+            Refusal::NotListed => "no transaction has this id",
+            Refusal::Committing => "the transaction has precommitted",
+            Refusal::BadRange => "the range is empty, longer than 32 bytes or not within the 4,096",
+            Refusal::Held => "another running transaction wrote a byte of the range",
+            Refusal::TooManyWrites => "the transaction has 16 writes already",
+            Refusal::TooManyTransactions => "8 transactions are running or not yet settled",
+            Refusal::CounterAtEnd => "the last transaction id or the last commit number was given",
+            Refusal::LogFull => "the log is full: this needs more than is left of its 16,384 bytes",
+            Refusal::NotDurable => "the transaction is running, or its commit isn't on disk yet",
+        }
+    }
+
+    fn helps(self) -> &'static str {
+        match self {
+            Refusal::WrongLength => "lend a disk of 33,691 bytes, a memory of 4,096 and a tail of 16,384",
+            Refusal::Unfit => "restart, and hand each call what the last one left",
+            Refusal::BadPointer | Refusal::BadImage | Refusal::NoRoomToUndo => {
+                "this is no disk that the store alone has written: bring back a copy of the right one"
+            }
+            Refusal::NotListed => "begin one, and use its id until it is aborted or settled",
+            Refusal::Committing => "begin another transaction for what is left to do",
+            Refusal::BadRange => "cut what is to be written into parts of 1 to 32 bytes",
+            Refusal::Held => "precommit or abort the other one first",
+            Refusal::TooManyWrites => "put neighbouring bytes into one write, or book in two steps",
+            Refusal::TooManyTransactions => "flush and settle those that have precommitted, or abort one",
+            Refusal::CounterAtEnd => "carry the pattern over to a fresh disk (`Store::renew`)",
+            Refusal::LogFull => {
+                "the log never empties, so carry the pattern over to a fresh disk (`Store::renew`); what is booked stays, and a smaller step may still fit"
+            }
+            Refusal::NotDurable => "flush first",
+        }
+    }
+}
+
+impl fmt::Display for Refusal {
+    fn fmt(&self, f: &mut fmt::Formatter<'_>) -> fmt::Result {
+        write!(
+            f,
+            "{} (number {}); {}",
+            self.wrong(),
+            self.number(),
+            self.helps()
+        )
+    }
+}
+
+impl std::error::Error for Refusal {}

@@ -1,0 +1,408 @@
+//! What a store on a device answers: all or none, durable after a flush, poisoned after a failure, a full log carried over, files.
+
+use std::fs;
+use std::io;
+use std::panic::{catch_unwind, AssertUnwindSafe};
+use std::path::PathBuf;
+
+use luppaneth::calls::{Disk, DISK_LEN, IMAGE_A, IMAGE_B, LOG_START, POINTER};
+use luppaneth::{Csn, Device, Error, FileDevice, MemoryDevice, Refusal, Store};
+
+fn fresh() -> Store<MemoryDevice> {
+    Store::open(MemoryDevice::new()).unwrap()
+}
+
+fn refusal<T>(result: Result<T, Error>) -> Refusal {
+    match result {
+        Err(Error::Refused(refusal)) => refusal,
+        Err(error) => panic!("{error}"),
+        Ok(_) => panic!("not refused"),
+    }
+}
+
+#[test]
+fn a_booking_is_durable_after_a_flush() {
+    let mut store = fresh();
+    let booking = store.book(|tx| tx.write(10, b"ab")).unwrap();
+    assert_eq!(
+        (booking.csn(), store.settled(booking).unwrap()),
+        (Csn(1), false)
+    );
+    assert_eq!(store.read(10, 2).unwrap(), b"ab");
+    assert_eq!(store.durable().unwrap(), Csn(0));
+    assert_eq!(store.flush().unwrap(), Csn(1));
+    assert!(store.settled(booking).unwrap());
+
+    let again = Store::open(store.into_device()).unwrap();
+    assert_eq!(again.read(10, 2).unwrap(), b"ab");
+    assert!(matches!(again.settled(booking), Err(Error::Stale)));
+}
+
+#[test]
+fn what_was_not_flushed_is_lost_whole() {
+    let mut store = fresh();
+    store.book(|tx| tx.write(0, &[1])).unwrap();
+    store.flush().unwrap();
+    store.book(|tx| tx.write(0, &[2])).unwrap();
+    store.checkpoint().unwrap();
+    let again = Store::open(store.into_device()).unwrap();
+    assert_eq!(
+        (again.durable().unwrap(), again.read(0, 1).unwrap()),
+        (Csn(1), &[1][..])
+    );
+}
+
+#[test]
+fn a_step_that_fails_leaves_nothing() {
+    let mut store = fresh();
+    let too_long = store.book(|tx| {
+        tx.write(0, &[1])?;
+        assert_eq!(tx.read(0, 1)?, [1]);
+        tx.write(1, &[1; 33])
+    });
+    assert_eq!(refusal(too_long), Refusal::BadRange);
+    let gave_up = store.book(|tx| {
+        tx.write(0, &[1])?;
+        Err(Error::step("no such pane"))
+    });
+    assert_eq!(
+        gave_up.unwrap_err().to_string(),
+        "the step gave up: no such pane"
+    );
+    let panicked = catch_unwind(AssertUnwindSafe(|| {
+        store.book(|tx| {
+            tx.write(0, &[1]).unwrap();
+            panic!("in the midst of a step")
+        })
+    }));
+    assert!(panicked.is_err());
+    assert_eq!(store.pattern().unwrap(), &[0; 4_096]);
+    // Three abort records.
+    assert_eq!(store.log_left().unwrap(), 16_384 - 12);
+    store.book(|tx| tx.write(0, &[7])).unwrap();
+    store.flush().unwrap();
+    assert_eq!(store.log_left().unwrap(), 16_384 - 12 - 16);
+    assert_eq!(
+        Store::open(store.into_device())
+            .unwrap()
+            .read(0, 1)
+            .unwrap(),
+        [7]
+    );
+}
+
+#[test]
+fn eight_bookings_wait_for_a_flush() {
+    let mut store = fresh();
+    for n in 0..8 {
+        store.book(|tx| tx.write(0, &[n])).unwrap();
+    }
+    assert_eq!(
+        refusal(store.book(|_| Ok(()))),
+        Refusal::TooManyTransactions
+    );
+    assert_eq!(store.flush().unwrap(), Csn(8));
+    store.book(|_| Ok(())).unwrap();
+    assert_eq!(refusal(store.read(4_090, 7)), Refusal::BadRange);
+    assert_eq!(refusal(store.read(usize::MAX, 2)), Refusal::BadRange);
+    assert_eq!(store.read(4_090, 6).unwrap(), [0; 6]);
+}
+
+#[test]
+fn a_full_log_is_carried_over() {
+    let mut store = fresh();
+    let mut booked = 0_u32;
+    let full = loop {
+        let text = (booked + 1).to_be_bytes();
+        let at = booked as usize * 37 % 4_000;
+        match store.book(|tx| (0..4).try_for_each(|part| tx.write(at + 20 * part, &text))) {
+            Ok(_) => booked += 1,
+            Err(error) => break error,
+        }
+        store.flush().unwrap();
+    };
+    assert!(full.to_string().contains("the log is full"), "{full}");
+    assert!(
+        full.to_string().contains("fresh disk (`Store::renew`)"),
+        "{full}"
+    );
+    assert_eq!(refusal::<()>(Err(full)), Refusal::LogFull);
+    assert_eq!(store.durable().unwrap(), Csn(booked));
+
+    let mut over = store.renew(MemoryDevice::new()).unwrap();
+    assert_eq!(over.pattern().unwrap(), store.pattern().unwrap());
+    assert!(over.log_left().unwrap() >= 16_384 - 5_056);
+    over.book(|tx| tx.write(0, b"and on")).unwrap();
+    over.flush().unwrap();
+    let again = Store::open(over.into_device()).unwrap();
+    assert_eq!(again.read(6, 4_090).unwrap(), store.read(6, 4_090).unwrap());
+    assert!(matches!(
+        store.renew(again.into_device()),
+        Err(Error::NotFresh)
+    ));
+}
+
+/// Fails once so many stores or syncs were made.
+struct Failing {
+    disk: MemoryDevice,
+    stores: usize,
+    syncs: usize,
+}
+
+impl Failing {
+    fn after(stores: usize, syncs: usize) -> Failing {
+        Failing {
+            disk: MemoryDevice::new(),
+            stores,
+            syncs,
+        }
+    }
+}
+
+fn one_of(left: &mut usize) -> io::Result<()> {
+    let next = left.checked_sub(1);
+    *left = next.ok_or(io::Error::other("no current"))?;
+    Ok(())
+}
+
+impl Device for Failing {
+    fn load(&mut self, disk: &mut Disk) -> io::Result<()> {
+        self.disk.load(disk)
+    }
+    fn store(&mut self, at: usize, byte: u8) -> io::Result<()> {
+        one_of(&mut self.stores)?;
+        self.disk.store(at, byte)
+    }
+    fn sync(&mut self) -> io::Result<()> {
+        one_of(&mut self.syncs)
+    }
+}
+
+fn all_poisoned(store: &mut Store<&mut Failing>) {
+    assert!(matches!(store.book(|_| Ok(())), Err(Error::Poisoned)));
+    assert!(matches!(store.flush(), Err(Error::Poisoned)));
+    assert!(matches!(store.checkpoint(), Err(Error::Poisoned)));
+    assert!(matches!(store.durable(), Err(Error::Poisoned)));
+    assert!(matches!(store.pattern(), Err(Error::Poisoned)));
+    assert!(matches!(store.read(0, 1), Err(Error::Poisoned)));
+    assert!(matches!(store.log_left(), Err(Error::Poisoned)));
+    assert!(matches!(
+        store.renew(MemoryDevice::new()),
+        Err(Error::Poisoned)
+    ));
+}
+
+#[test]
+fn a_failed_device_poisons_the_store() {
+    let mut device = Failing::after(15, usize::MAX);
+    let mut store = Store::open(&mut device).unwrap();
+    let booking = store.book(|tx| tx.write(0, &[1])).unwrap();
+    assert!(matches!(store.flush(), Err(Error::Device(_))));
+    all_poisoned(&mut store);
+    assert!(matches!(store.settled(booking), Err(Error::Poisoned)));
+    drop(store);
+    // 15 of 16 stores were made. The clearing of these fails too, at first.
+    assert_eq!(device.disk.disk()[LOG_START], 1);
+    assert!(matches!(Store::open(&mut device), Err(Error::Device(_))));
+    device.stores = usize::MAX;
+    let mut store = Store::open(&mut device).unwrap();
+    assert_eq!(store.durable().unwrap(), Csn(0));
+    store.book(|tx| tx.write(0, &[2])).unwrap();
+    assert_eq!(store.flush().unwrap(), Csn(1));
+}
+
+#[test]
+fn a_failed_sync_poisons_the_store() {
+    let mut device = Failing::after(usize::MAX, 0);
+    assert!(matches!(Store::open(&mut device), Err(Error::Device(_))));
+
+    let mut device = Failing::after(usize::MAX, 1);
+    let mut store = Store::open(&mut device).unwrap();
+    store.book(|tx| tx.write(0, &[1])).unwrap();
+    assert!(matches!(store.flush(), Err(Error::Device(_))));
+    all_poisoned(&mut store);
+}
+
+#[test]
+fn the_pointer_byte_waits_for_the_image() {
+    // Syncs: the opening's, the image's, the pointer byte's.
+    for (syncs, pointer) in [(1, 0), (2, 1)] {
+        let mut device = Failing::after(usize::MAX, syncs);
+        let mut store = Store::open(&mut device).unwrap();
+        assert!(matches!(store.checkpoint(), Err(Error::Device(_))));
+        all_poisoned(&mut store);
+        assert_eq!(device.disk.disk()[POINTER], pointer);
+    }
+}
+
+#[derive(Clone, Copy, Debug, PartialEq)]
+enum Event {
+    Store(usize, u8),
+    Sync,
+}
+
+/// Keeps what is done to it, in order.
+struct Recording {
+    disk: MemoryDevice,
+    events: Vec<Event>,
+}
+
+impl Device for Recording {
+    fn load(&mut self, disk: &mut Disk) -> io::Result<()> {
+        self.disk.load(disk)
+    }
+    fn store(&mut self, at: usize, byte: u8) -> io::Result<()> {
+        self.events.push(Event::Store(at, byte));
+        self.disk.store(at, byte)
+    }
+    fn sync(&mut self) -> io::Result<()> {
+        self.events.push(Event::Sync);
+        Ok(())
+    }
+}
+
+/// What a store does to a device from its opening on, up to some calls.
+fn events(
+    disk: &MemoryDevice,
+    calls: impl FnOnce(&mut Store<&mut Recording>) -> Result<(), Error>,
+) -> Recording {
+    let mut device = Recording {
+        disk: disk.clone(),
+        events: Vec::new(),
+    };
+    let mut store = Store::open(&mut device).unwrap();
+    calls(&mut store).unwrap();
+    device
+}
+
+fn offsets(events: &[Event]) -> Vec<usize> {
+    let offset = |event: &Event| match event {
+        Event::Store(at, _) => *at,
+        Event::Sync => panic!("a sync in the midst of a run"),
+    };
+    events.iter().map(offset).collect()
+}
+
+#[test]
+fn a_flush_stores_upward_from_the_logs_end() {
+    let flushed = events(&MemoryDevice::new(), |store| {
+        store.book(|tx| tx.write(10, &[0x41, 0x42]))?;
+        store.flush()?;
+        store.flush()?;
+        Ok(())
+    });
+    let group = [1, 0, 1, 0, 10, 2, 0x41, 0x42, 1, 2, 0, 1, 0, 0, 0, 1, 2];
+    let mut expected = vec![Event::Sync];
+    expected.extend(
+        (LOG_START..)
+            .zip(group)
+            .map(|(at, byte)| Event::Store(at, byte)),
+    );
+    expected.push(Event::Sync);
+    assert_eq!(flushed.events, expected);
+}
+
+#[test]
+fn a_checkpoint_stores_the_image_upward_then_the_pointer_byte() {
+    let mut disk = MemoryDevice::new();
+    for (slot, name) in [(IMAGE_A, 1), (IMAGE_B, 2), (IMAGE_A, 1)] {
+        let stored = events(&disk, |store| store.checkpoint());
+        let (image, rest) = stored.events[1..].split_at(4_109);
+        assert_eq!(offsets(image), (slot..slot + 4_109).collect::<Vec<_>>());
+        assert_eq!(
+            rest,
+            [Event::Sync, Event::Store(POINTER, name), Event::Sync]
+        );
+        disk = stored.disk;
+    }
+}
+
+#[test]
+fn an_opening_clears_downward_to_the_logs_end() {
+    let mut disk = MemoryDevice::new();
+    disk.disk_mut()[LOG_START + 3..LOG_START + 700].fill(9);
+    let cleared = events(&disk, |_| Ok(()));
+    let (last, stores) = cleared.events.split_last().unwrap();
+    assert_eq!(
+        offsets(stores),
+        (LOG_START..LOG_START + 700).rev().collect::<Vec<_>>()
+    );
+    assert!(stores
+        .iter()
+        .all(|event| matches!(event, Event::Store(_, 0))));
+    assert_eq!(*last, Event::Sync);
+    assert_eq!(cleared.disk.disk(), &[0; DISK_LEN]);
+}
+
+#[test]
+fn a_damaged_disk_is_refused() {
+    let mut device = MemoryDevice::new();
+    device.disk_mut()[POINTER] = 3;
+    assert_eq!(
+        refusal(Store::open(device).map(|_| ())),
+        Refusal::BadPointer
+    );
+}
+
+/// A path in a folder of its own.
+fn path(name: &str) -> PathBuf {
+    let folder = PathBuf::from(env!("CARGO_TARGET_TMPDIR")).join(name);
+    let _ = fs::remove_dir_all(&folder);
+    fs::create_dir(&folder).unwrap();
+    folder.join("disk")
+}
+
+#[test]
+fn a_file_is_created_and_opened_again() {
+    let path = path("created");
+    let mut store = Store::open(FileDevice::open(&path).unwrap()).unwrap();
+    assert_eq!(fs::read(&path).unwrap(), [0; DISK_LEN]);
+    store.book(|tx| tx.write(10, b"AB")).unwrap();
+    store.checkpoint().unwrap();
+    store.flush().unwrap();
+    store.book(|tx| tx.write(10, b"CD")).unwrap();
+    drop(store);
+    let store = Store::open(FileDevice::open(&path).unwrap()).unwrap();
+    assert_eq!(store.read(10, 2).unwrap(), b"AB");
+}
+
+#[test]
+fn a_file_has_one_owner() {
+    let path = path("owned");
+    let device = FileDevice::open(&path).unwrap();
+    let second = FileDevice::open(&path).err().unwrap();
+    assert_eq!(second.kind(), io::ErrorKind::WouldBlock);
+    drop(device);
+    FileDevice::open(&path).unwrap();
+}
+
+#[test]
+fn a_creation_that_was_cut_off_is_finished() {
+    let path = path("short");
+    for len in [0, 1, 512, DISK_LEN - 1] {
+        fs::write(&path, vec![0; len]).unwrap();
+        Store::open(FileDevice::open(&path).unwrap()).unwrap();
+        assert_eq!(fs::read(&path).unwrap(), [0; DISK_LEN]);
+    }
+}
+
+#[test]
+fn a_file_that_is_no_disk_is_left_alone() {
+    let path = path("other");
+    for bytes in [vec![0; DISK_LEN + 1], b"a letter".to_vec()] {
+        fs::write(&path, &bytes).unwrap();
+        let error = FileDevice::open(&path).err().unwrap();
+        assert_eq!(error.kind(), io::ErrorKind::InvalidData);
+        assert_eq!(fs::read(&path).unwrap(), bytes);
+    }
+}
+
+#[test]
+fn a_file_is_cleared_behind_the_log() {
+    let path = path("cleared");
+    let mut bytes = vec![0; DISK_LEN];
+    bytes[LOG_START + 5..].fill(9);
+    fs::write(&path, &bytes).unwrap();
+    Store::open(FileDevice::open(&path).unwrap()).unwrap();
+    assert_eq!(fs::read(&path).unwrap(), [0; DISK_LEN]);
+}

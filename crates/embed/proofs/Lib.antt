@@ -1,0 +1,3 @@
+-- What a host reads in a reply is what the call told, and its numbers fit (Replies); where the part that is read stands (Reading).
+pub mod Replies
+pub mod Reading

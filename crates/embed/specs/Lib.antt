@@ -1,0 +1,2 @@
+-- What the exported calls answer with, in the calls' own words.
+pub mod Reply

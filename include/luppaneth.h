@@ -1,0 +1,285 @@
+/* Luppaneth for C: a main-memory transaction store that survives a power cut.
+ *
+ * A program keeps a pattern of 4,096 bytes in memory and books several writes together or none. Two layers:
+ *   luppaneth_*  the library's own calls (libembed.a; crates/embed/src has the contract that each is proved against). The state between calls
+ *                goes in by value and comes back in the reply.
+ *   lup_*        the same calls over a `struct luppaneth` that holds state and buffers; each returns one int. Most programs want these alone.
+ *
+ * What the caller owes, since no proof reaches it:
+ * - A pointer points to at least as many bytes as the length beside it says, and is not NULL, even beside a length of 0.
+ * - A buffer that a call may change overlaps no other argument, and nobody else touches the buffers during a call.
+ * - Each call is handed the state and the buffers that the call before it left. A state's bytes are not for reading, comparing or changing.
+ * - The disk buffer stands for the disk: bytes that a call changed in it have to reach the real one, in the order stated at `luppaneth_flush`,
+ *   `luppaneth_checkpoint` and `luppaneth_restart` (examples/bench.c shows it for a file).
+ * Wrong lengths, addresses, ids and disks are no fault of that kind: the call refuses them by a number.
+ *
+ * A call takes up to about 100 KB of stack. It keeps nothing between calls, uses no heap, and calls nothing but memcpy, memmove and memset.
+ * For x86-64 (System V calling convention). C99 or newer, or C++.
+ */
+#ifndef LUPPANETH_H
+#define LUPPANETH_H
+
+#include <stdbool.h>
+#include <stddef.h>
+#include <stdint.h>
+#include <string.h>
+
+#ifdef __cplusplus
+extern "C" {
+#endif
+
+/* ---- Sizes. The library tells the same numbers: luppaneth_disk_len() and its like. */
+
+#define LUPPANETH_MEMORY_LEN 4096
+#define LUPPANETH_TAIL_LEN 16384
+#define LUPPANETH_DISK_LEN 33691
+#define LUPPANETH_TEXT_LEN 64
+#define LUPPANETH_STATE_LEN 9072
+
+/* Parts of the disk: the pointer byte at 0, image A, image B, the log. */
+#define LUPPANETH_IMAGE_A 1
+#define LUPPANETH_IMAGE_B 8654
+#define LUPPANETH_LOG 17307
+
+/* At most so many bytes in one write or read, writes in one transaction, transactions at a time. */
+#define LUPPANETH_MAX_WRITE 32
+#define LUPPANETH_MAX_WRITES 16
+#define LUPPANETH_MAX_TRANSACTIONS 8
+
+/* As many stores as the call needs, or all the groups of the tail. Fewer stores are for rehearsing a power cut. */
+#define LUPPANETH_ALL SIZE_MAX
+
+/* ---- Answers */
+
+/* A reply's `answer`. */
+enum luppaneth_answer {
+    LUPPANETH_ANSWER_DONE = 0,
+    LUPPANETH_ANSWER_CUT = 1,    /* the stores allowed ran out: memory and tail are zero, the state is unrecovered; restart */
+    LUPPANETH_ANSWER_REFUSED = 2 /* by `number`; nothing was changed, but for memory and tail, which restart's 3 to 5 set to zero */
+};
+
+/* A reply's `number` where refused, in the order in which a call tests them. */
+enum luppaneth_number {
+    LUPPANETH_WRONG_LENGTH = 1,           /* any call: a lent buffer hasn't its length */
+    LUPPANETH_UNFIT = 2,                  /* any call but restart: the state is unrecovered or broken, or the tail isn't its own */
+    LUPPANETH_BAD_POINTER = 3,            /* restart: the pointer byte is above 2 */
+    LUPPANETH_BAD_IMAGE = 4,              /* restart: the image that the pointer byte names breaks a rule */
+    LUPPANETH_NO_ROOM_TO_UNDO = 5,        /* restart: the log has no room for the abort records */
+    LUPPANETH_NOT_LISTED = 6,             /* write, read, precommit, abort, settle: no transaction has this id */
+    LUPPANETH_COMMITTING = 7,             /* write, read, precommit, abort: it has precommitted */
+    LUPPANETH_BAD_RANGE = 8,              /* write, read: length 0 or above 32, or the range leaves memory */
+    LUPPANETH_HELD = 9,                   /* write, read: another running transaction wrote a byte of the range */
+    LUPPANETH_TOO_MANY_WRITES = 10,       /* write: it has 16 */
+    LUPPANETH_TOO_MANY_TRANSACTIONS = 11, /* begin: there are 8 */
+    LUPPANETH_COUNTER_AT_END = 12,        /* begin: id 65,535 was given. Precommit: commit number 4,294,967,295 was given */
+    LUPPANETH_LOG_FULL = 13,              /* begin, write: the log has no room for it */
+    LUPPANETH_NOT_DURABLE = 14            /* settle: it is running, or its commit isn't on disk yet */
+};
+
+/* The state between calls. Opaque; the union is there for its alignment of 4. */
+struct luppaneth_state {
+    union {
+        unsigned char bytes[LUPPANETH_STATE_LEN];
+        uint32_t aligned;
+    } opaque;
+};
+
+struct luppaneth_reply {
+    uint8_t answer; /* enum luppaneth_answer */
+    uint8_t number; /* enum luppaneth_number where refused, else 0 */
+    uint32_t value; /* begin's id, precommit's commit number, restart's count of transactions undone; else 0 */
+    size_t stores;  /* bytes stored on the disk by flush, checkpoint or restart; else 0 */
+    struct luppaneth_state state; /* for the next call; as it went in where refused. Restart's, refused or cut: the unrecovered one */
+};
+
+/* ---- The library's calls. memory, tail and disk have to have the lengths above, else number 1. */
+
+/* The state before any restart. Every other call refuses it by number 2. */
+struct luppaneth_state luppaneth_unrecovered(void);
+
+/* Starts a transaction. value: its id. */
+struct luppaneth_reply luppaneth_begin(struct luppaneth_state state, const unsigned char *memory, size_t memory_len, const unsigned char *tail,
+                                       size_t tail_len);
+
+/* Puts 1 to 32 bytes into memory at addr, for a running transaction. */
+struct luppaneth_reply luppaneth_write(struct luppaneth_state state, unsigned char *memory, size_t memory_len, const unsigned char *tail,
+                                       size_t tail_len, uint16_t id, size_t addr, const unsigned char *bytes, size_t bytes_len);
+
+/* The length of the part that is read: len, or 0 where refused. The part itself is at memory + addr. */
+size_t luppaneth_read(struct luppaneth_state state, const unsigned char *memory, size_t memory_len, const unsigned char *tail, size_t tail_len,
+                      uint16_t id, size_t addr, size_t len);
+
+/* What luppaneth_read is refused by, or done. */
+struct luppaneth_reply luppaneth_read_answer(struct luppaneth_state state, const unsigned char *memory, size_t memory_len,
+                                             const unsigned char *tail, size_t tail_len, uint16_t id, size_t addr, size_t len);
+
+/* Ends a transaction as a booking: its group goes to the tail. value: its commit number. It isn't durable before a flush. */
+struct luppaneth_reply luppaneth_precommit(struct luppaneth_state state, const unsigned char *memory, size_t memory_len, unsigned char *tail,
+                                           size_t tail_len, uint16_t id);
+
+/* Undoes a running transaction's writes and drops it. */
+struct luppaneth_reply luppaneth_abort(struct luppaneth_state state, unsigned char *memory, size_t memory_len, unsigned char *tail,
+                                       size_t tail_len, uint16_t id);
+
+/* Stores the first groups of the tail, or all if there are fewer, at the log's end. The bytes have to reach the real disk in rising order. */
+struct luppaneth_reply luppaneth_flush(struct luppaneth_state state, unsigned char *disk, size_t disk_len, unsigned char *memory,
+                                       size_t memory_len, unsigned char *tail, size_t tail_len, size_t groups, size_t allowed);
+
+/* Drops a booking whose commit is on disk, which makes its place free for another transaction. */
+struct luppaneth_reply luppaneth_settle(struct luppaneth_state state, const unsigned char *memory, size_t memory_len,
+                                        const unsigned char *tail, size_t tail_len, uint16_t id);
+
+/* Stores an image of memory into the slot that isn't in use, then the pointer byte at 0. The image's bytes, all of them, have to reach the
+ * real disk before the pointer byte does. */
+struct luppaneth_reply luppaneth_checkpoint(struct luppaneth_state state, unsigned char *disk, size_t disk_len, unsigned char *memory,
+                                            size_t memory_len, unsigned char *tail, size_t tail_len, size_t allowed);
+
+/* Makes memory, tail and state from a disk: first of all calls, and after every power cut. An all-zero disk is a fresh one. It clears the disk
+ * after the log's end; these bytes have to reach the real disk in falling order. value: how many transactions it undid. */
+struct luppaneth_reply luppaneth_restart(unsigned char *disk, size_t disk_len, unsigned char *memory, size_t memory_len, unsigned char *tail,
+                                         size_t tail_len, size_t allowed);
+
+/* Whether a restart accepts both disks and leaves the same memory. Neither is changed. */
+bool luppaneth_equal(const unsigned char *a, size_t a_len, const unsigned char *b, size_t b_len);
+
+/* What a restart finds, in lines of text (as the program disklist): hand it a copy of the disk, for the copy is restarted. The text goes to the
+ * front of the 64 bytes, zeros after it; its length is returned. */
+size_t luppaneth_list(unsigned char *disk, size_t disk_len, unsigned char *text);
+
+/* How many bytes each buffer has to have. */
+size_t luppaneth_disk_len(void);
+size_t luppaneth_memory_len(void);
+size_t luppaneth_tail_len(void);
+size_t luppaneth_text_len(void);
+
+/* ---- The layer that holds state and buffers
+ *
+ * Each call returns 0 for done, a luppaneth_number (1 to 14) where refused, or LUP_CUT, which none gives with LUPPANETH_ALL stores allowed. What is
+ * handed out through a pointer is 0 (for read NULL) unless the call is done. A `struct luppaneth` has 63,256 bytes: keep it static or on the heap. */
+
+#define LUP_CUT (-1)
+
+struct luppaneth {
+    struct luppaneth_state state;
+    unsigned char memory[LUPPANETH_MEMORY_LEN]; /* the pattern; read it freely between calls */
+    unsigned char tail[LUPPANETH_TAIL_LEN];     /* groups not yet on disk */
+    unsigned char disk[LUPPANETH_DISK_LEN];     /* fill it from the real disk, then restart */
+    size_t stores;                              /* stores made by the last flush, checkpoint or restart */
+};
+
+/* Takes a reply over: the state, the count of stores; the answer as one int. */
+static inline int lup_take(struct luppaneth *l, const struct luppaneth_reply *r)
+{
+    l->state = r->state;
+    l->stores = r->stores;
+    return r->answer == LUPPANETH_ANSWER_CUT ? LUP_CUT : r->number;
+}
+
+/* An all-zero disk, unrecovered: read the real disk into l->disk and restart. */
+static inline void lup_init(struct luppaneth *l)
+{
+    memset(l, 0, sizeof *l);
+    l->state = luppaneth_unrecovered();
+}
+
+static inline int lup_restart(struct luppaneth *l, size_t allowed, uint32_t *undone)
+{
+    struct luppaneth_reply r =
+        luppaneth_restart(l->disk, sizeof l->disk, l->memory, sizeof l->memory, l->tail, sizeof l->tail, allowed);
+    *undone = r.value;
+    return lup_take(l, &r);
+}
+
+static inline int lup_begin(struct luppaneth *l, uint16_t *id)
+{
+    struct luppaneth_reply r = luppaneth_begin(l->state, l->memory, sizeof l->memory, l->tail, sizeof l->tail);
+    *id = (uint16_t)r.value;
+    return lup_take(l, &r);
+}
+
+static inline int lup_write(struct luppaneth *l, uint16_t id, size_t addr, const void *bytes, size_t len)
+{
+    struct luppaneth_reply r = luppaneth_write(l->state, l->memory, sizeof l->memory, l->tail, sizeof l->tail, id, addr,
+                                               (const unsigned char *)bytes, len);
+    return lup_take(l, &r);
+}
+
+/* *part: the len bytes of memory themselves; a later call may change them. */
+static inline int lup_read(struct luppaneth *l, uint16_t id, size_t addr, size_t len, const unsigned char **part)
+{
+    struct luppaneth_reply r;
+    *part = NULL;
+    /* a read that is done has at least one byte */
+    if (luppaneth_read(l->state, l->memory, sizeof l->memory, l->tail, sizeof l->tail, id, addr, len) != 0) {
+        *part = l->memory + addr;
+        return 0;
+    }
+    r = luppaneth_read_answer(l->state, l->memory, sizeof l->memory, l->tail, sizeof l->tail, id, addr, len);
+    return lup_take(l, &r);
+}
+
+static inline int lup_precommit(struct luppaneth *l, uint16_t id, uint32_t *csn)
+{
+    struct luppaneth_reply r = luppaneth_precommit(l->state, l->memory, sizeof l->memory, l->tail, sizeof l->tail, id);
+    *csn = r.value;
+    return lup_take(l, &r);
+}
+
+static inline int lup_abort(struct luppaneth *l, uint16_t id)
+{
+    struct luppaneth_reply r = luppaneth_abort(l->state, l->memory, sizeof l->memory, l->tail, sizeof l->tail, id);
+    return lup_take(l, &r);
+}
+
+static inline int lup_flush(struct luppaneth *l, size_t groups, size_t allowed)
+{
+    struct luppaneth_reply r = luppaneth_flush(l->state, l->disk, sizeof l->disk, l->memory, sizeof l->memory, l->tail, sizeof l->tail,
+                                               groups, allowed);
+    return lup_take(l, &r);
+}
+
+static inline int lup_settle(struct luppaneth *l, uint16_t id)
+{
+    struct luppaneth_reply r = luppaneth_settle(l->state, l->memory, sizeof l->memory, l->tail, sizeof l->tail, id);
+    return lup_take(l, &r);
+}
+
+static inline int lup_checkpoint(struct luppaneth *l, size_t allowed)
+{
+    struct luppaneth_reply r = luppaneth_checkpoint(l->state, l->disk, sizeof l->disk, l->memory, sizeof l->memory, l->tail,
+                                                    sizeof l->tail, allowed);
+    return lup_take(l, &r);
+}
+
+/* What a lup_ call returned, in words. */
+static inline const char *lup_text(int answer)
+{
+    static const char *const texts[] = {
+        "done",
+        "a buffer has a wrong length",
+        "the state is unrecovered or broken, or the tail isn't its own",
+        "the disk's pointer byte is above 2",
+        "the disk's image breaks a rule",
+        "the disk's log has no room for what has to be undone",
+        "no transaction has this id",
+        "the transaction has precommitted",
+        "the range is empty, longer than 32 bytes or outside memory",
+        "another transaction holds a byte of the range",
+        "the transaction has 16 writes",
+        "8 transactions are open",
+        "no id or commit number is left",
+        "the log is full",
+        "the booking isn't on disk yet",
+    };
+    if (answer == LUP_CUT)
+        return "cut short";
+    if (answer < 0 || (size_t)answer >= sizeof texts / sizeof texts[0])
+        return "no answer of this store";
+    return texts[answer];
+}
+
+#ifdef __cplusplus
+}
+#endif
+
+#endif
