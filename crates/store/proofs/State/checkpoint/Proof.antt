@@ -7,6 +7,14 @@ use Rattle.store.proofs.Checkpointing.{Encoded, checkpoint-refused, ima
 use Rattle.store.proofs.State.checkpoint.Statement.{statement}
 use Rattle.store.proofs.State.checkpoint.Tie as tie
 
+-- places of the code by name
+
+abbrev afterStoreImageFromSliceKnown6 : tie.After-slice-known6 → tie.After-store-image
+afterStoreImageFromSliceKnown6 c = c .before .before .before .before .before .before .before .before .before .before
+
+abbrev afterEncodeFromSliceKnown6 : tie.After-slice-known6 → tie.After-encode
+afterEncodeFromSliceKnown6 c = c .before .before .before .before .before .before .before .before .before .before .before .before .before .before
+
 admit-disk-requires : tie.Need-admit-disk-requires
 admit-disk-requires c κs = search needs
 
@@ -82,9 +90,9 @@ same-length-4 c = search needs
 
 returns-2 : tie.Need-returns-2
 returns-2 c =
-    let e = c .before .before .before .before .before .before .before .before .before .before .before .before .before .before in
+    let e = afterEncodeFromSliceKnown6 c in
     let a = start (entered e) .args in
-    let made = c .before .before .before .before .before .before .before .before .before .before .store-image in
+    let made = afterStoreImageFromSliceKnown6 c .store-image in
     let off = c .before .before .before .before .cut-off in
     leaves
     (checkpoint-cut (a .self) (a .disk .now) (a .memory .now) (a .tail .now) (a .allowed) (passed (entered e)) (e .encode .result) (made .result)

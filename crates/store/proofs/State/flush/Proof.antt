@@ -8,6 +8,23 @@ use Rattle.store.proofs.Flushing.{Room, flush-refused, flush-fits, flus
 use Rattle.store.proofs.State.flush.Statement.{statement}
 use Rattle.store.proofs.State.flush.Tie as tie
 
+-- places of the code by name
+
+abbrev afterCopyUpFromFlushStep : tie.After-flush-step → tie.After-copy-up
+afterCopyUpFromFlushStep c = c .before .before .before .before .before .before .before .before
+
+abbrev afterCopyUpFromSliceKnown6 : tie.After-slice-known6 → tie.After-copy-up
+afterCopyUpFromSliceKnown6 c = c .before .before .before .before .before .before .before .before .before .before
+
+abbrev afterReadFirstFromSliceKnown7 : tie.After-slice-known7 → tie.After-read-first
+afterReadFirstFromSliceKnown7 c = c .before .before .before .before .before .before .before .before .before .before .before
+
+abbrev afterReadFirstFromFlushStep : tie.After-flush-step → tie.After-read-first
+afterReadFirstFromFlushStep c = afterReadFirstFromSliceKnown7 (c .before)
+
+abbrev afterReadFirstFromSliceKnown6 : tie.After-slice-known6 → tie.After-read-first
+afterReadFirstFromSliceKnown6 c = c .before .before .before .before .before .before .before .before .before .before .before .before .before .before
+
 admit-disk-requires : tie.Need-admit-disk-requires
 admit-disk-requires c κs = search needs
 
@@ -83,9 +100,9 @@ same-length-4 c = search needs
 
 returns-2 : tie.Need-returns-2
 returns-2 c =
-    let r = c .before .before .before .before .before .before .before .before .before .before .before .before .before .before in
+    let r = afterReadFirstFromSliceKnown6 c in
     let a = start (entered r) .args in
-    let up = c .before .before .before .before .before .before .before .before .before .before .copy-up in
+    let up = afterCopyUpFromSliceKnown6 c .copy-up in
     let off = c .before .before .before .before .cut-off in
     leaves
     (flush-cut (a .self) (a .disk .now) (a .memory .now) (a .tail .now) (a .k) (a .allowed) (passed (entered r)) (r .read-first .result)
@@ -97,7 +114,7 @@ shift-down-requires : tie.Need-shift-down-requires
 shift-down-requires c κs = search needs
 
 flush-step-requires : tie.Need-flush-step-requires
-flush-step-requires c κs = room (c .before .before .before .before .before .before .before .before .before .before .before) .log
+flush-step-requires c κs = room (afterReadFirstFromSliceKnown7 c) .log
 
 same-length-5 : tie.Need-same-length-5
 same-length-5 c = search needs
@@ -107,9 +124,9 @@ same-length-6 c = search needs
 
 returns-3 : tie.Need-returns-3
 returns-3 c =
-    let r = c .before .before .before .before .before .before .before .before .before .before .before .before in
+    let r = afterReadFirstFromFlushStep c in
     let a = start (entered r) .args in
-    let up = c .before .before .before .before .before .before .before .before .copy-up in
+    let up = afterCopyUpFromFlushStep c .copy-up in
     leaves
     (flush-done (a .self) (a .disk .now) (a .memory .now) (a .tail .now) (a .k) (a .allowed) (passed (entered r)) (r .read-first .result)
     (r .read-first .ensures) (up .result) (up .last .0) (up .ensures .0) (up .ensures .1) (c .before .before .before .before .before .if2 .left))

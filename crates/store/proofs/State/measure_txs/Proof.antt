@@ -34,6 +34,11 @@ Inv-loop self n last assigned keys room₀ i₀ room i =
 abbrev μ-loop : tie.MeasureT-loop
 μ-loop self n last assigned keys room₀ i₀ room i = n - i
 
+-- places of the code by name
+
+abbrev entryFromRoom : tie.After-room Inv-loop μ-loop → tie.Start Inv-loop μ-loop
+entryFromRoom c = c .before .before .before .before .before .before .before .before .before .before .before .before .before .before
+
 cast-n : tie.Need-cast-n Inv-loop μ-loop
 cast-n c = search needs
 
@@ -148,7 +153,7 @@ small c =
 
 add-room : tie.Need-add-room Inv-loop μ-loop
 add-room c =
-    let g = c .before .before .before .before .before .before .before .before .before .before .before .before .before .before .pre in omega (arith, small c)
+    let g = entryFromRoom c .pre in omega (arith, small c)
 
 add-i : tie.Need-add-i Inv-loop μ-loop
 add-i c = search needs

@@ -11,6 +11,11 @@ use Rattle.store.proofs.Slots.{withSlots}
 use Rattle.store.proofs.State.write_step.Statement.{statement}
 use Rattle.store.proofs.State.write_step.Tie as tie
 
+-- places of the code by name
+
+abbrev entryFromSliceKnown2 : tie.After-slice-known2 → tie.Start
+entryFromSliceKnown2 c = c .before .before .before .before .before .before .before .before .before .before
+
 mul-t : tie.Need-mul-t
 mul-t c = search needs
 
@@ -50,7 +55,7 @@ same-length c = search needs
 returns : tie.Need-returns
 unfolding writtenState
 returns c =
-    let args = c .before .before .before .before .before .before .before .before .before .before .args in
+    let args = entryFromSliceKnown2 c .args in
     let s = args .t1 in
     let a = args .addr in
     let bs = args .bytes .now in

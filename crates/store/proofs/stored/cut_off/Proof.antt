@@ -4,6 +4,11 @@ use Rattle.store.specs.Answer.{cut, tells}
 use Rattle.store.proofs.stored.cut_off.Statement.{statement}
 use Rattle.store.proofs.stored.cut_off.Tie as tie
 
+-- places of the code by name
+
+abbrev entryFromUnrecovered : tie.After-unrecovered → tie.Start
+entryFromUnrecovered c = c .before .before .before .before .before .before .before .before .before .before .before
+
 fill-zero-requires : tie.Need-fill-zero-requires
 fill-zero-requires c κs = search needs
 
@@ -21,7 +26,7 @@ same-length-2 c = search needs
 
 returns : tie.Need-returns
 returns c = (
-  ap (tells cut 0 (c .before .before .before .before .before .before .before .before .before .before .before .args .stores)) (c .unrecovered .ensures),
+  ap (tells cut 0 (entryFromUnrecovered c .args .stores)) (c .unrecovered .ensures),
   (c .before .before .before .before .before .before .before .fill-zero .ensures, c .before .before .before .fill-zero2 .ensures),
 )
 

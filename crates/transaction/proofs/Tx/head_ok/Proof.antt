@@ -4,6 +4,29 @@ use Rattle.transaction.specs.Rules.{headOk}
 use Rattle.transaction.proofs.Tx.head_ok.Statement.{statement}
 use Rattle.transaction.proofs.Tx.head_ok.Tie as tie
 
+-- places of the code by name
+
+abbrev entryFromStructKnown5 : tie.After-struct-known5 → tie.Start
+entryFromStructKnown5 c = c .before .before .before .before .before .before .before .before
+
+abbrev else2FromStructKnown9 : tie.After-struct-known9 → tie.Else2
+else2FromStructKnown9 c = c .before .before .before .before .before .before .before .before
+
+abbrev entryFromThen4 : tie.Then4 → tie.Start
+entryFromThen4 c = c .before .before .before .before .before .before .before .before .before
+
+abbrev else1FromThen5 : tie.Then5 → tie.Else1
+else1FromThen5 c = c .before .before .before .before .before .before .before .before .before
+
+abbrev entryFromThen5 : tie.Then5 → tie.Start
+entryFromThen5 c = c .before .before .before .before .before .before .before .before .before .before .before
+
+abbrev else1FromStructKnown9 : tie.After-struct-known9 → tie.Else1
+else1FromStructKnown9 c = c .before .before .before .before .before .before .before .before .before .before .before
+
+abbrev entryFromStructKnown9 : tie.After-struct-known9 → tie.Start
+entryFromStructKnown9 c = c .before .before .before .before .before .before .before .before .before .before .before .before .before
+
 returns : tie.Need-returns
 unfolding headOk
 returns c = simp (lt-leb 1 (c .before .before .args .self .id .0) (omega (arith, c .if1 .taken)))
@@ -19,7 +42,7 @@ returns-2 c = simp (
 returns-3 : tie.Need-returns-3
 unfolding headOk
 returns-3 c = simp (
-  le-leb 1 (c .before .before .before .before .before .before .before .before .args .self .id .0)
+  le-leb 1 (entryFromStructKnown5 c .args .self .id .0)
       (omega (arith, c .before .before .before .before .before .before .if1 .left)),
   le-leb _ _ (c .before .before .before .if2 .left),
   eq-eqb _ _
@@ -29,7 +52,7 @@ returns-3 c = simp (
 returns-4 : tie.Need-returns-4
 unfolding headOk
 returns-4 c = simp (
-  le-leb 1 (c .before .before .before .before .before .before .before .before .before .args .self .id .0)
+  le-leb 1 (entryFromThen4 c .args .self .id .0)
       (omega (arith, c .before .before .before .before .before .before .before .if1 .left)),
   le-leb _ _
       (c .before .before .before .before .if2 .left),
@@ -40,9 +63,9 @@ returns-4 c = simp (
 returns-5 : tie.Need-returns-5
 unfolding headOk
 returns-5 c =
-    let args = c .before .before .before .before .before .before .before .before .before .before .before .args in
+    let args = entryFromThen5 c .args in
     simp (
-      le-leb 1 (args .self .id .0) (omega (arith, c .before .before .before .before .before .before .before .before .before .if1 .left)),
+      le-leb 1 (args .self .id .0) (omega (arith, else1FromThen5 c .if1 .left)),
       le-leb _ _
           (c .before .before .before .before .before .before .if2 .left),
       ne-eqb _ _ (c .before .before .before .before .if3 .left),
@@ -54,12 +77,12 @@ returns-5 c =
 returns-6 : tie.Need-returns-6
 unfolding headOk
 returns-6 c =
-    let args = c .before .before .before .before .before .before .before .before .before .before .before .before .before .args in
+    let args = entryFromStructKnown9 c .args in
     simp (
       le-leb 1 (args .self .id .0)
-          (omega (arith, c .before .before .before .before .before .before .before .before .before .before .before .if1 .left)),
+          (omega (arith, else1FromStructKnown9 c .if1 .left)),
       le-leb _ _
-          (c .before .before .before .before .before .before .before .before .if2 .left),
+          (else2FromStructKnown9 c .if2 .left),
       ne-eqb _ _
           (c .before .before .before .before .before .before .if3 .left),
       eq-eqb _ _ (c .before .before .before .before .if4 .left),

@@ -8,6 +8,11 @@ use Rattle.transaction.proofs.Writes.{sized}
 use Rattle.transaction.proofs.Tx.put_group.Statement.{statement}
 use Rattle.transaction.proofs.Tx.put_group.Tie as tie
 
+-- places of the code by name
+
+abbrev entryFromBytes2 : tie.After-bytes2 → tie.Start
+entryFromBytes2 c = c .before .before .before .before .before .before .before .before .before .before
+
 cast-n : tie.Need-cast-n
 cast-n c = search needs
 
@@ -28,7 +33,7 @@ slice-aggregate-put-group-3 c = search needs
 
 put-group-requires : tie.Need-put-group-requires
 put-group-requires c κs =
-    let s = c .before .before .before .before .before .before .before .before .before .before in
+    let s = entryFromBytes2 c in
     let r = s .args .self .redo in
     let l = lengths (c .before .before .before .before .before .before .before) in
     let n = counted r (s .pre .0) in

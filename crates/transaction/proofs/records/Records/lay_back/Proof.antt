@@ -22,6 +22,14 @@ Inv-loop memory₀ self bytes n i₀ memory i =
 abbrev μ-loop : tie.MeasureT-loop
 μ-loop memory₀ self bytes n i₀ memory i = n - i
 
+-- places of the code by name
+
+abbrev testedFromSliceKnown2 : tie.After-slice-known2 Inv-loop μ-loop → tie.In-loop Inv-loop μ-loop
+testedFromSliceKnown2 c = c .before .before .before .before .before .before .before .before
+
+abbrev entryFromCopy : tie.After-copy Inv-loop μ-loop → tie.Start Inv-loop μ-loop
+entryFromCopy c = c .before .before .before .before .before .before .before .before .before .before
+
 cast-n : tie.Need-cast-n Inv-loop μ-loop
 cast-n c = search needs
 
@@ -49,13 +57,13 @@ hand c = c .before .before .before .before .args .t1 .count - (c .before .loop .
 
 -- it is what the turn lays
 laid : (c : tie.After-copy Inv-loop μ-loop)
-    → let r = c .before .before .before .before .before .before .before .before .before .before .args .t1 in
+    → let r = entryFromCopy c .args .t1 in
     let k = hand (c .before .before .before .before .before .before) in
     undoAll layBytes (writesFrom (r .addr) (r .len) (r .bytes) k 0)
     (layBytes (writeAt (r .addr) (r .len) (r .bytes) k) (c .before .before .before .before .before .before .before .loop .memory))
     ≡ undoAll layBytes (writesFrom (r .addr) (r .len) (r .bytes) k 0) (c .copy .last .0)
 laid c =
-    let r = c .before .before .before .before .before .before .before .before .before .before .args .t1 in
+    let r = entryFromCopy c .args .t1 in
     let k = hand (c .before .before .before .before .before .before) in
     let m = c .before .before .before .before .before .before .before .loop .memory in
     let e : k * 32 + getD (r .len) k 0 - k * 32 ≡ getD (r .len) k 0 = omega arith in
@@ -115,11 +123,11 @@ copy-requires c κs =
     omega (arith, l, h, c .before .before .before .before .before .before .loop .inv .1)
 
 loop-less : tie.Need-loop-less Inv-loop μ-loop
-loop-less c = omega (arith, c .before .before .before .before .before .before .before .before .loop-test .taken)
+loop-less c = omega (arith, testedFromSliceKnown2 c .loop-test .taken)
 
 loop-again : tie.Need-loop-again Inv-loop μ-loop
 loop-again c =
-    let t = c .before .before .before .before .before .before .before .before in
+    let t = testedFromSliceKnown2 c in
     let v = t .before .loop .inv in
     let h : t .before .before .before .before .args .t1 .count - t .before .loop .i ≡ suc (hand t) = omega (arith, t .loop-test .taken) in
     (omega (arith, t .loop-test .taken), c .before .before .copy .kept .0 ∙ v .1, v .2 ∙ undo-turn _ _ _ _ _ _ h ∙ laid (c .before .before))

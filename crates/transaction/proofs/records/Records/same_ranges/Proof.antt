@@ -20,6 +20,14 @@ Inv-loop self other n i₀ i =
 abbrev μ-loop : tie.MeasureT-loop
 μ-loop self other n i₀ i = n - i
 
+-- places of the code by name
+
+abbrev entryFromThen3 : tie.Then3 Inv-loop μ-loop → tie.Start Inv-loop μ-loop
+entryFromThen3 c = c .before .before .before .before .before .before .before .before .before
+
+abbrev entryFromElse3 : tie.Else3 Inv-loop μ-loop → tie.Start Inv-loop μ-loop
+entryFromElse3 c = c .before .before .before .before .before .before .before .before .before
+
 returns : tie.Need-returns Inv-loop μ-loop
 returns c =
     let r = c .before .args .t1 in
@@ -62,7 +70,7 @@ element-copy-out-if3-2 c = search needs
 
 returns-3 : tie.Need-returns-3 Inv-loop μ-loop
 returns-3 c =
-    let args = c .before .before .before .before .before .before .before .before .before .args in
+    let args = entryFromThen3 c .args in
     let r = args .t1 in
     let q = args .t2 in
     sym
@@ -78,7 +86,7 @@ loop-less c = search needs
 
 loop-again : tie.Need-loop-again Inv-loop μ-loop
 loop-again c =
-    let args = c .before .before .before .before .before .before .before .before .before .args in
+    let args = entryFromElse3 c .args in
     let r = args .t1 in
     let q = args .t2 in (
       omega arith,
