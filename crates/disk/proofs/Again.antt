@@ -4,17 +4,17 @@ use native.Mathlib.Decide.{decLe}
 use native.Mathlib.Omega.{arith}
 use mathlib.Core.Bool.{Bool, true, false, cond}
 use mathlib.Core.List.{List, [], _++_, append-nil}
-use mathlib.Core.Path.{_≡_, refl, sym, ap, ap₂, _∙_, subst}
+use mathlib.Core.Path.{_≡_, refl, sym, ap, _∙_, subst}
 use lib.ListN.{length, take, drop, replicate, length-drop, List·getD-append, drop-of-length-le}
-use lib.Seq.{take-all, take-take, take-append-le, drop-append-le, length-take-le, getD-take}
+use lib.Seq.{take-take, take-append-le, drop-append-le, length-take-le, getD-take}
 use lib.Dec.{eqb, ltb}
 use borrow.Author.Tests.{eqb-true, eqb-false}
 use Rattle.recovery.specs.Group.{Group, groupsSize}
 use Rattle.recovery.proofs.Groups.{fitting-all}
-use Rattle.log.specs.Stores.{Store, apply, clears}
+use Rattle.log.specs.Stores.{Store, apply}
 use Rattle.log.specs.Log.{readLog}
 use Rattle.log.proofs.RoundTrip.{drop-take}
-use Rattle.log.proofs.StoreLaws.{length-clears, take-clears, apply-clears, length-apply}
+use Rattle.log.proofs.StoreLaws.{first-clears, apply-clears, length-apply}
 use Rattle.log.proofs.Torn.{log-torn}
 use Rattle.image.specs.declared.Image.{Image}
 use Rattle.restart.specs.Forward.{startOf, groupsOf, goOver, forwardOf}
@@ -30,21 +30,7 @@ use Rattle.disk.proofs.Examining.{roomy, means}
 use Rattle.disk.proofs.Accepted.{imageIn, memoryIn, logIn, stepsIn, Accepted, accepted-is}
 use Rattle.disk.proofs.Restarting.{cutFrom, doneFrom, restart-meant, restart-refused, restart-cut, restart-done}
 
--- the first n stores of a clearing are those at its highest offsets
-first-clears : (n low k : ℕ) → take n (clears low k) ≡ clears (low + (k - n)) (k - (k - n))
-first-clears n low k =
-    elim (decLe n k) [
-      | yes h ↦
-          let e : k ≡ n + (k - n) = omega (arith, h) in
-          let f : n ≡ k - (k - n) = omega (arith, h) in
-          ap (λ (x : ℕ). take n (clears low x)) e ∙ take-clears n low (k - n) ∙ ap (clears (low + (k - n))) f
-      | no h ↦
-          let e : low ≡ low + (k - n) = omega (arith, h) in
-          let f : k ≡ k - (k - n) = omega (arith, h) in
-          take-all n (clears low k) (omega (arith, h, length-clears low k)) ∙ ap₂ clears e f
-    ]
-
--- what they leave: the front as it was, and zeros
+-- what the first n stores of a clearing leave: the front as it was, and zeros
 pub cleared : (n end : ℕ) (disk : List ℕ) → length disk ≡ 33691 → end ≤ 16384
     → apply (take n (clearing end)) disk ≡ take (17307 + end + (16384 - end - n)) disk ++ replicate (16384 - end - (16384 - end - n)) 0
 cleared n end disk d h =
