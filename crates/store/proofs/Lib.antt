@@ -6,6 +6,7 @@ pub mod Fits
 pub mod Shift
 pub mod Admitting
 pub mod Choosing
+pub mod Bare
 pub mod Calling
 pub mod Positions
 pub mod Appending

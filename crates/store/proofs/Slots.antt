@@ -5,7 +5,7 @@ use native.Mathlib.Omega.{arith}
 use native.Mathlib.Numerals.{add-one}
 use mathlib.Core.Bool.{Bool, true, false, cond, _||_}
 use mathlib.Core.List.{List, map}
-use mathlib.Core.Path.{_≡_, refl, sym, ap, _∙_}
+use mathlib.Core.Path.{_≡_, refl, sym, ap, ap₂, _∙_}
 use lib.ListN.{length, length-map}
 use Rattle.recovery.specs.Lists.{any}
 use Rattle.transaction.specs.declared.Tx.{Tx}
@@ -27,6 +27,12 @@ module _ (s : State) (id n i : ℕ) (h : i < n) where
 
   pub slot-miss : hasId id (txAt s i) ≡ false → slotIn id i (upFrom (txAt s) (n - i) i) ≡ slotIn id (i + 1) (upFrom (txAt s) (n - (i + 1)) (i + 1))
   slot-miss e = turn ∙ rw e
+
+pub slot-same : (f g : ℕ → Tx) (id k i : ℕ) → ((j : ℕ) → i ≤ j → j < i + k → hasId id (f j) ≡ hasId id (g j))
+    → slotIn id i (upFrom f k i) ≡ slotIn id i (upFrom g k i)
+slot-same f g id zero i e = refl
+slot-same f g id (suc k) i e =
+    ap₂ (λ (b : Bool) (n : ℕ). cond b i n) (e i (omega arith) (omega arith)) (slot-same f g id k (suc i) (λ j a b. e j (omega arith) (omega arith)))
 
 -- ---- what is known of it
 

@@ -1,5 +1,6 @@
 -- The store: the state, number 2, the refusals of each call in the list's order, and what each call leaves in memory, tail and disk.
 pub mod State
+pub mod Extents
 pub mod Answer
 pub mod Rules
 pub mod Admission

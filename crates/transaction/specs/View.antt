@@ -1,6 +1,6 @@
 -- What is seen in the flat arrays: ranges and outlines for the rules, writes and recovery's transactions for the meaning.
 use Prim.Native.Nat.{ℕ}
-use mathlib.Core.List.{List}
+use mathlib.Core.List.{List, []}
 use lib.ListN.{getD}
 use lib.Dec.{eqb}
 use Rattle.layout.specs.{statusCommitting}
@@ -8,7 +8,9 @@ use Rattle.recovery.specs.Group.{Write}
 use Rattle.recovery.specs.Transaction.{Tx as Transaction}
 use Rattle.log.specs.Flat.{writesFrom}
 use Rattle.transaction.specs.declared.records.Records.{Records}
+use Rattle.transaction.specs.declared.records.Extents.{Extents}
 use Rattle.transaction.specs.declared.Tx.{Tx}
+use Rattle.transaction.specs.declared.TxExtents.{TxExtents}
 use Rattle.transaction.specs.Lists.{upFrom}
 
 -- an address and a length, as they stand in the arrays: a length that breaks the rule stays visible
@@ -35,3 +37,18 @@ outlineOf t = outline (t .id .0) (t .status) (t .csn .0) (rangesOf (t .undo))
 abbrev pub viewOf : Tx → Transaction
 viewOf t =
     record { id = t .id .0; committing = eqb (t .status) statusCommitting; csn = t .csn .0; undo = writesOf (t .undo); redo = writesOf (t .redo) }
+
+-- ---- without the bytes: what the rules look at
+
+abbrev pub extentsOf : Records → Extents
+extentsOf r = record { count = r .count; addr = r .addr; len = r .len }
+
+abbrev pub txExtentsOf : Tx → TxExtents
+txExtentsOf t = record { id = t .id; status = t .status; csn = t .csn; undo = extentsOf (t .undo); redo = extentsOf (t .redo) }
+
+-- records and a transaction of these extents, without a byte
+abbrev pub bare : Extents → Records
+bare e = record { count = e .count; addr = e .addr; len = e .len; bytes = [] }
+
+abbrev pub bareTx : TxExtents → Tx
+bareTx e = record { id = e .id; status = e .status; csn = e .csn; undo = bare (e .undo); redo = bare (e .redo) }

@@ -1,6 +1,7 @@
 // One transaction: its undo and redo records, the rules that it has to keep, and what a call does to it.
 pub mod records;
 
+use crate::records::Extents;
 use crate::records::Records;
 use layout::COMMIT_LEN;
 use layout::COMMITTING;
@@ -18,7 +19,7 @@ ghost use Rattle.layout.specs.{memoryLen, commitLen, maxRecords, maxWrite, stat
 ghost use Rattle.recovery.specs.Group.{committed};
 ghost use Rattle.log.specs.Group.{encodeGroup};
 ghost use Rattle.transaction.specs.Flat.{emptyTx};
-ghost use Rattle.transaction.specs.View.{rangesOf, writesOf, outline, outlineOf};
+ghost use Rattle.transaction.specs.View.{rangesOf, writesOf, outline, outlineOf, txExtentsOf, bare, bareTx};
 ghost use Rattle.transaction.specs.Rules.{recordsOk, headOk, outlineOk, alike, redoOk, heldAgainst, rangesSize, roomOf};
 ghost use Rattle.transaction.specs.Steps.{freshTx, written, precommitted};
 
@@ -43,6 +44,89 @@ pub fn alike(id: TxId, csn: Csn, other: TxId, number: Csn) -> bool
         return false;
     }
     csn.0 == number.0
+}
+
+// The image rules of id, status and commit number.
+pub fn head_ok(id: TxId, status: u8, number: Csn, last: TxId, assigned: Csn) -> bool
+    ensures { λ r. ⌜ r ≡ headOk (last .0) (assigned .0) (id .0) status (number .0) ⌝ }
+{
+    if id.0 == 0 {
+        return false;
+    }
+    if last.0 < id.0 {
+        return false;
+    }
+    if status == RUNNING {
+        return number.0 == 0;
+    }
+    if status != COMMITTING {
+        return false;
+    }
+    if number.0 == 0 {
+        return false;
+    }
+    number.0 <= assigned.0
+}
+
+// A transaction without the bytes of its records.
+pub struct TxExtents {
+    pub id: TxId,
+    pub status: u8,
+    pub csn: Csn,
+    pub undo: Extents,
+    pub redo: Extents,
+}
+
+impl TxExtents {
+    // The image rules of one transaction.
+    pub fn image_ok(self, last: TxId, assigned: Csn) -> bool
+        ensures { λ r. ⌜ r ≡ outlineOk (last .0) (assigned .0) (outlineOf (bareTx self)) ⌝ }
+    {
+        if !head_ok(self.id, self.status, self.csn, last, assigned) {
+            return false;
+        }
+        let undo = self.undo;
+        undo.ok()
+    }
+
+    // The rule that number 2 adds to those of an image.
+    pub fn redo_ok(self) -> bool
+        requires { ⌜ self .undo .count ≤ maxRecords ⌝ }
+        ensures { λ r. ⌜ r ≡ redoOk (bareTx self) ⌝ }
+    {
+        if self.status != RUNNING {
+            return true;
+        }
+        let undo = self.undo;
+        undo.same_ranges(self.redo)
+    }
+
+    // The log room that it has reserved.
+    pub fn room(self) -> usize
+        requires { ⌜ (self .status ≡ statusRunning → recordsOk (rangesOf (bare (self .redo))) ≡ true) ⌝ }
+        ensures { λ r. ⌜ r ≡ roomOf (bareTx self) ⌝ }
+    {
+        if self.status != RUNNING {
+            return 0;
+        }
+        let redo = self.redo;
+        redo.size() + COMMIT_LEN
+    }
+
+    // Whether it holds one of the len bytes from addr on against the transaction of this id.
+    pub fn holds_against(self, id: TxId, addr: usize, len: usize) -> bool
+        requires { ⌜ (self .undo .count ≤ maxRecords) × (addr ≤ memoryLen) × (len ≤ maxWrite) ⌝ }
+        ensures { λ r. ⌜ r ≡ heldAgainst (id .0) addr len (bareTx self) ⌝ }
+    {
+        if id.0 == self.id.0 {
+            return false;
+        }
+        if self.status != RUNNING {
+            return false;
+        }
+        let undo = self.undo;
+        undo.meets(addr, len)
+    }
 }
 
 impl Tx {
@@ -73,76 +157,30 @@ impl Tx {
         }
     }
 
-    // The image rules of id, status and commit number.
-    fn head_ok(self, last: TxId, assigned: Csn) -> bool
-        ensures { λ r. ⌜ r ≡ headOk (last .0) (assigned .0) (self .id .0) (self .status) (self .csn .0) ⌝ }
+    pub fn extents(self) -> TxExtents
+        ensures { λ r. ⌜ r ≡ txExtentsOf self ⌝ }
     {
-        if self.id.0 == 0 {
-            return false;
+        let id = self.id;
+        let csn = self.csn;
+        let undo = self.undo;
+        let redo = self.redo;
+        let u = undo.extents();
+        let r = redo.extents();
+        TxExtents {
+            id: id,
+            status: self.status,
+            csn: csn,
+            undo: u,
+            redo: r,
         }
-        if last.0 < self.id.0 {
-            return false;
-        }
-        if self.status == RUNNING {
-            return self.csn.0 == 0;
-        }
-        if self.status != COMMITTING {
-            return false;
-        }
-        if self.csn.0 == 0 {
-            return false;
-        }
-        self.csn.0 <= assigned.0
     }
 
     // The image rules of one transaction.
     pub fn image_ok(self, last: TxId, assigned: Csn) -> bool
         ensures { λ r. ⌜ r ≡ outlineOk (last .0) (assigned .0) (outlineOf self) ⌝ }
     {
-        if !self.head_ok(last, assigned) {
-            return false;
-        }
-        let undo = self.undo;
-        undo.ok()
-    }
-
-    // The rule that number 2 adds to those of an image.
-    pub fn redo_ok(self) -> bool
-        requires { ⌜ self .undo .count ≤ maxRecords ⌝ }
-        ensures { λ r. ⌜ r ≡ redoOk self ⌝ }
-    {
-        if self.status != RUNNING {
-            return true;
-        }
-        let undo = self.undo;
-        undo.same_ranges(self.redo)
-    }
-
-    // The log room that it has reserved.
-    pub fn room(self) -> usize
-        requires { ⌜ (self .status ≡ statusRunning → recordsOk (rangesOf (self .redo)) ≡ true) ⌝ }
-        ensures { λ r. ⌜ r ≡ roomOf self ⌝ }
-    {
-        if self.status != RUNNING {
-            return 0;
-        }
-        let redo = self.redo;
-        redo.size() + COMMIT_LEN
-    }
-
-    // Whether it holds one of the len bytes from addr on against the transaction of this id.
-    pub fn holds_against(self, id: TxId, addr: usize, len: usize) -> bool
-        requires { ⌜ (self .undo .count ≤ maxRecords) × (addr ≤ memoryLen) × (len ≤ maxWrite) ⌝ }
-        ensures { λ r. ⌜ r ≡ heldAgainst (id .0) addr len self ⌝ }
-    {
-        if id.0 == self.id.0 {
-            return false;
-        }
-        if self.status != RUNNING {
-            return false;
-        }
-        let undo = self.undo;
-        undo.meets(addr, len)
+        let seen = self.extents();
+        seen.image_ok(last, assigned)
     }
 
     // One undo record and one redo record more.

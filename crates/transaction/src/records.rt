@@ -12,7 +12,7 @@ ghost use Rattle.layout.specs.{memoryLen, maxRecords, maxWrite};
 ghost use Rattle.recovery.specs.Lists.{any};
 ghost use Rattle.recovery.specs.Replay.{undoAll, layBytes};
 ghost use Rattle.transaction.specs.Flat.{emptyRecords};
-ghost use Rattle.transaction.specs.View.{rangesOf, writesOf};
+ghost use Rattle.transaction.specs.View.{rangesOf, writesOf, extentsOf, bare};
 ghost use Rattle.transaction.specs.Rules.{recordsOk, sameRanges, meets, rangesSize};
 ghost use Rattle.transaction.specs.Steps.{pushed};
 
@@ -25,21 +25,17 @@ pub struct Records {
     pub bytes: [u8; MAX_RECORDS * MAX_WRITE],
 }
 
-impl Records {
-    pub fn empty() -> Self
-        ensures { λ r. ⌜ r ≡ emptyRecords ⌝ }
-    {
-        Records {
-            count: 0,
-            addr: [0; MAX_RECORDS],
-            len: [0; MAX_RECORDS],
-            bytes: [0; MAX_RECORDS * MAX_WRITE],
-        }
-    }
+// Records without their bytes: the rules look at no more, and handing on the bytes takes time.
+pub struct Extents {
+    pub count: u8,
+    pub addr: [u16; MAX_RECORDS],
+    pub len: [u8; MAX_RECORDS],
+}
 
+impl Extents {
     // At most MAX_RECORDS, and each keeps the range rule.
     pub(crate) fn ok(self) -> bool
-        ensures { λ r. ⌜ r ≡ recordsOk (rangesOf self) ⌝ }
+        ensures { λ r. ⌜ r ≡ recordsOk (rangesOf (bare self)) ⌝ }
     {
         let n = self.count as usize;
         if MAX_RECORDS < n {
@@ -56,9 +52,9 @@ impl Records {
     }
 
     // Whether the other records are as many, with the same ranges one by one.
-    pub(crate) fn same_ranges(self, other: Records) -> bool
+    pub(crate) fn same_ranges(self, other: Extents) -> bool
         requires { ⌜ self .count ≤ maxRecords ⌝ }
-        ensures { λ r. ⌜ r ≡ sameRanges (rangesOf self) (rangesOf other) ⌝ }
+        ensures { λ r. ⌜ r ≡ sameRanges (rangesOf (bare self)) (rangesOf (bare other)) ⌝ }
     {
         if self.count != other.count {
             return false;
@@ -80,7 +76,7 @@ impl Records {
     // Whether a record has a byte in common with the len bytes from addr on.
     pub(crate) fn meets(self, addr: usize, len: usize) -> bool
         requires { ⌜ (self .count ≤ maxRecords) × (addr ≤ memoryLen) × (len ≤ maxWrite) ⌝ }
-        ensures { λ r. ⌜ r ≡ any (meets addr len) (rangesOf self) ⌝ }
+        ensures { λ r. ⌜ r ≡ any (meets addr len) (rangesOf (bare self)) ⌝ }
     {
         let n = self.count as usize;
         let mut i: usize = 0;
@@ -99,8 +95,8 @@ impl Records {
 
     // The bytes that these records take in the log as redo records.
     pub(crate) fn size(self) -> usize
-        requires { ⌜ recordsOk (rangesOf self) ≡ true ⌝ }
-        ensures { λ r. ⌜ r ≡ rangesSize (rangesOf self) ⌝ }
+        requires { ⌜ recordsOk (rangesOf (bare self)) ≡ true ⌝ }
+        ensures { λ r. ⌜ r ≡ rangesSize (rangesOf (bare self)) ⌝ }
     {
         let n = self.count as usize;
         let mut sum: usize = 0;
@@ -111,6 +107,31 @@ impl Records {
         }
         sum
     }
+}
+
+impl Records {
+    pub fn empty() -> Self
+        ensures { λ r. ⌜ r ≡ emptyRecords ⌝ }
+    {
+        Records {
+            count: 0,
+            addr: [0; MAX_RECORDS],
+            len: [0; MAX_RECORDS],
+            bytes: [0; MAX_RECORDS * MAX_WRITE],
+        }
+    }
+
+    pub(crate) fn extents(self) -> Extents
+        ensures { λ r. ⌜ r ≡ extentsOf self ⌝ }
+    {
+        let addr = self.addr;
+        let len = self.len;
+        Extents {
+            count: self.count,
+            addr: addr,
+            len: len,
+        }
+    }
 
     // One record more.
     pub fn push(mut self, addr: u16, src: &[u8]) -> Self
@@ -118,9 +139,12 @@ impl Records {
         ensures { λ r. ⌜ r ≡ pushed self addr (now (src .entry)) ⌝ }
     {
         let k = self.count as usize;
-        let mut b = self.bytes;
-        copy(&mut b, k * MAX_WRITE, src);
-        self.bytes = b;
+        let from = k * MAX_WRITE;
+        let mut i: usize = 0;
+        while i < src.len() {
+            self.bytes[from + i] = src[i];
+            i += 1;
+        }
         self.addr[k] = addr;
         self.len[k] = src.len() as u8;
         self.count = self.count + 1;

@@ -4,19 +4,36 @@ use native.Mathlib.Omega.{arith}
 use mathlib.Core.List.{[], _∷_}
 use mathlib.Core.Path.{_≡_, sym, ap, _∙_}
 use lib.ListN.{length, take, drop}
+use Rattle.store.specs.declared.State.{State}
 use Rattle.store.specs.Numbers.{readChecks, check7, check8, check9}
+use Rattle.store.specs.Admission.{admission, choice}
 use Rattle.store.specs.Calls.{readNumber}
+use Rattle.store.proofs.Bare.{read-checks, admitted-by, seen-by, chosen-by}
 use Rattle.store.proofs.Admitting.{number-after, seen}
 use Rattle.store.proofs.Choosing.{choice-own, running, ranged-by-8}
 use Rattle.store.proofs.Calling.{Placed, placed, read-refused, read-done}
 use Rattle.store.proofs.State.read.Statement.{statement}
 use Rattle.store.proofs.State.read.Tie as tie
 
+extents-requires : tie.Need-extents-requires
+extents-requires c κs = search needs
+
 admit-requires : tie.Need-admit-requires
 admit-requires c κs = search needs
 
+-- what is decided by the state's extents is decided of the state
+admitted : (c : tie.After-admit) → let a = c .before .before .before .before .args in c .admit .result ≡ admission (a .self) (length (a .memory .now)) (a .tail .now)
+admitted c = let a = c .before .before .before .before .args in admitted-by (a .self) _ (c .before .extents .ensures) (length (a .memory .now)) (a .tail .now) _ (c .admit .ensures)
+
+chosen : (c : tie.After-choose-read) → let a = c .before .before .before .before .before .args in
+    c .choose-read .result ≡ choice (a .self) (c .before .admit .result) (a .id .0) (readChecks (a .self) (a .id .0) (a .addr) (a .len))
+chosen c =
+    let a = c .before .before .before .before .before .args in
+    chosen-by (a .self) _ (c .before .before .extents .ensures) _ (a .id .0) (λ (s : State). readChecks s (a .id .0) (a .addr) (a .len))
+    (read-checks (a .self) (a .id .0) (a .addr) (a .len)) _ (c .choose-read .ensures)
+
 choose-read-requires : tie.Need-choose-read-requires
-choose-read-requires c κs = seen _ _ _ _ (c .admit .ensures)
+choose-read-requires c κs = seen-by (c .before .before .before .before .args .self) _ (c .before .extents .ensures) (c .admit .result) (seen _ _ _ _ (admitted c))
 
 sub-result : tie.Need-sub-result
 sub-result c = search needs
@@ -28,27 +45,27 @@ part-result-end : tie.Need-part-result-end
 part-result-end c = search needs
 
 -- the number is read's own
-own : (c : tie.After-choose-read) → let a = c .before .before .before .before .args in
+own : (c : tie.After-choose-read) → let a = c .before .before .before .before .before .args in
     readNumber (a .self) (a .memory .now) (a .tail .now) (a .id) (a .addr) (a .len) ≡ c .choose-read .result .number
 own c =
-    let a = c .before .before .before .before .args in
-    number-after _ _ _ _ (c .before .admit .ensures) (λ n. readChecks (a .self) (a .id .0) (a .addr) (a .len))
-    ∙ choice-own _ _ _ _ (readChecks (a .self) (a .id .0) (a .addr) (a .len)) (c .choose-read .ensures)
+    let a = c .before .before .before .before .before .args in
+    number-after _ _ _ _ (admitted (c .before)) (λ n. readChecks (a .self) (a .id .0) (a .addr) (a .len))
+    ∙ choice-own _ _ _ _ (readChecks (a .self) (a .id .0) (a .addr) (a .len)) (chosen c)
 
 returns : tie.Need-returns
 returns c =
-    let a = c .before .before .before .before .before .before .before .args in
+    let a = c .before .before .before .before .before .before .before .before .args in
     sym (read-refused (a .self) (a .memory .now) (a .tail .now) (a .id) (a .addr) (a .len) _ (own (c .before .before .before)) (c .before .if1 .taken))
 
-found : (c : tie.Else1) → let a = c .before .before .before .before .before .before .args in
+found : (c : tie.Else1) → let a = c .before .before .before .before .before .before .before .args in
     Placed (a .self) (length (a .memory .now)) (a .tail .now) (a .id .0) (c .before .before .choose-read .result)
     (λ k. check7 (a .self) (a .id .0) ∷ check8 (a .addr) (a .len) ∷ check9 (a .self) (a .id .0) (a .addr) (a .len) ∷ [])
-found c = placed _ _ _ _ _ _ _ (c .before .before .before .admit .ensures) (c .before .before .choose-read .ensures) (c .if1 .left)
+found c = placed _ _ _ _ _ _ _ (admitted (c .before .before .before)) (chosen (c .before .before)) (c .if1 .left)
 
 -- the range lies within memory
-ranged : (c : tie.Else1) → let a = c .before .before .before .before .before .before .args in a .addr + a .len ≤ 4096
+ranged : (c : tie.Else1) → let a = c .before .before .before .before .before .before .before .args in a .addr + a .len ≤ 4096
 ranged c =
-    let a = c .before .before .before .before .before .before .args in
+    let a = c .before .before .before .before .before .before .before .args in
     let last = check9 (a .self) (a .id .0) (a .addr) (a .len) ∷ [] in
     ranged-by-8 (a .addr) (a .len) last (running (a .self) (a .id .0) (check8 (a .addr) (a .len) ∷ last) (found c .own) .1) .2
 
@@ -66,7 +83,7 @@ part-result-end-2 c = omega (arith, ranged c, found c .memory)
 
 returns-2 : tie.Need-returns-2
 returns-2 c =
-    let a = c .before .before .before .before .before .before .before .args in
+    let a = c .before .before .before .before .before .before .before .before .args in
     let e : a .addr + a .len - a .addr ≡ a .len = omega arith in
     ap (λ (k : ℕ). take k (drop (a .addr) (a .memory .now))) e
     ∙ sym (read-done (a .self) (a .memory .now) (a .tail .now) (a .id) (a .addr) (a .len) (own (c .before .before .before) ∙ c .before .if1 .left))
@@ -75,6 +92,7 @@ pub read-spec : {M : Type 1} → statement M
 read-spec =
     tie.close
     (tie.spec
+    extents-requires
     admit-requires
     choose-read-requires
     sub-result

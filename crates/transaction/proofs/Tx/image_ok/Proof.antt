@@ -1,32 +1,21 @@
-use mathlib.Core.Bool.{true, false}
-use mathlib.Core.Path.{_≡_, sym, _∙_}
 use borrow.Author.Needs.{needs}
-use borrow.Author.Tests.{not-true, not-false}
-use Rattle.transaction.specs.Rules.{headOk}
+use mathlib.Core.Path.{ap, _∙_}
+use Rattle.transaction.specs.declared.TxExtents.{TxExtents}
+use Rattle.transaction.specs.View.{outlineOf, bareTx}
+use Rattle.transaction.specs.Rules.{outlineOk}
 use Rattle.transaction.proofs.Tx.image_ok.Statement.{statement}
 use Rattle.transaction.proofs.Tx.image_ok.Tie as tie
 
-head-ok-requires : tie.Need-head-ok-requires
-head-ok-requires c κs = search needs
+extents-requires : tie.Need-extents-requires
+extents-requires c κs = search needs
+
+image-ok-requires : tie.Need-image-ok-requires
+image-ok-requires c κs = search needs
 
 returns : tie.Need-returns
 returns c =
-    let args = c .before .before .args in
-    let t = args .self in
-    let e : headOk (args .last .0) (args .assigned .0) (t .id .0) (t .status) (t .csn .0) ≡ false = sym (c .before .head-ok .ensures)
-    ∙ not-true _ (c .if1 .taken) in
-    rw e
-
-ok-requires : tie.Need-ok-requires
-ok-requires c κs = search needs
-
-returns-2 : tie.Need-returns-2
-returns-2 c =
-    let args = c .before .before .before .before .args in
-    let t = args .self in
-    let e : headOk (args .last .0) (args .assigned .0) (t .id .0) (t .status) (t .csn .0) ≡ true = sym (c .before .before .before .head-ok .ensures)
-    ∙ not-false _ (c .before .before .if1 .left) in
-    rw e (c .ok .ensures)
+    let a = c .before .before .args in
+    c .image-ok .ensures ∙ ap (λ (e : TxExtents). outlineOk (a .last .0) (a .assigned .0) (outlineOf (bareTx e))) (c .before .extents .ensures)
 
 pub image-ok-spec : {M : Type 1} → statement M
-image-ok-spec = tie.close (tie.spec head-ok-requires returns ok-requires returns-2)
+image-ok-spec = tie.close (tie.spec extents-requires image-ok-requires returns)

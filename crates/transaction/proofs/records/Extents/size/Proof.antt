@@ -1,0 +1,78 @@
+use Prim.Native.Nat.{_+_, _*_, _-_, _≤_}
+use native.Mathlib.Nat.{sub-zero}
+use native.Mathlib.Omega.{arith}
+use mathlib.Core.Path.{_≡_, ap}
+use lib.ListN.{getD}
+use borrow.Author.Needs.{needs}
+use Rattle.transaction.specs.Lists.{upFrom}
+use Rattle.transaction.specs.View.{rangeAt, rangesOf, bare}
+use Rattle.transaction.specs.Rules.{rangeSize, rangesSize}
+use Rattle.transaction.proofs.Lists.{up-done, sum-turn}
+use Rattle.transaction.proofs.Ranges.{counted, ranged}
+use Rattle.transaction.proofs.records.Extents.size.Statement.{statement}
+use Rattle.transaction.proofs.records.Extents.size.Tie as tie
+
+abbrev Inv-loop : tie.InvT-loop
+Inv-loop self n sum₀ i₀ sum i =
+    (i ≤ n) × (sum ≤ 39 * i) × (rangesSize (rangesOf (bare self)) ≡ sum + rangesSize (upFrom (rangeAt (bare self)) (n - i) i))
+
+abbrev μ-loop : tie.MeasureT-loop
+μ-loop self n sum₀ i₀ sum i = n - i
+
+cast-n : tie.Need-cast-n Inv-loop μ-loop
+cast-n c = search needs
+
+loop-holds : tie.Need-loop-holds Inv-loop μ-loop
+loop-holds c = (omega arith, omega arith, rw (sub-zero (c .args .t1 .count)) (omega arith))
+
+element-copy-out-sum : tie.Need-element-copy-out-sum Inv-loop μ-loop
+element-copy-out-sum c = let h = counted (bare (c .before .before .args .t1)) (c .before .before .pre) in omega arith
+
+cast-sum : tie.Need-cast-sum Inv-loop μ-loop
+cast-sum c = search needs
+
+short : (c : tie.After-sum Inv-loop μ-loop) → getD (c .before .before .before .args .t1 .len) (c .before .before .loop .i) 0 ≤ 32
+short c = ranged (bare (c .before .before .before .args .t1)) (c .before .before .before .pre) (c .before .before .loop .i) (c .before .loop-test .taken) .1
+
+add-sum : tie.Need-add-sum Inv-loop μ-loop
+add-sum c = let h = short c in omega arith
+
+add-sum-2 : tie.Need-add-sum-2 Inv-loop μ-loop
+add-sum-2 c = let h = short c in let g = counted (bare (c .before .before .before .args .t1)) (c .before .before .before .pre) in omega arith
+
+add-i : tie.Need-add-i Inv-loop μ-loop
+add-i c = search needs
+
+loop-less : tie.Need-loop-less Inv-loop μ-loop
+loop-less c = search needs
+
+loop-again : tie.Need-loop-again Inv-loop μ-loop
+loop-again c =
+    let r = bare (c .before .before .before .args .t1) in
+    let h = short c in
+    let t = sum-turn (rangeAt r) (r .count) (c .before .before .loop .i) (c .before .loop-test .taken) rangeSize in
+    (omega arith, omega arith, omega (arith, t, c .before .before .loop .inv .2))
+
+returns : tie.Need-returns Inv-loop μ-loop
+returns c =
+    let r = bare (c .before .before .args .t1) in
+    let d : rangesSize (upFrom (rangeAt r) (r .count - c .before .loop .i) (c .before .loop .i)) ≡ 0 =
+    ap rangesSize (up-done (rangeAt r) (r .count) (c .before .loop .i) (c .loop-test .left)) in
+    omega (arith, d, c .before .loop .inv .2)
+
+pub size-spec : {M : Type 1} → statement M
+size-spec =
+    tie.close
+    (tie.spec
+    Inv-loop
+    μ-loop
+    cast-n
+    loop-holds
+    element-copy-out-sum
+    cast-sum
+    add-sum
+    add-sum-2
+    add-i
+    loop-less
+    loop-again
+    returns)
