@@ -5,7 +5,6 @@ use mathlib.Core.List.{List, [], _∷_}
 use mathlib.Core.Path.{_≡_, refl, sym, ap, ap₂, _∙_, subst}
 use lib.Dec.{eqb, ltb}
 use Rattle.recovery.specs.Lists.{any}
-use Rattle.transaction.specs.Rules.{heldAgainst}
 use Rattle.store.specs.declared.State.{State}
 use Rattle.store.specs.State.{txAt, txsOf, hasId, slotOf}
 use Rattle.store.specs.Rules.{roomUsed}
@@ -39,41 +38,49 @@ module _ (s r : State) (h : ShowsSame s r) where
       go false e = let f : any (hasId id) (txsOf r) ≡ false = sym (ids s r h id) ∙ e in rw (e, f)
       go true e = let f : any (hasId id) (txsOf r) ≡ true = sym (ids s r h id) ∙ e in rw (e, f) (k (slot-within s id e))
 
+  -- one check more in front, under the same condition
+  next : (n : ℕ) {b c : Bool} {k l : ℕ} → b ≡ c → k ≡ l → cond b n k ≡ cond c n l
+  next n e f = ap₂ (λ (b : Bool) (k : ℕ). cond b n k) e f
+
+  none : _≡_ {A = ℕ} 0 0
+  none = refl
+
+  alike-7 : (id : ℕ) → slotOf s id < s .count → eqb (txOf s id .status) 2 ≡ eqb (txOf r id .status) 2
+  alike-7 id l = ap (λ (k : ℕ). eqb k 2) (named id l .status)
+
   -- ---- the numbers of the calls about it
 
   module _ (lent : ℕ) (t : List ℕ) (id : ℕ) where
     pub abort-alike : numberBy s lent t (abortChecks s id) ≡ numberBy r lent t (abortChecks r id)
     abort-alike =
         number-alike s r h lent t (abortChecks s id) (abortChecks r id)
-        (listed-alike id (check7 s id ∷ []) (check7 r id ∷ []) (λ e. ap (λ (k : ℕ). cond (eqb k 2) 7 0) (named id e .status)))
+        (listed-alike id (check7 s id ∷ []) (check7 r id ∷ []) (λ e. next 7 (alike-7 id e) none))
 
     pub precommit-alike : numberBy s lent t (precommitChecks s id) ≡ numberBy r lent t (precommitChecks r id)
     precommit-alike =
         number-alike s r h lent t (precommitChecks s id) (precommitChecks r id)
         (listed-alike id (check7 s id ∷ check12 s ∷ []) (check7 r id ∷ check12 r ∷ [])
-        (λ e. ap₂ (λ (k n : ℕ). cond (eqb k 2) 7 (cond (eqb n 4294967295) 12 0)) (named id e .status) (h .assigned)))
+        (λ e. next 7 (alike-7 id e) (next 12 (ap (λ (n : ℕ). eqb n 4294967295) (h .assigned)) none)))
 
     pub settle-alike : numberBy s lent t (settleChecks s id) ≡ numberBy r lent t (settleChecks r id)
     settle-alike =
         number-alike s r h lent t (settleChecks s id) (settleChecks r id)
         (listed-alike id (check14 s id ∷ []) (check14 r id ∷ [])
         (λ e.
-        ap (λ (k : ℕ). cond (eqb k 1 || ltb (s .ondisk .0) (txOf s id .csn .0)) 14 0) (named id e .status)
-        ∙ ap₂ (λ (d c : ℕ). cond (eqb (txOf r id .status) 1 || ltb d c) 14 0) (h .ondisk) (named id e .csn)))
+        next 14
+        (ap (λ (k : ℕ). eqb k 1 || ltb (s .ondisk .0) (txOf s id .csn .0)) (named id e .status)
+        ∙ ap₂ (λ (d c : ℕ). eqb (txOf r id .status) 1 || ltb d c) (h .ondisk) (named id e .csn)) none))
 
     module _ (a n : ℕ) where
-      -- what follows numbers 7, 8 and 9
-      abbrev upTo9 : ℕ → Bool → ℕ → ℕ
-      upTo9 status held more = cond (eqb status 2) 7 (cond (eqb n 0 || ltb 32 n || ltb 4096 (a + n)) 8 (cond held 9 more))
+      -- number 8 does not look at the state
+      next-8 : {k l : ℕ} → k ≡ l → cond (eqb n 0 || ltb 32 n || ltb 4096 (a + n)) 8 k ≡ cond (eqb n 0 || ltb 32 n || ltb 4096 (a + n)) 8 l
+      next-8 f = ap (λ (k : ℕ). cond (eqb n 0 || ltb 32 n || ltb 4096 (a + n)) 8 k) f
 
       pub read-alike : numberBy s lent t (readChecks s id a n) ≡ numberBy r lent t (readChecks r id a n)
       read-alike =
           number-alike s r h lent t (readChecks s id a n) (readChecks r id a n)
           (listed-alike id (check7 s id ∷ check8 a n ∷ check9 s id a n ∷ []) (check7 r id ∷ check8 a n ∷ check9 r id a n ∷ [])
-          (λ e. ap₂ (λ (k : ℕ) (b : Bool). upTo9 k b 0) (named id e .status) (helds s r h id a n)))
-
-      abbrev last : ℕ → ℕ → ℕ
-      last records room = cond (eqb records 16) 10 (cond (ltb 16384 (room + (7 + n))) 13 0)
+          (λ e. next 7 (alike-7 id e) (next-8 (next 9 (helds s r h id a n) none))))
 
       pub write-alike : numberBy s lent t (writeChecks s (roomUsed s t) id a n) ≡ numberBy r lent t (writeChecks r (roomUsed r t) id a n)
       write-alike =
@@ -81,5 +88,7 @@ module _ (s r : State) (h : ShowsSame s r) where
           (listed-alike id (check7 s id ∷ check8 a n ∷ check9 s id a n ∷ check10 s id ∷ check13 (roomUsed s t) n ∷ [])
           (check7 r id ∷ check8 a n ∷ check9 r id a n ∷ check10 r id ∷ check13 (roomUsed r t) n ∷ [])
           (λ e.
-          ap₂ (λ (k : ℕ) (b : Bool). upTo9 k b (last (txOf s id .undo .count) (roomUsed s t))) (named id e .status) (helds s r h id a n)
-          ∙ ap₂ (λ (c m : ℕ). upTo9 (txOf r id .status) (any (heldAgainst id a n) (txsOf r)) (last c m)) (named id e .undo .count) (room-alike s r h t)))
+          next 7 (alike-7 id e)
+          (next-8
+          (next 9 (helds s r h id a n)
+          (next 10 (ap (λ (k : ℕ). eqb k 16) (named id e .undo .count)) (next 13 (ap (λ (k : ℕ). ltb 16384 (k + (7 + n))) (room-alike s r h t)) none))))))

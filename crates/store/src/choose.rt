@@ -41,7 +41,7 @@ fn refuse(number: u8) -> Choice
     }
 }
 
-// Number 8, after those of the choice. The state is not asked for, as handing it over would copy it.
+// Number 8, after those of the choice. It takes no state, as that goes by value.
 fn choose_range(chosen: Choice, addr: usize, len: usize) -> Choice
     ensures { λ r. ⌜ r ≡ after chosen (check8 addr len ∷ []) ⌝ }
 {
