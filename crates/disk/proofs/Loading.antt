@@ -3,16 +3,24 @@ use Prim.Native.Nat.{ℕ, _+_, _-_, _≤_}
 use native.Mathlib.Omega.{arith}
 use mathlib.Core.Bool.{Bool, true, false, cond}
 use mathlib.Core.List.{List}
-use mathlib.Core.Path.{_≡_, sym, ap, _∙_}
+use mathlib.Core.Option.{Option, none, some}
+use mathlib.Core.Path.{_≡_, refl, sym, ap, _∙_, subst}
 use lib.ListN.{length, take, drop, length-drop}
 use lib.Seq.{sets, take-take, drop-drop, length-take-le}
 use lib.Dec.{eqb}
 use borrow.Author.Tests.{ne-eqb}
 use Rattle.log.proofs.RoundTrip.{drop-take}
 use Rattle.log.proofs.StoreLaws.{sets-all}
-use Rattle.image.specs.Reading.{memoryOf}
-use Rattle.disk.specs.Layout.{imageAt}
+use Rattle.log.proofs.Basics.{clash}
+use Rattle.image.specs.declared.read.Heads.{Heads}
+use Rattle.image.specs.Content.{Content}
+use Rattle.image.specs.Reading.{memoryOf, readImage}
+use Rattle.image.specs.Decode.{Decoded, notDecoded, decodedOf}
+use Rattle.image.specs.Heads.{blankHeads, headsIn, headsIf, headsOf, imageBy, HeadsFit}
+use Rattle.image.proofs.HeadLaws.{read-shows, read-image, blank-shows, blank-image}
+use Rattle.disk.specs.Layout.{imageAt, imagePart}
 use Rattle.disk.specs.Examine.{noImage, imageNamed, loadOf}
+use Rattle.disk.specs.Heads.{headsNamed}
 
 pub slot-within : (pointer : ℕ) → imageAt pointer ≤ 8654
 slot-within pointer = go (eqb pointer 1)
@@ -52,3 +60,55 @@ memory-loaded slot disk memory h d m =
     ap (λ (vs : List ℕ). sets memory 0 vs) (lent slot 13 4109 disk (omega arith))
     ∙ sets-all (take 4096 (drop (slot + 13) disk)) memory (l ∙ sym m)
     ∙ memory-part slot disk
+
+-- ---- the heads in place of the image
+
+-- the bytes of its transactions
+abbrev pub txsPart : ℕ → List ℕ → List ℕ
+txsPart pointer disk = take 4544 (drop (imageAt pointer + 4109) disk)
+
+txs-part : (pointer : ℕ) (disk : List ℕ) → drop 4109 (imagePart pointer disk) ≡ txsPart pointer disk
+txs-part pointer disk = drop-take 4109 4544 (drop (imageAt pointer) disk) ∙ ap (take 4544) (drop-drop 4109 (imageAt pointer) disk)
+
+pub heads-none : (pointer : ℕ) (disk : List ℕ) → pointer ≡ 0 → headsNamed pointer disk ≡ blankHeads true
+unfolding headsNamed
+heads-none pointer disk e = rw e
+
+pub heads-image : (pointer : ℕ) (disk : List ℕ) → (pointer ≡ 0 → ⊥) → headsNamed pointer disk ≡ headsOf (imagePart pointer disk)
+unfolding headsNamed
+heads-image pointer disk n = rw (ne-eqb pointer 0 n)
+
+-- they show the image that step 1 takes
+pub record Named (h : Heads) (s : List ℕ) (d : Decoded) : Type 0 where
+  pub shows : HeadsFit h s
+  pub image : imageBy h s ≡ d .image
+  pub ok : d .ok ≡ true
+
+read-named : (pointer : ℕ) (disk : List ℕ) (y : Option Content) → readImage (imagePart pointer disk) ≡ y → headsIf y .ok ≡ true
+    → Named (headsIf y) (txsPart pointer disk) (decodedOf y)
+unfolding blankHeads
+read-named pointer disk none q e = clash (cc)
+read-named pointer disk (some c) q e =
+    subst (λ (s : List ℕ). Named (headsIn c) s (decodedOf (some c))) (txs-part pointer disk)
+    (record { shows = read-shows (imagePart pointer disk) c q; image = read-image (imagePart pointer disk) c q; ok = refl })
+
+pub named : (pointer : ℕ) (disk : List ℕ) → headsNamed pointer disk .ok ≡ true → Named (headsNamed pointer disk) (txsPart pointer disk) (loadOf pointer disk .decoded)
+unfolding headsNamed loadOf
+named pointer disk = go (eqb pointer 0)
+  where
+    go : (b : Bool) → cond b (blankHeads true) (headsOf (imagePart pointer disk)) .ok ≡ true
+        → Named (cond b (blankHeads true) (headsOf (imagePart pointer disk))) (txsPart pointer disk) (cond b noImage (imageNamed pointer disk) .decoded)
+    go true e = record { shows = blank-shows (txsPart pointer disk); image = blank-image (txsPart pointer disk); ok = refl }
+    go false e = read-named pointer disk (readImage (imagePart pointer disk)) refl e
+
+pub not-named : (pointer : ℕ) (disk : List ℕ) → headsNamed pointer disk .ok ≡ false → loadOf pointer disk .decoded .ok ≡ false
+unfolding headsNamed loadOf blankHeads notDecoded
+not-named pointer disk = go (eqb pointer 0)
+  where
+    unread : (y : Option Content) → headsIf y .ok ≡ false → decodedOf y .ok ≡ false
+    unread none e = refl
+    unread (some c) e = e
+
+    go : (b : Bool) → cond b (blankHeads true) (headsOf (imagePart pointer disk)) .ok ≡ false → cond b noImage (imageNamed pointer disk) .decoded .ok ≡ false
+    go true e = e
+    go false e = unread (readImage (imagePart pointer disk)) e

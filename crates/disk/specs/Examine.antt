@@ -6,10 +6,9 @@ use lib.ListN.{replicate}
 use lib.Dec.{eqb, ltb}
 use Rattle.layout.specs.{memoryLen, tailLen, logLen, maxTxs, abortLen, namesB}
 use Rattle.image.specs.declared.Image.{Image}
-use Rattle.image.specs.declared.read.Decoded.{Decoded}
 use Rattle.image.specs.Reading.{memoryOf}
 use Rattle.image.specs.Pack.{emptyImage}
-use Rattle.image.specs.Decode.{decodeOf}
+use Rattle.image.specs.Decode.{Decoded, decodeOf}
 use Rattle.restart.specs.Restart.{AfterSteps, recoverOf}
 use Rattle.disk.specs.declared.examine.Examined.{Examined}
 use Rattle.disk.specs.Layout.{pointerOf, imagePart, logFrom}

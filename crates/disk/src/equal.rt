@@ -1,8 +1,7 @@
 // Equal in meaning.
-use crate::examine::examine;
+use crate::examine::judge;
 use layout::DISK_LEN;
 use layout::MEMORY_LEN;
-use layout::TAIL_LEN;
 ghost use mathlib.Core.Path.{_≡_};
 ghost use lib.ListN.{length};
 ghost use Rattle.disk.specs.Equal.{sameBytes, equalOf};
@@ -30,15 +29,16 @@ pub fn equal(a: &[u8], b: &[u8]) -> bool
     if b.len() != DISK_LEN {
         return false;
     }
-    let mut tail = [0u8; TAIL_LEN];
     let mut memory = [0u8; MEMORY_LEN];
     let mut other = [0u8; MEMORY_LEN];
-    let x = examine(a, &mut memory, &mut tail);
-    if x.number != 0 {
+    let x = judge(a, &mut memory);
+    let one = x.found;
+    if one.number != 0 {
         return false;
     }
-    let y = examine(b, &mut other, &mut tail);
-    if y.number != 0 {
+    let y = judge(b, &mut other);
+    let two = y.found;
+    if two.number != 0 {
         return false;
     }
     same(&memory, &other)

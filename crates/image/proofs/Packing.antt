@@ -30,7 +30,7 @@ packed-outline : (t : Saved) → UndosOk (undosIn t) → outlineOf (packedTx t) 
 unfolding loaded
 packed-outline (saved id status csn us) e = ap (outline id status csn) (packed-ranges us e)
 
-packed-transaction : (t : Saved) → UndosOk (undosIn t) → viewOf (packedTx t) ≡ transactionOf t
+pub packed-transaction : (t : Saved) → UndosOk (undosIn t) → viewOf (packedTx t) ≡ transactionOf t
 unfolding loaded emptyRecords
 packed-transaction (saved id status csn us) e =
     ap (λ (ws : List Write). record { id = id; committing = eqb status 2; csn = csn; undo = ws; redo = [] }) (packed-writes us e)

@@ -1,30 +1,31 @@
--- Laws of the reader of undo records: a turn of its loop, and what a reading that succeeds says.
+-- Laws of the readers of undo records: a turn of each loop, and what a reading that succeeds says.
 use Prim.Native.Nat.{ℕ, zero, suc, _+_, _-_, _≤_, _<_}
+use native.Mathlib.Numerals.{add-one}
 use native.Mathlib.Omega.{arith}
 use mathlib.Core.Bool.{Bool, true, false, cond, _&&_, and-false}
 use mathlib.Core.List.{List, [], _∷_, map}
 use mathlib.Core.Option.{Option, none, some}
-use mathlib.Core.Path.{_≡_, refl, sym, ap, _∙_, subst}
-use lib.ListN.{length, getD, take, drop, length-drop}
-use lib.Seq.{drop-drop, length-take-le}
+use mathlib.Core.Path.{_≡_, refl, sym, ap, ap₂, _∙_, subst}
+use lib.ListN.{length, getD, set, take, drop, length-drop}
+use lib.Seq.{sets, drop-drop, length-take-le}
 use lib.Dec.{leb}
 use borrow.Author.Tests.{le-leb, lt-leb, leb-true}
 use Rattle.recovery.specs.Group.{Write}
+use Rattle.recovery.specs.Replay.{undoAll, layBytes}
 use Rattle.log.specs.Number.{be16}
 use Rattle.log.specs.Record.{inRange}
 use Rattle.log.specs.Group.{andThen}
 use Rattle.log.proofs.Basics.{clash, and-left, and-right, and-both}
-use Rattle.transaction.specs.declared.records.Records.{Records}
-use Rattle.transaction.specs.Flat.{emptyRecords}
 use Rattle.transaction.specs.Lists.{every}
 use Rattle.transaction.specs.Rules.{rangeOk}
-use Rattle.transaction.specs.Steps.{pushed}
-use Rattle.image.specs.declared.read.Undos.{Undos}
 use Rattle.image.specs.Content.{rangeOf}
 use Rattle.image.specs.Format.{undosSize}
 use Rattle.image.specs.Reading.{undoHere, firstUndo, readUndos}
-use Rattle.image.specs.Pack.{pushedAll}
-use Rattle.image.specs.Decode.{noUndos, undoStep, undosRead}
+use Rattle.image.specs.Heads.{undoSize, undosEnd, undoStarts}
+use Rattle.image.proofs.Lists.{byte-at}
+
+abbrev pub noWrite : Write
+noWrite = record { addr = 0; bytes = [] }
 
 -- ---- one undo record
 
@@ -56,26 +57,29 @@ module _ (t : List ℕ) where
   pub first-length : undoHere t ≡ true → length (firstUndo t .bytes) ≡ getD t 2 0
   first-length e = let w = here-within e in length-take-le (getD t 2 0) (drop 3 t) (simp length-drop (omega arith))
 
--- what a step answers where a record stands
-abbrev pub stepped : Records → List ℕ → Undos
-stepped r t = record { ok = true; undo = pushed r (be16 t 0) (take (getD t 2 0) (drop 3 t)); size = 3 + getD t 2 0 }
+-- its size, 0 if none stands there
+module _ (t : List ℕ) where
+  pub size-no : undoHere t ≡ false → undoSize t ≡ 0
+  unfolding undoSize
+  size-no e = rw e
 
-module _ (r : Records) (t : List ℕ) where
-  pub step-yes : undoHere t ≡ true → undoStep r t ≡ stepped r t
-  unfolding undoStep
-  step-yes e = rw e
+  pub size-yes : undoHere t ≡ true → undoSize t ≡ 3 + getD t 2 0
+  unfolding undoSize
+  size-yes e = rw e
 
-  pub step-no : undoHere t ≡ false → undoStep r t ≡ noUndos
-  unfolding undoStep
-  step-no e = rw e
-
-  step-ok : undoStep r t .ok ≡ undoHere t
-  unfolding noUndos
-  step-ok = go (undoHere t) refl
+  size-here : (undoSize t ≡ 0 → ⊥) → undoHere t ≡ true
+  size-here z = go (undoHere t) refl
     where
-      go : (b : Bool) → undoHere t ≡ b → undoStep r t .ok ≡ undoHere t
-      go true e = ap (λ (u : Undos). u .ok) (step-yes e) ∙ sym e
-      go false e = ap (λ (u : Undos). u .ok) (step-no e) ∙ sym e
+      go : (b : Bool) → undoHere t ≡ b → undoHere t ≡ true
+      go true e = e
+      go false e = absurd (z (size-no e))
+
+  size-none : undoSize t ≡ 0 → undoHere t ≡ false
+  size-none z = go (undoHere t) refl
+    where
+      go : (b : Bool) → undoHere t ≡ b → undoHere t ≡ false
+      go true e = absurd (omega (arith, z, size-yes e))
+      go false e = e
 
 -- ---- a turn of the loop
 
@@ -83,55 +87,45 @@ undos-turn : (t : List ℕ) (n k : ℕ) → k < n
     → readUndos (n - k) t ≡ cond (undoHere t) (andThen (firstUndo t) (readUndos (n - (k + 1)) (drop (3 + getD t 2 0) t))) none
 undos-turn t n k h = let e : n - k ≡ suc (n - (k + 1)) = omega arith in ap (λ (j : ℕ). readUndos j t) e
 
--- the answer of records behind those of r that took the first `at` bytes
-abbrev pub undosFrom : ℕ → Records → Option (List Write) → Undos
-undosFrom at r none = noUndos
-undosFrom at r (some us) = record { ok = true; undo = pushedAll r us; size = at + undosSize us }
+-- where records that begin at this place end
+abbrev pub endFrom : ℕ → Option (List Write) → ℕ
+endFrom at none = 0
+endFrom at (some us) = at + undosSize us
 
-pub undos-start : (x : Option (List Write)) → undosRead x ≡ undosFrom 0 emptyRecords x
-undos-start none = refl
-undos-start (some us) = ap (λ (n : ℕ). record { ok = true; undo = pushedAll emptyRecords us; size = n }) (omega arith)
+pub end-start : (x : Option (List Write)) → undosEnd x ≡ endFrom 8 x
+end-start none = refl
+end-start (some us) = refl
 
-undos-pushed : (at : ℕ) (r : Records) (n : ℕ) (u : Write) (x : Option (List Write)) → length (u .bytes) ≡ n
-    → undosFrom at r (andThen u x) ≡ undosFrom (at + (3 + n)) (pushed r (u .addr) (u .bytes)) x
-undos-pushed at r n u none l = refl
-undos-pushed at r n u (some us) l =
-    let e : at + (3 + length (u .bytes) + undosSize us) ≡ at + (3 + n) + undosSize us = omega arith in
-    ap (λ (z : ℕ). record { ok = true; undo = pushedAll (pushed r (u .addr) (u .bytes)) us; size = z }) e
+end-next : (at n : ℕ) (u : Write) (x : Option (List Write)) → length (u .bytes) ≡ n → endFrom at (andThen u x) ≡ endFrom (at + (3 + n)) x
+end-next at n u none l = refl
+end-next at n u (some us) l = omega arith
 
-module _ (s : List ℕ) (at : ℕ) (r : Records) (n k : ℕ) (h : k < n) (x : Undos) (e : x ≡ undoStep r (drop at s)) where
+module _ (s : List ℕ) (at n k : ℕ) (h : k < n) (z : ℕ) (e : z ≡ undoSize (drop at s)) where
   -- a turn that finds no record answers for the whole
-  pub undos-stop : x .ok ≡ false → x ≡ undosFrom at r (readUndos (n - k) (drop at s))
+  pub undos-stop : z ≡ 0 → 0 ≡ endFrom at (readUndos (n - k) (drop at s))
   undos-stop f =
-      let g : undoHere (drop at s) ≡ false = sym (step-ok r (drop at s)) ∙ ap (λ (u : Undos). u .ok) (sym e) ∙ f in
-      let w : readUndos (n - k) (drop at s) ≡ none = undos-turn (drop at s) n k h ∙ rw g in
-      e ∙ step-no r (drop at s) g ∙ ap (undosFrom at r) (sym w)
+      let w : readUndos (n - k) (drop at s) ≡ none = undos-turn (drop at s) n k h ∙ rw (size-none (drop at s) (sym e ∙ f)) in
+      ap (endFrom at) (sym w)
 
-  undos-here : x .ok ≡ true → undoHere (drop at s) ≡ true
-  undos-here f = sym (step-ok r (drop at s)) ∙ ap (λ (u : Undos). u .ok) (sym e) ∙ f
+  here : (z ≡ 0 → ⊥) → undoHere (drop at s) ≡ true
+  here f = size-here (drop at s) (λ y. f (e ∙ y))
 
-  pub undos-within : at ≤ length s → x .ok ≡ true → at + x .size ≤ length s
+  pub undos-within : at ≤ length s → (z ≡ 0 → ⊥) → at + z ≤ length s
   undos-within b f =
-      let z : x .size ≡ 3 + getD (drop at s) 2 0 = ap (λ (u : Undos). u .size) (e ∙ step-yes r (drop at s) (undos-here f)) in
-      let w : 3 + getD (drop at s) 2 0 ≤ length s - at = rw length-drop at (here-within (drop at s) (undos-here f)) in
-      omega arith
+      let w : 3 + getD (drop at s) 2 0 ≤ length s - at = rw length-drop at (here-within (drop at s) (here f)) in
+      omega (arith, e, size-yes (drop at s) (here f), w)
 
-  pub undos-count : x .ok ≡ true → x .undo .count ≡ r .count + 1
-  unfolding pushed
-  undos-count f = ap (λ (u : Undos). u .undo .count) (e ∙ step-yes r (drop at s) (undos-here f))
-
-  pub undos-go : x .ok ≡ true
-      → undosFrom at r (readUndos (n - k) (drop at s)) ≡ undosFrom (at + x .size) (x .undo) (readUndos (n - (k + 1)) (drop (at + x .size) s))
+  pub undos-go : (z ≡ 0 → ⊥) → endFrom at (readUndos (n - k) (drop at s)) ≡ endFrom (at + z) (readUndos (n - (k + 1)) (drop (at + z) s))
   undos-go f =
       let t = drop at s in
-      let g = undos-here f in
-      let q : x ≡ stepped r t = e ∙ step-yes r t g in
+      let g = here f in
+      let q : 3 + getD t 2 0 ≡ z = sym (e ∙ size-yes t g) in
       let rest = readUndos (n - (k + 1)) (drop (3 + getD t 2 0) t) in
       let w : readUndos (n - k) t ≡ andThen (firstUndo t) rest = undos-turn t n k h ∙ rw g in
-      ap (undosFrom at r) w
-      ∙ undos-pushed at r (getD t 2 0) (firstUndo t) rest (first-length t g)
-      ∙ ap (λ (l : List ℕ). undosFrom (at + (3 + getD t 2 0)) (stepped r t .undo) (readUndos (n - (k + 1)) l)) (drop-drop (3 + getD t 2 0) at s)
-      ∙ ap (λ (u : Undos). undosFrom (at + u .size) (u .undo) (readUndos (n - (k + 1)) (drop (at + u .size) s))) (sym q)
+      ap (endFrom at) w
+      ∙ end-next at (getD t 2 0) (firstUndo t) rest (first-length t g)
+      ∙ ap (λ (l : List ℕ). endFrom (at + (3 + getD t 2 0)) (readUndos (n - (k + 1)) l)) (drop-drop (3 + getD t 2 0) at s)
+      ∙ ap (λ (m : ℕ). endFrom (at + m) (readUndos (n - (k + 1)) (drop (at + m) s))) q
 
 -- ---- a reading, a record at a time
 
@@ -174,3 +168,61 @@ undos-kept s (u ∷ us) a =
     let r : inRange (u .addr) (length (u .bytes)) ≡ true =
     ap (λ (v : Write). inRange (v .addr) (length (v .bytes))) (a .1) ∙ ap (inRange (be16 s 0)) (first-length s (a .0)) ∙ here-ranged s (a .0) in
     (omega (arith, d, l, w), and-both (inRange (u .addr) (length (u .bytes))) (every rangeOk (map rangeOf us)) r (i .1))
+
+-- ---- where they begin
+
+module _ (s : List ℕ) (at : ℕ) (u : Write) (us : List Write) (a : UndosAt (drop at s) (u ∷ us)) where
+  long : length (u .bytes) ≡ getD s (at + 2) 0
+  long = ap (λ (v : Write). length (v .bytes)) (a .1) ∙ first-length (drop at s) (a .0) ∙ byte-at s at 2 (at + 2) refl
+
+  pub place-within : at + (3 + length (u .bytes)) ≤ length s
+  place-within =
+      let w : 3 + getD (drop at s) 2 0 ≤ length s - at = rw length-drop at (here-within (drop at s) (a .0)) in
+      omega (arith, w, long, byte-at s at 2 (at + 2) refl)
+
+  place-next : UndosAt (drop (at + (3 + length (u .bytes))) s) us
+  place-next =
+      let e : 3 + getD (drop at s) 2 0 ≡ 3 + length (u .bytes) = omega (arith, long, byte-at s at 2 (at + 2) refl) in
+      subst (λ (l : List ℕ). UndosAt l us) (drop-drop (3 + getD (drop at s) 2 0) at s ∙ ap (λ (n : ℕ). drop (at + n) s) e) (a .2)
+
+-- a turn of the loop that lists them
+pub record PlaceTurn (s places : List ℕ) (at k n : ℕ) (us : List Write) : Type 0 where
+  pub within : at + 3 + getD s (at + 2) 0 ≤ length s
+  pub rest : List Write
+  pub count : length rest ≡ n - (k + 1)
+  pub there : UndosAt (drop (at + 3 + getD s (at + 2) 0) s) rest
+  pub same : sets places k (undoStarts at us) ≡ sets (set places k at) (k + 1) (undoStarts (at + 3 + getD s (at + 2) 0) rest)
+
+pub place-turn : (s places : List ℕ) (at k n : ℕ) (us : List Write) → k < n → length us ≡ n - k → UndosAt (drop at s) us → PlaceTurn s places at k n us
+place-turn s places at k n [] h l a = absurd (omega (arith, h, l))
+place-turn s places at k n (u ∷ us) h l a =
+    let e : at + (3 + length (u .bytes)) ≡ at + 3 + getD s (at + 2) 0 = omega (arith, long s at u us a) in
+    record {
+      within = omega (arith, e, place-within s at u us a);
+      rest = us;
+      count = omega (arith, l);
+      there = subst (λ (n : ℕ). UndosAt (drop n s) us) e (place-next s at u us a);
+      same = ap₂ (λ (j m : ℕ). sets (set places k at) j (undoStarts m us)) (sym (add-one k)) e;
+    }
+
+pub place-done : (places : List ℕ) (at k : ℕ) (us : List Write) → length us ≡ 0 → sets places k (undoStarts at us) ≡ places
+place-done places at k [] l = refl
+place-done places at k (u ∷ us) l = absurd (omega (arith, l))
+
+-- what stands where the k-th begins
+pub place-of : (s : List ℕ) (at : ℕ) (us : List Write) (k : ℕ) → UndosAt (drop at s) us → k < length us
+    → let at = getD (undoStarts at us) k 0 in (undoHere (drop at s) ≡ true) × (firstUndo (drop at s) ≡ getD us k noWrite)
+place-of s at [] k a h = absurd (omega (arith, h))
+place-of s at (u ∷ us) zero a h = (a .0, sym (a .1))
+place-of s at (u ∷ us) (suc k) a h = place-of s (at + (3 + length (u .bytes))) us k (place-next s at u us a) (omega (arith, h))
+
+pub starts-length : (at : ℕ) (us : List Write) → length (undoStarts at us) ≡ length us
+starts-length at [] = refl
+starts-length at (u ∷ us) = ap suc (starts-length (at + (3 + length (u .bytes))) us)
+
+-- the newest of those left is laid first
+pub undo-take : (us : List Write) (k : ℕ) (m : List ℕ) → k < length us
+    → undoAll layBytes (take (suc k) us) m ≡ undoAll layBytes (take k us) (layBytes (getD us k noWrite) m)
+undo-take [] k m h = absurd (omega (arith, h))
+undo-take (u ∷ us) zero m h = refl
+undo-take (u ∷ us) (suc k) m h = ap (layBytes u) (undo-take us k m (omega (arith, h)))

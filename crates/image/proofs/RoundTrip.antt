@@ -21,14 +21,13 @@ use Rattle.transaction.specs.Rules.{rangeOk}
 use Rattle.transaction.proofs.Lists.{up-same}
 use Rattle.transaction.proofs.Ranges.{counted, ranged}
 use Rattle.image.specs.declared.Image.{Image}
-use Rattle.image.specs.declared.read.Decoded.{Decoded}
 use Rattle.image.specs.Slots.{slotAt, listed, outlineAt}
 use Rattle.image.specs.Rules.{imageOk, keepsRules}
 use Rattle.image.specs.Content.{Saved, saved, Content, savedAt, savedIn, contentOf, rangeOf, outlineIn, contentOk, transactionOf, transactionsIn}
 use Rattle.image.specs.Format.{encodeHead, encodeUndo, encodeUndos, encodeTx, encodeTxs, encodeContent, encodeImage, undosIn, txSize, imageSize}
 use Rattle.image.specs.Reading.{undoHere, firstUndo, readUndos, savedIf, readTx, onTx, readTxs, contentIf, readContent, memoryOf}
 use Rattle.image.specs.Pack.{packed}
-use Rattle.image.specs.Decode.{decodeOf}
+use Rattle.image.specs.Decode.{Decoded, decodeOf}
 use Rattle.image.proofs.Lists.{up-map}
 use Rattle.image.proofs.Rules.{undo-at}
 use Rattle.image.proofs.Pushing.{UndosOk, undos-few, undos-ranged, first-ranged, rest-ranged, ranges-of}

@@ -18,40 +18,30 @@ use Rattle.transaction.proofs.Lists.{length-up, all-at, up-turn, every-at}
 use Rattle.transaction.proofs.Heads.{Ruled, head-rules}
 use Rattle.image.specs.declared.Image.{Image}
 use Rattle.image.specs.Slots.{slotAt, outlineAt, outlined}
-use Rattle.image.specs.Rules.{alikeTo, distinct, outlinesOk, boundsOk, imageOk, keepsRules}
-
--- ---- the tests, in the code's order
-
-module _ (i : Image) where
-  abbrev pub bounds : Bool
-  bounds = boundsOk (i .logend) (i .ondisk .0) (i .assigned .0) (i .count)
-
-  abbrev pub eachOk : Bool
-  eachOk = every (outlineOk (i .lastid .0) (i .assigned .0)) (outlined (i .txs) (i .count))
-
-  pub rules-are : keepsRules i ≡ bounds && (eachOk && distinct (outlined (i .txs) (i .count)))
-  rules-are =
-      ap (λ (n : ℕ). boundsOk (i .logend) (i .ondisk .0) (i .assigned .0) n && (eachOk && distinct (outlined (i .txs) (i .count))))
-      (length-up (outlineAt (i .txs)) (i .count) 0)
-
-  pub bounds-count : bounds ≡ true → i .count ≤ 8
-  bounds-count e = leb-true (i .count) 8 (and-right (leb (i .logend) 16384 && leb (i .ondisk .0) (i .assigned .0)) _ e)
+use Rattle.image.specs.Rules.{alikeTo, distinct, outlinesOk, imageOk, keepsRules}
 
 -- ---- a turn of the loop over pairs
 
-module _ (txs : List Tx) (n i : ℕ) (h : i < n) where
-  turn : distinct (upFrom (outlineAt txs) (n - i) i)
-      ≡ not (any (alike (slotAt txs i .id .0) (slotAt txs i .csn .0)) (upFrom (outlineAt txs) (n - (i + 1)) (i + 1)))
-      && distinct (upFrom (outlineAt txs) (n - (i + 1)) (i + 1))
-  turn = ap distinct (up-turn (outlineAt txs) n i h)
+module _ (o : ℕ → Outline) (n i : ℕ) (h : i < n) where
+  turn : distinct (upFrom o (n - i) i) ≡ not (any (alikeTo (o i)) (upFrom o (n - (i + 1)) (i + 1))) && distinct (upFrom o (n - (i + 1)) (i + 1))
+  turn = ap distinct (up-turn o n i h)
 
+  pub apart-hit : any (alikeTo (o i)) (upFrom o (n - (i + 1)) (i + 1)) ≡ true → distinct (upFrom o (n - i) i) ≡ false
+  apart-hit e = turn ∙ rw e
+
+  pub apart-miss : any (alikeTo (o i)) (upFrom o (n - (i + 1)) (i + 1)) ≡ false
+      → distinct (upFrom o (n - i) i) ≡ distinct (upFrom o (n - (i + 1)) (i + 1))
+  apart-miss e = turn ∙ rw e
+
+-- of the transactions in slots
+module _ (txs : List Tx) (n i : ℕ) (h : i < n) where
   pub distinct-hit : any (alike (slotAt txs i .id .0) (slotAt txs i .csn .0)) (upFrom (outlineAt txs) (n - (i + 1)) (i + 1)) ≡ true
       → distinct (upFrom (outlineAt txs) (n - i) i) ≡ false
-  distinct-hit e = turn ∙ rw e
+  distinct-hit = apart-hit (outlineAt txs) n i h
 
   pub distinct-miss : any (alike (slotAt txs i .id .0) (slotAt txs i .csn .0)) (upFrom (outlineAt txs) (n - (i + 1)) (i + 1)) ≡ false
       → distinct (upFrom (outlineAt txs) (n - i) i) ≡ distinct (upFrom (outlineAt txs) (n - (i + 1)) (i + 1))
-  distinct-miss e = turn ∙ rw e
+  distinct-miss = apart-miss (outlineAt txs) n i h
 
 -- ---- what the rules give
 

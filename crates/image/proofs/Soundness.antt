@@ -116,6 +116,24 @@ content-inv s c e = go (leb 4109 (length s)) (leb (getD s 12 0) 8) refl refl
     go true false p q = let f : _≡_ {A = Option Content} none (some c) = rw (p, q) at e in clash (cc)
     go false b p q = let f : _≡_ {A = Option Content} none (some c) = rw p at e in clash (cc)
 
+-- its transactions are those read
+pub content-read : (s : List ℕ) (c : Content) → readContent s ≡ some c → readTxs (length (c .txs)) (drop 4109 s) ≡ some (c .txs)
+unfolding readContent
+content-read s c e = go (leb 4109 (length s)) (leb (getD s 12 0) 8) refl refl
+  where
+    read : (y : Option (List Saved)) → readTxs (getD s 12 0) (drop 4109 s) ≡ y
+        → contentIf (be16 s 0) (be32 s 2) (be32 s 6) (be16 s 10) y ≡ some c → readTxs (length (c .txs)) (drop 4109 s) ≡ some (c .txs)
+    read none q f = clash (cc)
+    read (some ts) q f =
+        let i = txs-inv (getD s 12 0) (drop 4109 s) ts q in
+        subst (λ (x : Content). readTxs (length (x .txs)) (drop 4109 s) ≡ some (x .txs)) (ap (contentOr c) f)
+        (ap (λ (n : ℕ). readTxs n (drop 4109 s)) (i .0) ∙ q)
+
+    go : (a b : Bool) → leb 4109 (length s) ≡ a → leb (getD s 12 0) 8 ≡ b → readTxs (length (c .txs)) (drop 4109 s) ≡ some (c .txs)
+    go true true p q = read (readTxs (getD s 12 0) (drop 4109 s)) refl (rw (p, q) at e)
+    go true false p q = let f : _≡_ {A = Option Content} none (some c) = rw (p, q) at e in clash (cc)
+    go false b p q = let f : _≡_ {A = Option Content} none (some c) = rw p at e in clash (cc)
+
 head-sound : (s : List ℕ) (c : Content) → Bytes s → ContentAt s c → items s 13 0 ≡ encodeHead c
 head-sound s c b a =
     sym
@@ -148,8 +166,11 @@ keeping-inv (some x) c e = go (contentOk x) refl e
     go false p f = clash (cc)
 
 module _ (s : List ℕ) (c : Content) (e : readImage s ≡ some c) where
+  pub image-content : readContent s ≡ some c
+  image-content = keeping-inv (readContent s) c e .0
+
   in-place : ContentAt s c
-  in-place = content-inv s c (keeping-inv (readContent s) c e .0)
+  in-place = content-inv s c image-content
 
   pub image-keeps : contentOk c ≡ true
   image-keeps = keeping-inv (readContent s) c e .1

@@ -1,7 +1,7 @@
 -- Ids and commit numbers of the slots, apart from the records.
 use Prim.Native.Nat.{ℕ}
 use mathlib.Core.List.{List, []}
-use lib.ListN.{getD}
+use lib.ListN.{getD, replicate}
 use Rattle.layout.specs.{maxTxs}
 use Rattle.log.specs.declared.TxId.{TxId}
 use Rattle.log.specs.declared.Csn.{Csn}
@@ -16,6 +16,9 @@ idAt txs i = slotAt txs i .id
 
 abbrev pub csnAt : List Tx → ℕ → Csn
 csnAt txs i = slotAt txs i .csn
+
+unfoldable pub noKeys : Keys
+noKeys = record { ids = replicate maxTxs (record { 0 = 0 }); csns = replicate maxTxs (record { 0 = 0 }) }
 
 -- those of every slot, used or not
 unfoldable pub keysOf : List Tx → Keys

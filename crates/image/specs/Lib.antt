@@ -7,3 +7,4 @@ pub mod Format
 pub mod Reading
 pub mod Pack
 pub mod Decode
+pub mod Heads

@@ -10,22 +10,29 @@ ghost use Rattle.layout.specs.{maxTxs};
 ghost use Rattle.recovery.specs.Lists.{any};
 ghost use Rattle.transaction.specs.Lists.{upFrom};
 ghost use Rattle.transaction.specs.Rules.{alike};
-ghost use Rattle.image.specs.Keys.{keysOf, keyAt};
+ghost use Rattle.image.specs.Rules.{distinct};
+ghost use Rattle.image.specs.Keys.{noKeys, keysOf, keyAt};
 
 pub struct Keys {
     pub ids: [TxId; MAX_TXS],
     pub csns: [Csn; MAX_TXS],
 }
 
-pub fn keys_of(txs: [Tx; MAX_TXS]) -> Keys
-    ensures { λ r. ⌜ r ≡ keysOf txs ⌝ }
+pub(crate) fn no_keys() -> Keys
+    ensures { λ r. ⌜ r ≡ noKeys ⌝ }
 {
     let id = TxId(0);
     let csn = Csn(0);
-    let mut keys = Keys {
+    Keys {
         ids: [id; MAX_TXS],
         csns: [csn; MAX_TXS],
-    };
+    }
+}
+
+pub fn keys_of(txs: [Tx; MAX_TXS]) -> Keys
+    ensures { λ r. ⌜ r ≡ keysOf txs ⌝ }
+{
+    let mut keys = no_keys();
     let mut i: usize = 0;
     while i < MAX_TXS {
         keys.ids[i] = TxId(txs[i].id.0);
@@ -48,4 +55,21 @@ pub fn alike_from(keys: Keys, n: usize, i: usize, id: TxId, csn: Csn) -> bool
         j += 1;
     }
     false
+}
+
+// No two of the first n have an id or a commit number in common.
+pub(crate) fn distinct(keys: Keys, n: usize) -> bool
+    requires { ⌜ n ≤ maxTxs ⌝ }
+    ensures { λ r. ⌜ r ≡ distinct (upFrom (keyAt keys) n 0) ⌝ }
+{
+    let mut i: usize = 0;
+    while i < n {
+        let id = keys.ids[i];
+        let csn = keys.csns[i];
+        if alike_from(keys, n, i + 1, id, csn) {
+            return false;
+        }
+        i += 1;
+    }
+    true
 }

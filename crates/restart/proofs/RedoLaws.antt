@@ -1,5 +1,5 @@
 -- Laws of the redo records at the front of a list: one at a time, as the code does them, and that of a whole group they are its writes.
-use Prim.Native.Nat.{ℕ, _+_, _-_, _≤_}
+use Prim.Native.Nat.{ℕ, _+_, _-_, _≤_, _<_}
 use native.Mathlib.Omega.{arith}
 use mathlib.Core.List.{List, [], _∷_}
 use mathlib.Core.Option.{Option, none, some}
@@ -8,12 +8,12 @@ use lib.ListN.{length, getD, take, drop, length-drop}
 use lib.Seq.{sets, drop-drop, length-take-le}
 use lib.Dec.{eqb}
 use borrow.Author.Tests.{eqb-true}
-use Rattle.recovery.specs.Group.{Write}
+use Rattle.recovery.specs.Group.{Write, redoSize}
 use Rattle.recovery.specs.Replay.{redoAll, layBytes}
 use Rattle.log.specs.Number.{be16, be32}
 use Rattle.log.specs.Record.{Record, redo, commit, abort, inRange, readRedo, readCommit, readAbort, readRecord}
 use Rattle.log.specs.Group.{readBody}
-use Rattle.log.proofs.Basics.{nonzero-within, and-left, and-right, Turned}
+use Rattle.log.proofs.Basics.{nonzero-within, and-left, and-right}
 use Rattle.log.proofs.Reader.{Shrinks, step}
 use Rattle.log.proofs.RecordLaws.{keep-inv, record-cases, record-within}
 use Rattle.log.proofs.GroupLaws.{body-inv}
@@ -22,8 +22,9 @@ use Rattle.restart.specs.Turns.{layFront, frontSize, onRecord, redoStep,
 
 -- ---- what a redo record that is read says of its bytes
 
-abbrev RedoIs : List ℕ → Record → Type 0
-RedoIs s (redo id w) = (w .bytes ≡ take (length (w .bytes)) (drop 6 s)) × (w .addr + length (w .bytes) ≤ 4096)
+abbrev pub RedoIs : List ℕ → Record → Type 0
+RedoIs s (redo id w) =
+    (w .addr ≡ be16 s 3) × (length (w .bytes) ≡ getD s 5 0) × (w .bytes ≡ take (getD s 5 0) (drop 6 s)) × (w .addr + length (w .bytes) ≤ 4096)
 RedoIs s (commit id n) = Unit {0}
 RedoIs s (abort id) = Unit {0}
 
@@ -36,7 +37,7 @@ redo-is id s r e =
     let b : getD s (6 + n) 0 ≡ 1 = eqb-true _ _ (and-left (eqb (getD s (6 + n) 0) 1) (inRange (be16 s 3) n) (i .0)) in
     let l = nonzero-within s (6 + n) 0 b in
     let d : length (take n (drop 6 s)) ≡ n = length-take-le n (drop 6 s) (simp length-drop (omega arith)) in
-    subst (λ (r : Record). RedoIs s r) (i .1) (ap (λ (k : ℕ). take k (drop 6 s)) (sym d), omega (arith, t))
+    subst (λ (r : Record). RedoIs s r) (i .1) (refl, d, refl, omega (arith, t, d))
 
 commit-is : (id : ℕ) (s : List ℕ) (r : Record) → readCommit id s ≡ some r → RedoIs s r
 unfolding readCommit
@@ -46,8 +47,7 @@ abort-is : (id : ℕ) (s : List ℕ) (r : Record) → readAbort id s ≡ some r 
 unfolding readAbort
 abort-is id s r e = subst (λ (r : Record). RedoIs s r) (keep-inv (eqb (getD s 3 0) 3) (abort id) r e .1) (tt {0})
 
-pub redo-parts : (s : List ℕ) (id : ℕ) (w : Write) → readRecord s ≡ some (redo id w)
-    → (w .bytes ≡ take (length (w .bytes)) (drop 6 s)) × (w .addr + length (w .bytes) ≤ 4096)
+pub redo-parts : (s : List ℕ) (id : ℕ) (w : Write) → readRecord s ≡ some (redo id w) → RedoIs s (redo id w)
 redo-parts s id w =
     record-cases (λ r. RedoIs s r) s (λ r k e. redo-is _ s r e) (λ r k e. commit-is _ s r e) (λ r k e. abort-is _ s r e) (redo id w)
 
@@ -78,58 +78,76 @@ front-body prev id (w ∷ ws) s e =
     let i = body-inv prev id s (w ∷ ws) e in
     front-by s _ (i .0) ∙ ap (λ (vs : List Write). w ∷ vs) (front-body prev id ws (drop (7 + length (w .bytes)) s) (i .1))
 
--- ---- the code's cases
+-- ---- the code's turns
 
-module _ (s m : List ℕ) where
-  pub redo-case : (id at n : ℕ) (w : Write) (c : List ℕ) → readRecord s ≡ some (redo id w) → w .addr ≡ at → length (w .bytes) ≡ n
-      → c ≡ sets m at (take (6 + n - 6) (drop 6 s))
-      → (7 + n ≡ frontSize (readRecord s)) × (c ≡ layFront (readRecord s) m)
-  redo-case id at n w c e p h q =
-      let k : 6 + n - 6 ≡ length (w .bytes) = omega arith in
-      let b : take (6 + n - 6) (drop 6 s) ≡ w .bytes = ap (λ (j : ℕ). take j (drop 6 s)) k ∙ sym (redo-parts s id w e .0) in
-      (rw e (omega arith), rw e (q ∙ ap₂ (λ (a : ℕ) (bs : List ℕ). sets m a bs) (sym p) b))
+module _ (s m : List ℕ) (id : ℕ) (w : Write) (e : readRecord s ≡ some (redo id w)) where
+  pub redo-case : (at : ℕ) (c : List ℕ) → at ≡ be16 s 3 → c ≡ sets m at (take (6 + getD s 5 0 - 6) (drop 6 s))
+      → (7 + getD s 5 0 ≡ frontSize (readRecord s)) × (c ≡ layFront (readRecord s) m)
+  redo-case at c p q =
+      let i = redo-parts s id w e in
+      let k : 6 + getD s 5 0 - 6 ≡ getD s 5 0 = omega arith in
+      let b : take (6 + getD s 5 0 - 6) (drop 6 s) ≡ w .bytes = ap (λ (j : ℕ). take j (drop 6 s)) k ∙ sym (i .2) in
+      (rw e (omega (arith, i .1)), rw e (q ∙ ap₂ (λ (a : ℕ) (bs : List ℕ). sets m a bs) (p ∙ sym (i .0)) b))
 
-  -- no redo record
-  pub other-case : (x : Option Record) → readRecord s ≡ x → frontSize x ≡ 0 → layFront x m ≡ m
-      → (0 ≡ frontSize (readRecord s)) × (m ≡ layFront (readRecord s) m)
-  other-case x e h p = (sym (ap frontSize e ∙ h), sym (ap (λ (y : Option Record). layFront y m) e ∙ p))
+-- the records that are left, up to the place where they end
+pub record Body (size : ℕ) (s : List ℕ) (at : ℕ) : Type 0 where
+  pub prev : ℕ
+  pub id : ℕ
+  pub writes : List Write
+  pub read : readBody prev id (drop at s) ≡ some writes
+  pub ends : at + redoSize writes ≡ size
 
--- ---- a turn of the code's loop, at a place of a list
+-- one of them
+pub body-here : (size : ℕ) (s : List ℕ) (at : ℕ) → Body size s at → at < size → (id : ℕ) × (w : Write) × (readRecord (drop at s) ≡ some (redo id w))
+body-here size s at b h = go (b .writes) (b .read) (b .ends)
+  where
+    go : (ws : List Write) → readBody (b .prev) (b .id) (drop at s) ≡ some ws → at + redoSize ws ≡ size
+        → (id : ℕ) × (w : Write) × (readRecord (drop at s) ≡ some (redo id w))
+    go [] e l = absurd (omega (arith, l, h))
+    go (w ∷ ws) e l = (b .id, w, body-inv (b .prev) (b .id) (drop at s) (w ∷ ws) e .0)
 
-module _ (s m c : List ℕ) (at k : ℕ) (size : k ≡ frontSize (readRecord (drop at s))) (laid : c ≡ layFront (readRecord (drop at s)) m) where
-  pub redo-turn : at ≤ length s → (k ≡ 0 → ⊥)
-      → Turned s at (at + k) (redoAll layBytes (frontWrites (drop at s)) m) (redoAll layBytes (frontWrites (drop (at + k) s)) c)
-  redo-turn l z = go (readRecord (drop at s)) refl
+-- a turn of the loop, to the next one
+module _ (size : ℕ) (s m c : List ℕ) (at k : ℕ) (b : Body size s at) (h : at < size) (fits : k ≡ frontSize (readRecord (drop at s)))
+    (laid : c ≡ layFront (readRecord (drop at s)) m) where
+  pub record RedoTurn : Type 0 where
+    pub grows : at < at + k
+    pub within : at + k ≤ size
+    pub inside : at + k ≤ length s
+    pub rest : Body size s (at + k)
+    pub same : redoAll layBytes (frontWrites (drop at s)) m ≡ redoAll layBytes (frontWrites (drop (at + k) s)) c
+
+  pub redo-turn : RedoTurn
+  redo-turn = go (b .writes) (b .read) (b .ends)
     where
-      go : (x : Option Record) → readRecord (drop at s) ≡ x
-          → Turned s at (at + k) (redoAll layBytes (frontWrites (drop at s)) m) (redoAll layBytes (frontWrites (drop (at + k) s)) c)
-      go none e = absurd (z (size ∙ ap frontSize e))
-      go (some (redo i w)) e =
-          let n : k ≡ 7 + length (w .bytes) = size ∙ ap frontSize e in
+      go : (ws : List Write) → readBody (b .prev) (b .id) (drop at s) ≡ some ws → at + redoSize ws ≡ size → RedoTurn
+      go [] e l = absurd (omega (arith, l, h))
+      go (w ∷ ws) e l =
+          let i = body-inv (b .prev) (b .id) (drop at s) (w ∷ ws) e in
+          let n : k ≡ 7 + length (w .bytes) = fits ∙ ap frontSize (i .0) in
           let d = length-drop at s in
-          let r = record-within (drop at s) _ e in
+          let r = record-within (drop at s) _ (i .0) in
+          let there : drop (7 + length (w .bytes)) (drop at s) ≡ drop (at + k) s =
+          drop-drop (7 + length (w .bytes)) at s ∙ ap (λ (j : ℕ). drop (at + j) s) (sym n) in
           record {
-            within = omega arith;
-            less = omega arith;
-            same = ap (λ (ws : List Write). redoAll layBytes ws m) (front-by (drop at s) _ e)
-                ∙ ap₂ (λ (t x : List ℕ). redoAll layBytes (frontWrites t) x)
-                (drop-drop (7 + length (w .bytes)) at s ∙ ap (λ (j : ℕ). drop (at + j) s) (sym n))
-                (sym (laid ∙ ap (λ (y : Option Record). layFront y m) e));
+            grows = omega (arith, n);
+            within = omega (arith, n, l);
+            inside = omega (arith, n, d, r);
+            rest =
+                record {
+                  prev = b .prev;
+                  id = b .id;
+                  writes = ws;
+                  read = ap (readBody (b .prev) (b .id)) (sym there) ∙ i .1;
+                  ends = omega (arith, n, l);
+                };
+            same = ap (λ (vs : List Write). redoAll layBytes vs m) (front-by (drop at s) _ (i .0))
+                ∙ ap₂ (λ (t x : List ℕ). redoAll layBytes (frontWrites t) x) there (sym (laid ∙ ap (λ (y : Option Record). layFront y m) (i .0)));
           }
-      go (some (commit i n)) e = absurd (z (size ∙ ap frontSize e))
-      go (some (abort i)) e = absurd (z (size ∙ ap frontSize e))
 
-  pub redo-done : k ≡ 0 → redoAll layBytes (frontWrites (drop at s)) m ≡ c
-  redo-done z = go (readRecord (drop at s)) refl
-    where
-      none-left : (x : Option Record) → readRecord (drop at s) ≡ x → onRecord (λ (u : ℕ) (t : List ℕ). frontWrites t) 0 (drop at s) x ≡ [] → layFront x m ≡ m
-          → redoAll layBytes (frontWrites (drop at s)) m ≡ c
-      none-left x e f g =
-          ap (λ (ws : List Write). redoAll layBytes ws m) (front-by (drop at s) x e ∙ f)
-          ∙ sym (laid ∙ ap (λ (y : Option Record). layFront y m) e ∙ g)
-
-      go : (x : Option Record) → readRecord (drop at s) ≡ x → redoAll layBytes (frontWrites (drop at s)) m ≡ c
-      go none e = none-left none e refl refl
-      go (some (redo i w)) e = absurd (let n : k ≡ 7 + length (w .bytes) = size ∙ ap frontSize e in omega arith)
-      go (some (commit i n)) e = none-left _ e refl refl
-      go (some (abort i)) e = none-left _ e refl refl
+-- the end: none is left
+pub redo-done : (size : ℕ) (s m : List ℕ) (at : ℕ) → Body size s at → size ≤ at → redoAll layBytes (frontWrites (drop at s)) m ≡ m
+redo-done size s m at b h = go (b .writes) (b .read) (b .ends)
+  where
+    go : (ws : List Write) → readBody (b .prev) (b .id) (drop at s) ≡ some ws → at + redoSize ws ≡ size → redoAll layBytes (frontWrites (drop at s)) m ≡ m
+    go [] e l = ap (λ (vs : List Write). redoAll layBytes vs m) (front-body (b .prev) (b .id) [] (drop at s) e)
+    go (w ∷ ws) e l = absurd (omega (arith, l, h))

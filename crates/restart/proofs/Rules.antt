@@ -19,11 +19,11 @@ use Rattle.transaction.proofs.Lists.{all-at, all-up}
 use Rattle.image.specs.declared.Image.{Image}
 use Rattle.image.specs.Slots.{outlineAt}
 use Rattle.image.specs.Rules.{keepsRules}
-use Rattle.image.proofs.Rules.{image-count, image-distinct, head-at, undo-at, distinct-at}
+use Rattle.image.proofs.Rules.{image-count, image-distinct, head-at, distinct-at}
 use Rattle.restart.specs.declared.forward.Slot.the-variants.{At, Nowhere}
 use Rattle.image.specs.Content.{transactionsIn}
 use Rattle.restart.specs.Slots.{transactionAt, hasIdAt, imageSlot}
-use Rattle.restart.specs.Turns.{Undoable}
+use Rattle.restart.specs.Turns.{StatusByCsn}
 use Rattle.restart.proofs.SlotLaws.{first-at, first-none, txs-up}
 
 -- the number tells the status
@@ -42,11 +42,10 @@ numbers last assigned id status csn e = go (eqb status 1) refl (and-right (leb i
         (sym z, rw (s, z))
 
 module _ (image : Image) (ok : keepsRules image ≡ true) where
-  pub undoable : Undoable image
-  undoable =
+  pub status-by-csn : StatusByCsn image
+  status-by-csn =
       record {
         few = image-count image ok;
-        ranged = undo-at image ok;
         running = λ i h. numbers _ _ _ _ _ (head-at image ok i h) .0;
         committing = λ i h. numbers _ _ _ _ _ (head-at image ok i h) .1;
       }

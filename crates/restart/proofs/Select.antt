@@ -26,8 +26,8 @@ use Rattle.restart.specs.declared.forward.Slot.the-variants.{At, Nowhere
 use Rattle.restart.specs.declared.undo.Best.{Best}
 use Rattle.restart.specs.Slots.{transactionAt, oneIf, firstBelow, filterBelow}
 use Rattle.restart.specs.Undo.{isRunning, isLost, runningAt, lostAt, lostBy, runningOf, lostOf, undoneOf}
-use Rattle.restart.specs.Turns.{Undoable, runningIn, betterOf, bestOf, orBest, nextOf}
-use Rattle.restart.proofs.SlotLaws.{first-at, first-none, first-same, filter-length, filter-same, filter-none, filter-first}
+use Rattle.restart.specs.Turns.{StatusByCsn, runningIn, betterOf, bestOf, orBest, nextOf}
+use Rattle.restart.proofs.SlotLaws.{first-at, first-none, first-same, filter-both, filter-same, filter-none, filter-first}
 
 module _ (image : Image) (found : List ℕ) where
   -- unfinished and committing
@@ -170,7 +170,7 @@ same-but p q i n a b h j l = go (eqb j i) refl
 
 -- ---- by the keys as by the image
 
-module _ (image : Image) (u : Undoable image) (keys : Keys) (same : keys ≡ keysOf (image .txs)) (found : List ℕ) where
+module _ (image : Image) (u : StatusByCsn image) (keys : Keys) (same : keys ≡ keysOf (image .txs)) (found : List ℕ) where
   number-at : (j : ℕ) → j < image .count → getD (keys .csns) j (record { 0 = 0 }) ≡ slotAt (image .txs) j .csn
   number-at j h = key-csn (image .txs) keys same j (omega (arith, u .few))
 
@@ -211,18 +211,17 @@ pub left-is : (image : Image) (p : Pass) → undoneOf image p ≡ leftBy image (
 unfolding runningOf lostOf
 left-is image p = refl
 
-pub left-few : (image : Image) (found : List ℕ) (n : ℕ) → length (leftBy image found n) ≤ image .count + image .count
+pub left-few : (image : Image) (found : List ℕ) (n : ℕ) → length (leftBy image found n) ≤ image .count
 left-few image found n =
     let rs = filterBelow (runningAt image found) (transactionAt image) (image .count) in
     omega (
       arith,
       length-append rs (sortDesc (lostBy image found n)),
-      filter-length (runningAt image found) (transactionAt image) (image .count),
       sort-length (lostBy image found n),
-      filter-length (lostAt image found n) (transactionAt image) (image .count),
+      filter-both (runningAt image found) (lostAt image found n) (transactionAt image) (image .count) (λ j. not-both image found j n),
     )
 
-module _ (image : Image) (u : Undoable image) (keys : Keys) (same : keys ≡ keysOf (image .txs)) (found : List ℕ) (csn : Csn)
+module _ (image : Image) (u : StatusByCsn image) (keys : Keys) (same : keys ≡ keysOf (image .txs)) (found : List ℕ) (csn : Csn)
     (long : image .count ≤ length found) where
   abbrev runs : ℕ → Bool
   runs = runningAt image found
@@ -271,15 +270,15 @@ module _ (image : Image) (u : Undoable image) (keys : Keys) (same : keys ≡ key
       ap₂ orBest (first-same runs (runningIn (keys .csns) found) (image .count) (running-same image u keys same found))
       (best-same image u keys same found csn (image .count) (omega arith))
 
-  pub next-some : (i : ℕ) → nextOf (keys .csns) found csn (image .count) ≡ At i → Next i
-  next-some i e = go (firstBelow runs (image .count)) refl (sym next-by ∙ e)
+  pub next-some : (n i : ℕ) → image .count ≡ n → nextOf (keys .csns) found csn n ≡ At i → Next i
+  next-some n i c e = go (firstBelow runs (image .count)) refl (sym next-by ∙ ap (nextOf (keys .csns) found csn) c ∙ e)
     where
       go : (x : Slot) → firstBelow runs (image .count) ≡ x → orBest x (bestAt image found csn (image .count)) ≡ At i → Next i
       go (At j) q z = let s : j ≡ i = cc in next-running i (q ∙ ap At s)
       go Nowhere q z = next-lost i q z
 
-  pub next-none : nextOf (keys .csns) found csn (image .count) ≡ Nowhere → leftBy image found (csn .0) ≡ []
-  next-none e = go (firstBelow runs (image .count)) refl (sym next-by ∙ e)
+  pub next-none : (n : ℕ) → image .count ≡ n → nextOf (keys .csns) found csn n ≡ Nowhere → leftBy image found (csn .0) ≡ []
+  next-none n c e = go (firstBelow runs (image .count)) refl (sym next-by ∙ ap (nextOf (keys .csns) found csn) c ∙ e)
     where
       go : (x : Slot) → firstBelow runs (image .count) ≡ x → orBest x (bestAt image found csn (image .count)) ≡ Nowhere → leftBy image found (csn .0) ≡ []
       go (At j) q z = clash (cc)

@@ -61,11 +61,12 @@ first-same p q zero h = refl
 first-same p q (suc n) h = ap₂ (λ (f : Slot) (b : Bool). orAt f b n) (first-same p q n (λ j l. h j (omega arith))) (h n (omega arith))
 
 -- by the keys as by the image
-pub slot-in : (image : Image) (keys : Keys) → keys ≡ keysOf (image .txs) → image .count ≤ 8
-    → (id : ℕ) → slotIn (keys .ids) (image .count) id ≡ imageSlot image id
-slot-in image keys e few id =
-    first-same (hasIdAt image id) (hasIdIn (keys .ids) id) (image .count)
+pub slot-in : (image : Image) (keys : Keys) (n : ℕ) → keys ≡ keysOf (image .txs) → image .count ≡ n → n ≤ 8
+    → (id : ℕ) → slotIn (keys .ids) n id ≡ imageSlot image id
+slot-in image keys n e c few id =
+    first-same (hasIdAt image id) (hasIdIn (keys .ids) id) n
     (λ j h. ap (λ (x : TxId). eqb (x .0) id) (key-id (image .txs) keys e j (omega arith)))
+    ∙ ap (firstBelow (hasIdAt image id)) (sym c)
 
 -- where none was found, none passes it
 pub first-none : (p : ℕ → Bool) (n : ℕ) → firstBelow p n ≡ Nowhere → (i : ℕ) → i < n → p i ≡ false
@@ -80,14 +81,24 @@ first-none p (suc n) e i h = go (first-none p n) (firstBelow p n) refl (p n) ref
     go ih Nowhere q false r z false s = let d = eqb-false i n s in ih q i (omega (arith, d))
 
 module _ {A : Type 0} where
-  one-length : (b : Bool) (a : A) → length (oneIf b a) ≤ 1
-  one-length true a = omega arith
-  one-length false a = omega arith
-
-  pub filter-length : (p : ℕ → Bool) (f : ℕ → A) (n : ℕ) → length (filterBelow p f n) ≤ n
-  filter-length p f zero = omega arith
-  filter-length p f (suc n) =
-      omega (arith, filter-length p f n, length-append (filterBelow p f n) (oneIf (p n) (f n)), one-length (p n) (f n))
+  -- of two tests that never hold together
+  pub filter-both : (p q : ℕ → Bool) (f : ℕ → A) (n : ℕ) → ((j : ℕ) → p j ≡ true → q j ≡ false)
+      → length (filterBelow p f n) + length (filterBelow q f n) ≤ n
+  filter-both p q f zero h = omega arith
+  filter-both p q f (suc n) h =
+      omega (
+        arith,
+        filter-both p q f n h,
+        length-append (filterBelow p f n) (oneIf (p n) (f n)),
+        length-append (filterBelow q f n) (oneIf (q n) (f n)),
+        go (p n) (q n) (h n),
+      )
+    where
+      go : (b d : Bool) → (b ≡ true → d ≡ false) → length (oneIf b (f n)) + length (oneIf d (f n)) ≤ 1
+      go true true k = clash (let z : true ≡ false = k refl in cc)
+      go true false k = omega arith
+      go false true k = omega arith
+      go false false k = omega arith
 
   -- lists by tests that agree
   pub filter-same : (p q : ℕ → Bool) (f : ℕ → A) (n : ℕ) → ((j : ℕ) → j < n → q j ≡ p j) → filterBelow q f n ≡ filterBelow p f n

@@ -23,9 +23,9 @@ use Rattle.restart.specs.declared.forward.Pass.{Pass}
 use Rattle.restart.specs.declared.forward.Turn.{Turn}
 use Rattle.restart.specs.declared.forward.Slot.{Slot}
 use Rattle.restart.specs.declared.forward.Slot.the-variants.{At, Nowhere}
-use Rattle.restart.specs.Slots.{transactionAt}
+use Rattle.restart.specs.Slots.{transactionAt, imageSlot}
 use Rattle.restart.specs.Forward.{Went, wentBy, undoLogged, past, afterGroup, goOver}
-use Rattle.restart.specs.Turns.{hasIdIn, slotIn, unfinishedAt, frontWrites, Stepped, steppedBy, onGroup, turnStep}
+use Rattle.restart.specs.Turns.{hasIdIn, slotIn, unfinishedAt, frontWrites, TurnEnd, turnEndBy, onGroup, turnStep}
 use Rattle.restart.proofs.SlotLaws.{first-at, slot-in}
 use Rattle.restart.proofs.RedoLaws.{front-body}
 
@@ -106,8 +106,8 @@ abbrev pub undoneAt : Image → Slot → List ℕ → List ℕ
 undoneAt image Nowhere m = m
 undoneAt image (At i) m = undoAll layBytes (transactionAt image i .undo) m
 
-abbrev pub afterTurn : Image → Stepped → Went
-afterTurn image s = wentBy (undoneAt image (s .turn .undo) (s .memory)) (s .turn .pass)
+abbrev pub undoneTurn : Image → TurnEnd → Went
+undoneTurn image s = wentBy (undoneAt image (s .turn .undo) (s .memory)) (s .turn .pass)
 
 undo-same : (image : Image) (found : List ℕ) (slot : Slot) (m : List ℕ) → undoLogged image found slot m ≡ undoneAt image (unfinishedAt found slot) m
 undo-same image found Nowhere m = refl
@@ -125,24 +125,24 @@ module _ (ids : List TxId) (n : ℕ) (log : List ℕ) (w : Went) where
   unfolding turnStep
   turn-by x e = ap (λ (y : Option Group). onGroup ids n y w) e
 
-  pub turn-none : read ≡ none → turnStep ids n log w ≡ steppedBy (w .memory) (w .pass) Nowhere
+  pub turn-none : read ≡ none → turnStep ids n log w ≡ turnEndBy (w .memory) (w .pass) Nowhere
   turn-none e = turn-by none e
 
   pub turn-abort : (id k : ℕ) (slot undo : Slot) → read ≡ some (aborted id) → k ≡ 4 → slot ≡ slotIn ids n id → undo ≡ unfinishedAt (w .pass .found) slot
-      → turnStep ids n log w ≡ steppedBy (w .memory) (past (w .pass) slot id (w .pass .csn .0) 2 (w .pass .end + k)) undo
+      → turnStep ids n log w ≡ turnEndBy (w .memory) (past (w .pass) slot id (w .pass .csn .0) 2 (w .pass .end + k)) undo
   turn-abort id k slot undo e h x q = rw (q, h, x) (turn-by _ e)
 
   pub turn-commit : (id csn k : ℕ) (slot : Slot) (ws : List Write) (m : List ℕ) → read ≡ some (committed id csn ws)
       → k ≡ redoSize ws + 8 → slot ≡ slotIn ids n id → m ≡ redoAll layBytes (frontWrites (drop (w .pass .end) log)) (w .memory)
-      → turnStep ids n log w ≡ steppedBy m (past (w .pass) slot id csn 1 (w .pass .end + k)) Nowhere
+      → turnStep ids n log w ≡ turnEndBy m (past (w .pass) slot id csn 1 (w .pass .end + k)) Nowhere
   turn-commit id csn k slot ws m e h x q =
       let f = front-body (w .pass .csn .0) id ws (drop (w .pass .end) log) (group-inv _ _ (committed id csn ws) e .1) in
       rw (q, h, x, f) (turn-by _ e)
 
   -- the two parts of a turn from those of what it is
-  pub as-turn : (v : Stepped) (t : Turn) (m : List ℕ) → turnStep ids n log w ≡ v → t ≡ v .turn → m ≡ v .memory
+  pub as-turn : (v : TurnEnd) (t : Turn) (m : List ℕ) → turnStep ids n log w ≡ v → t ≡ v .turn → m ≡ v .memory
       → (t ≡ turnStep ids n log w .turn) × (m ≡ turnStep ids n log w .memory)
-  as-turn v t m e a b = (a ∙ ap (λ (x : Stepped). x .turn) (sym e), b ∙ ap (λ (x : Stepped). x .memory) (sym e))
+  as-turn v t m e a b = (a ∙ ap (λ (x : TurnEnd). x .turn) (sym e), b ∙ ap (λ (x : TurnEnd). x .memory) (sym e))
 
   -- one that is to be undone has a slot, and its abort record was passed
   pub turn-undo : (i : ℕ) → turnStep ids n log w .turn .undo ≡ At i → (i < n) × (w .pass .end < turnStep ids n log w .turn .pass .end)
@@ -159,42 +159,40 @@ module _ (ids : List TxId) (n : ℕ) (log : List ℕ) (w : Went) where
           at-same true j q = cc
           at-same false j q = clash (cc)
 
-      none-undone : (v : Stepped) → turnStep ids n log w ≡ v → v .turn .undo ≡ At i
-      none-undone v e = ap (λ (x : Stepped). x .turn .undo) (sym e) ∙ h
+      none-undone : (v : TurnEnd) → turnStep ids n log w ≡ v → v .turn .undo ≡ At i
+      none-undone v e = ap (λ (x : TurnEnd). x .turn .undo) (sym e) ∙ h
 
       go : (x : Option Group) → read ≡ x → (i < n) × (w .pass .end < turnStep ids n log w .turn .pass .end)
       go none e = let z = none-undone _ (turn-by none e) in clash (cc)
       go (some (committed id c ws)) e = let z = none-undone _ (turn-by _ e) in clash (cc)
       go (some (aborted id)) e =
           let t = turn-by (some (aborted id)) e in
-          let k : turnStep ids n log w .turn .pass .end ≡ w .pass .end + 4 = ap (λ (x : Stepped). x .turn .pass .end) t in
+          let k : turnStep ids n log w .turn .pass .end ≡ w .pass .end + 4 = ap (λ (x : TurnEnd). x .turn .pass .end) t in
           (found id (slotIn ids n id) refl (none-undone _ t), omega (arith, k))
 
 -- for the ids of the image
-pub turn-step : (image : Image) (keys : Keys) (log : List ℕ) (w : Went) → keys ≡ keysOf (image .txs) → image .count ≤ 8
-    → groupStep image log w ≡ afterTurn image (turnStep (keys .ids) (image .count) log w)
-turn-step image keys log w k few = go (readGroup (w .pass .csn .0) (drop (w .pass .end) log)) refl
+pub turn-step : (image : Image) (keys : Keys) (n : ℕ) (log : List ℕ) (w : Went) → keys ≡ keysOf (image .txs) → image .count ≡ n → n ≤ 8
+    → groupStep image log w ≡ undoneTurn image (turnStep (keys .ids) n log w)
+turn-step image keys n log w k c few = go (readGroup (w .pass .csn .0) (drop (w .pass .end) log)) refl
   where
-    n : ℕ
-    n = image .count
+    same : (id : ℕ) → imageSlot image id ≡ slotIn (keys .ids) n id
+    same id = sym (slot-in image keys n k c few id)
 
     turned : (x : Option Group) → readGroup (w .pass .csn .0) (drop (w .pass .end) log) ≡ x
-        → afterTurn image (onGroup (keys .ids) n x w) ≡ afterTurn image (turnStep (keys .ids) n log w)
-    turned x e = ap (afterTurn image) (sym (turn-by (keys .ids) n log w x e))
+        → undoneTurn image (onGroup (keys .ids) n x w) ≡ undoneTurn image (turnStep (keys .ids) n log w)
+    turned x e = ap (undoneTurn image) (sym (turn-by (keys .ids) n log w x e))
 
     go : (x : Option Group) → readGroup (w .pass .csn .0) (drop (w .pass .end) log) ≡ x
-        → groupStep image log w ≡ afterTurn image (turnStep (keys .ids) n log w)
+        → groupStep image log w ≡ undoneTurn image (turnStep (keys .ids) n log w)
     go none e = step-none image log w e ∙ turned none e
     go (some (committed id c ws)) e =
         step-by image log w _ e
-        ∙ ap (λ (slot : Slot). wentBy (redoAll layBytes ws (w .memory)) (past (w .pass) slot id c 1 (w .pass .end + (redoSize ws + 8))))
-        (sym (slot-in image keys k few id))
+        ∙ ap (λ (slot : Slot). wentBy (redoAll layBytes ws (w .memory)) (past (w .pass) slot id c 1 (w .pass .end + (redoSize ws + 8)))) (same id)
         ∙ turned _ e
     go (some (aborted id)) e =
         step-by image log w _ e
         ∙ ap (λ (slot : Slot).
-        wentBy (undoLogged image (w .pass .found) slot (w .memory)) (past (w .pass) slot id (w .pass .csn .0) 2 (w .pass .end + 4)))
-        (sym (slot-in image keys k few id))
+        wentBy (undoLogged image (w .pass .found) slot (w .memory)) (past (w .pass) slot id (w .pass .csn .0) 2 (w .pass .end + 4))) (same id)
         ∙ ap (λ (m : List ℕ). wentBy m (past (w .pass) (slotIn (keys .ids) n id) id (w .pass .csn .0) 2 (w .pass .end + 4)))
         (undo-same image (w .pass .found) (slotIn (keys .ids) n id) (w .memory))
         ∙ turned _ e

@@ -1,23 +1,24 @@
 -- What the contracts of the inner functions cite beside the steps: what they rest on, and single turns of their loops. `restartOf` has none
 -- of it.
 use Prim.Native.Nat.{ℕ, zero, suc, _+_, _≤_, _<_}
-use mathlib.Core.Bool.{Bool, true, cond, not, _&&_}
-use mathlib.Core.List.{List, [], _∷_}
+use mathlib.Core.Bool.{Bool, cond, not, _&&_}
+use mathlib.Core.List.{List, [], _∷_, map}
 use mathlib.Core.Option.{Option, none, some}
 use mathlib.Core.Path.{_≡_}
-use lib.ListN.{length, getD, drop}
+use lib.ListN.{length, getD, take, drop, replicate}
+use lib.Seq.{sets}
 use lib.Dec.{eqb, ltb}
 use Rattle.layout.specs.{redoLen, maxTxs, statusRunning, statusCommitting}
 use Rattle.recovery.specs.Group.{Write, Group, committed, aborted, groupSize, csnAfter}
 use Rattle.recovery.specs.Replay.{redoAll, layBytes}
 use Rattle.recovery.specs.Restart.{groupId}
+use Rattle.recovery.specs.Transaction.{Tx as Transaction}
 use Rattle.log.specs.declared.TxId.{TxId}
 use Rattle.log.specs.declared.Csn.{Csn}
 use Rattle.log.specs.Record.{Record, redo, commit, abort, readRecord}
 use Rattle.log.specs.Reader.{whole}
 use Rattle.log.specs.Group.{readGroup}
-use Rattle.transaction.specs.View.{rangesOf}
-use Rattle.transaction.specs.Rules.{recordsOk}
+use Rattle.log.specs.Log.{encodeLog}
 use Rattle.image.specs.declared.Image.{Image}
 use Rattle.image.specs.Slots.{slotAt}
 use Rattle.restart.specs.declared.forward.Pass.{Pass}
@@ -25,14 +26,13 @@ use Rattle.restart.specs.declared.forward.Turn.{Turn}
 use Rattle.restart.specs.declared.forward.Slot.{Slot}
 use Rattle.restart.specs.declared.forward.Slot.the-variants.{At, Nowhere}
 use Rattle.restart.specs.declared.undo.Best.{Best}
+use Rattle.restart.specs.declared.undo.Undone.{Undone}
 use Rattle.restart.specs.Slots.{firstBelow}
 use Rattle.restart.specs.Forward.{Went, codeOf, past}
 
--- of the image rules, what undoing rests on
-pub record Undoable (image : Image) : Type 0 where
+-- of the image rules, what step 4 rests on: a running transaction has no number, a committing one has
+pub record StatusByCsn (image : Image) : Type 0 where
   pub few : image .count ≤ maxTxs
-  pub ranged : (i : ℕ) → i < image .count → recordsOk (rangesOf (slotAt (image .txs) i .undo)) ≡ true
-  -- a running one has no number, a committing one has
   pub running : (i : ℕ) → i < image .count → eqb (slotAt (image .txs) i .status) statusRunning ≡ eqb (slotAt (image .txs) i .csn .0) 0
   pub committing : (i : ℕ) → i < image .count → eqb (slotAt (image .txs) i .status) statusCommitting ≡ not (eqb (slotAt (image .txs) i .csn .0) 0)
 
@@ -88,12 +88,12 @@ unfinishedAt found Nowhere = Nowhere
 unfinishedAt found (At i) = cond (eqb (getD found i 0) 0) (At i) Nowhere
 
 -- what a turn of the pass leaves: memory without what is still to be undone
-pub record Stepped : Type 0 where
+pub record TurnEnd : Type 0 where
   pub memory : List ℕ
   pub turn : Turn
 
-abbrev pub steppedBy : List ℕ → Pass → Slot → Stepped
-steppedBy m p slot = record { memory = m; turn = record { pass = p; undo = slot } }
+abbrev pub turnEndBy : List ℕ → Pass → Slot → TurnEnd
+turnEndBy m p slot = record { memory = m; turn = record { pass = p; undo = slot } }
 
 -- a commit is done, an abort not yet
 abbrev pub redone : Group → List ℕ → List ℕ
@@ -108,11 +108,11 @@ abbrev pub passBy : List TxId → ℕ → Group → Pass → Pass
 passBy ids n g p = past p (slotIn ids n (groupId g)) (groupId g) (csnAfter (p .csn .0) g) (codeOf g) (p .end + groupSize g)
 
 -- past the group at the end reached, if one stands there
-abbrev pub onGroup : List TxId → ℕ → Option Group → Went → Stepped
-onGroup ids n none w = steppedBy (w .memory) (w .pass) Nowhere
-onGroup ids n (some g) w = steppedBy (redone g (w .memory)) (passBy ids n g (w .pass)) (toUndo ids n g (w .pass .found))
+abbrev pub onGroup : List TxId → ℕ → Option Group → Went → TurnEnd
+onGroup ids n none w = turnEndBy (w .memory) (w .pass) Nowhere
+onGroup ids n (some g) w = turnEndBy (redone g (w .memory)) (passBy ids n g (w .pass)) (toUndo ids n g (w .pass .found))
 
-unfoldable pub turnStep : List TxId → ℕ → List ℕ → Went → Stepped
+unfoldable pub turnStep : List TxId → ℕ → List ℕ → Went → TurnEnd
 turnStep ids n log w = onGroup ids n (readGroup (w .pass .csn .0) (drop (w .pass .end) log)) w
 
 -- ---- the next one that step 4 undoes
@@ -140,3 +140,18 @@ orBest Nowhere b = b .at
 
 abbrev pub nextOf : List Csn → List ℕ → Csn → ℕ → Slot
 nextOf csns found csn n = orBest (firstBelow (runningIn csns found) n) (bestOf csns found csn n)
+
+-- ---- those undone
+
+abbrev pub txIdOf : Transaction → TxId
+txIdOf t = record { 0 = t .id }
+
+unfoldable pub undoneList : List Transaction → Undone
+undoneList ts = record { count = length ts; ids = sets (replicate maxTxs (record { 0 = 0 })) 0 (map txIdOf ts) }
+
+-- the abort records of the first n of these ids, at the front of a tail
+abbrev pub abortOf : TxId → Group
+abortOf id = aborted (id .0)
+
+unfoldable pub abortsLaid : List TxId → ℕ → List ℕ → List ℕ
+abortsLaid ids n tail = sets tail 0 (encodeLog (map abortOf (take n ids)))

@@ -1,24 +1,28 @@
 // Steps 2 and 3: once over the log. A group is applied when it is found whole.
-use image::Image;
-use image::keys::Keys;
+use image::read::Heads;
+use image::read::lay_back;
+use layout::COMMIT_LEN;
 use layout::MAX_TXS;
 use layout::REDO_LEN;
 use log::Csn;
 use log::TxId;
 use log::group::GroupEnd;
 use log::group::read_group;
-use log::record::Head;
-use log::record::read_record;
+use log::number::be16;
 use log::stores::copy;
+ghost use mathlib.Core.List.{List};
+ghost use mathlib.Core.Option.{some};
 ghost use mathlib.Core.Path.{_≡_};
-ghost use Prim.Native.Nat.{_≤_, max};
+ghost use Prim.Native.Nat.{ℕ, _≤_, max};
 ghost use lib.ListN.{length};
 ghost use Rattle.layout.specs.{memoryLen, maxTxs};
+ghost use Rattle.recovery.specs.Group.{Write, redoSize};
 ghost use Rattle.recovery.specs.Replay.{redoAll, layBytes};
-ghost use Rattle.log.specs.Record.{readRecord};
-ghost use Rattle.image.specs.Keys.{keysOf};
+ghost use Rattle.log.specs.Record.{redo, readRecord};
+ghost use Rattle.log.specs.Group.{readBody};
+ghost use Rattle.image.specs.Heads.{imageBy, HeadsFit};
 ghost use Rattle.restart.specs.Forward.{wentBy, past, forwardOf};
-ghost use Rattle.restart.specs.Turns.{Undoable, Below, slotIn, unfinishedAt, layFront, frontSize, frontWrites, turnStep};
+ghost use Rattle.restart.specs.Turns.{Below, slotIn, unfinishedAt, layFront, frontSize, frontWrites, turnStep};
 
 // What the pass has found: the end that it reached, the last commit number, the highest id, and for each transaction of the image a code by
 // the first group of its id: 0 none, 1 a commit, 2 an abort. A transaction with a code is finished.
@@ -64,43 +68,28 @@ fn larger(a: TxId, b: TxId) -> TxId
     a
 }
 
-// Does the redo record at the front of s and returns its size; 0 if none stands there.
+// Does the redo record at the front of s and returns its size.
 fn redo_one(memory: &mut [u8], s: &[u8]) -> usize
+    requires { ⌜ ((id : ℕ) × (w : Write) × (readRecord (now s) ≡ some (redo id w))) ⌝ }
     requires { ⌜ length (now memory) ≡ memoryLen ⌝ }
     ensures { λ r. ⌜ r ≡ frontSize (readRecord (now (s .entry))) ⌝ }
     ensures { λ _. ⌜ now (memory .exit) ≡ layFront (readRecord (now (s .entry))) (now (memory .entry)) ⌝ }
 {
-    let head = read_record(s);
-    match head {
-        Head::Redo { id: _, addr, len } => {
-            let at = addr as usize;
-            let n = len as usize;
-            copy(memory, at, &s[6..6 + n]);
-            return REDO_LEN + n;
-        }
-        Head::Commit { id: _, csn: _ } => {
-            return 0;
-        }
-        Head::Abort(_) => {
-            return 0;
-        }
-        Head::Nothing => {
-            return 0;
-        }
-    }
+    let at = be16(s, 3) as usize;
+    let n = s[5] as usize;
+    copy(memory, at, &s[6..6 + n]);
+    REDO_LEN + n
 }
 
-// Does the redo records at the front of s, in order.
-fn redo_all(memory: &mut [u8], s: &[u8])
+// Does the redo records of the group at the front of s, in order: its first size bytes. They were read with the group, and are not tested again.
+fn redo_all(memory: &mut [u8], s: &[u8], size: usize)
+    requires { ⌜ ((prev : ℕ) × (id : ℕ) × (ws : List Write) × (readBody prev id (now s) ≡ some ws) × (redoSize ws ≡ size)) ⌝ }
     requires { ⌜ length (now memory) ≡ memoryLen ⌝ }
     ensures { λ _. ⌜ now (memory .exit) ≡ redoAll layBytes (frontWrites (now (s .entry))) (now (memory .entry)) ⌝ }
 {
     let mut at: usize = 0;
-    loop {
+    while at < size {
         let k = redo_one(memory, &s[at..]);
-        if k == 0 {
-            return;
-        }
         at = at + k;
     }
 }
@@ -163,7 +152,7 @@ fn step(ids: [TxId; MAX_TXS], n: usize, p: Pass, log: &[u8], memory: &mut [u8]) 
         }
         GroupEnd::Committed { id, csn: c, end } => {
             let slot = find(ids, n, id);
-            redo_all(memory, &log[at..]);
+            redo_all(memory, &log[at..], end - COMMIT_LEN);
             let pass = pass_group(p, slot, id, c, 1, at + end);
             return Turn {
                 pass: pass,
@@ -179,17 +168,18 @@ fn step(ids: [TxId; MAX_TXS], n: usize, p: Pass, log: &[u8], memory: &mut [u8]) 
     }
 }
 
-// keys are those of the image: it is too long to hand on for each group.
-pub(crate) fn forward(image: Image, keys: Keys, log: &[u8], memory: &mut [u8]) -> Pass
-    requires { ⌜ Undoable image × (keys ≡ keysOf (image .txs)) ⌝ }
+// s has the transactions of the image that h shows.
+pub(crate) fn forward(h: Heads, s: &[u8], log: &[u8], memory: &mut [u8]) -> Pass
+    requires { ⌜ HeadsFit h (now s) × (h .count ≤ maxTxs) ⌝ }
     requires { ⌜ length (now memory) ≡ memoryLen ⌝ }
-    ensures { λ r. ⌜ r ≡ forwardOf image (now (log .entry)) (now (memory .entry)) .pass ⌝ }
-    ensures { λ _. ⌜ now (memory .exit) ≡ forwardOf image (now (log .entry)) (now (memory .entry)) .memory ⌝ }
+    ensures { λ r. ⌜ r ≡ forwardOf (imageBy h (now (s .entry))) (now (log .entry)) (now (memory .entry)) .pass ⌝ }
+    ensures { λ _. ⌜ now (memory .exit) ≡ forwardOf (imageBy h (now (s .entry))) (now (log .entry)) (now (memory .entry)) .memory ⌝ }
 {
-    let n = image.count as usize;
+    let n = h.count as usize;
+    let keys = h.keys;
     let ids = keys.ids;
-    let csn = image.ondisk;
-    let last = image.lastid;
+    let csn = h.ondisk;
+    let last = h.lastid;
     let mut p = Pass {
         end: 0,
         csn: csn,
@@ -207,8 +197,7 @@ pub(crate) fn forward(image: Image, keys: Keys, log: &[u8], memory: &mut [u8]) -
             }
             continue;
         };
-        let t = image.txs[i];
-        let undo = t.undo;
-        undo.lay_back(memory);
+        let place = h.at[i];
+        lay_back(&s[place..], memory);
     }
 }

@@ -1,20 +1,21 @@
-// Restart's core, steps 2 to 5, from a decoded image on: once over the log, then what is left unfinished is undone.
+// Restart's core, steps 2 to 5, from the heads of an image on: once over the log, then what is left unfinished is undone.
 mod forward;
-mod undo;
+pub mod undo;
 
 use crate::forward::forward;
 use crate::undo::undo_left;
-use image::Image;
-use image::keys::keys_of;
+use image::read::Heads;
 use layout::MAX_TXS;
 use log::Csn;
 use log::TxId;
 ghost use mathlib.Core.Path.{_≡_};
 ghost use mathlib.Core.Bool.{true};
-ghost use lib.ListN.{length};
+ghost use lib.ListN.{length, replicate};
 ghost use Rattle.layout.specs.{memoryLen, tailLen};
 ghost use Rattle.image.specs.Rules.{keepsRules};
+ghost use Rattle.image.specs.Heads.{imageBy, HeadsFit};
 ghost use Rattle.restart.specs.Restart.{recoverOf};
+ghost use Rattle.restart.specs.Turns.{abortsLaid};
 
 // Where the log ends, counted from the front of the part handed in, the last commit number found, the last id given, how many transactions
 // step 4 undid, and for each transaction of the image a code: 0 no group of its id found, 1 a commit first, 2 an abort first.
@@ -26,27 +27,36 @@ pub struct Recovered {
     pub found: [u8; MAX_TXS],
 }
 
-// log is the log from the image's log end on; memory comes in as the image's, and tail as zeros.
-pub fn recover(image: Image, log: &[u8], memory: &mut [u8], tail: &mut [u8]) -> Recovered
-    requires { ⌜ keepsRules image ≡ true ⌝ }
+// With the ids of those undone, in order: their abort records make the tail (undo::put_aborts).
+pub struct Replayed {
+    pub answer: Recovered,
+    pub ids: [TxId; MAX_TXS],
+}
+
+// s has the transactions of the image that h shows, log is the log from the image's log end on; memory comes in as the image's.
+pub fn recover(h: Heads, s: &[u8], log: &[u8], memory: &mut [u8]) -> Replayed
+    requires { ⌜ HeadsFit h (now s) × (keepsRules (imageBy h (now s)) ≡ true) ⌝ }
     requires { ⌜ length (now memory) ≡ memoryLen ⌝ }
-    requires { ⌜ length (now tail) ≡ tailLen ⌝ }
-    ensures { λ r. ⌜ r ≡ recoverOf image (now (log .entry)) (now (memory .entry)) (now (tail .entry)) .answer ⌝ }
-    ensures { λ _. ⌜ now (memory .exit) ≡ recoverOf image (now (log .entry)) (now (memory .entry)) (now (tail .entry)) .memory ⌝ }
-    ensures { λ _. ⌜ now (tail .exit) ≡ recoverOf image (now (log .entry)) (now (memory .entry)) (now (tail .entry)) .tail ⌝ }
+    ensures { λ r. ⌜ r .answer ≡ recoverOf (imageBy h (now (s .entry))) (now (log .entry)) (now (memory .entry)) (replicate tailLen 0) .answer ⌝ }
+    ensures { λ _. ⌜ now (memory .exit) ≡ recoverOf (imageBy h (now (s .entry))) (now (log .entry)) (now (memory .entry)) (replicate tailLen 0) .memory ⌝ }
+    ensures { λ r. ⌜ abortsLaid (r .ids) (r .answer .undone) (replicate tailLen 0)
+        ≡ recoverOf (imageBy h (now (s .entry))) (now (log .entry)) (now (memory .entry)) (replicate tailLen 0) .tail ⌝ }
 {
-    let txs = image.txs;
-    let keys = keys_of(txs);
-    let p = forward(image, keys, log, memory);
-    let k = undo_left(image, keys, p, memory, tail);
+    let p = forward(h, s, log, memory);
+    let left = undo_left(h, s, p, memory);
     let csn = p.csn;
     let last = p.last;
     let found = p.found;
-    Recovered {
+    let answer = Recovered {
         end: p.end,
         csn: csn,
         last: last,
-        undone: k,
+        undone: left.count,
         found: found,
+    };
+    let ids = left.ids;
+    Replayed {
+        answer: answer,
+        ids: ids,
     }
 }

@@ -1,31 +1,35 @@
 // Step 4: what the pass left unfinished is undone, each with an abort record in the tail.
 use crate::forward::Pass;
 use crate::forward::Slot;
-use image::Image;
-use image::keys::Keys;
+use image::read::Heads;
+use image::read::lay_back;
 use layout::ABORT_LEN;
 use layout::MAX_TXS;
 use log::Csn;
+use log::TxId;
 use log::record::put_abort;
 ghost use mathlib.Core.Path.{_≡_};
 ghost use mathlib.Core.Bool.{_&&_};
 ghost use Prim.Native.Nat.{_≤_};
 ghost use lib.ListN.{length};
 ghost use lib.Dec.{eqb};
-ghost use lib.Seq.{sets};
 ghost use Rattle.layout.specs.{memoryLen, tailLen, maxTxs};
 ghost use Rattle.recovery.specs.Replay.{undoEach, layBytes};
-ghost use Rattle.recovery.specs.Restart.{aborts};
-ghost use Rattle.log.specs.Log.{encodeLog};
-ghost use Rattle.image.specs.Keys.{keysOf};
+ghost use Rattle.image.specs.Heads.{imageBy, HeadsFit};
 ghost use Rattle.restart.specs.Slots.{firstBelow};
 ghost use Rattle.restart.specs.Undo.{undoneOf};
-ghost use Rattle.restart.specs.Turns.{Undoable, runningIn, betterOf, bestOf, nextOf};
+ghost use Rattle.restart.specs.Turns.{StatusByCsn, runningIn, betterOf, bestOf, nextOf, undoneList, abortsLaid};
 
 // The committing transaction with the highest number so far, and that number.
 struct Best {
     at: Slot,
     top: Csn,
+}
+
+// Those undone, in order.
+pub(crate) struct Undone {
+    pub(crate) count: usize,
+    pub(crate) ids: [TxId; MAX_TXS],
 }
 
 // Unfinished and without a number: the image rules give one to each that is committing.
@@ -98,38 +102,44 @@ fn next(csns: [Csn; MAX_TXS], found: [u8; MAX_TXS], last: Csn, n: usize) -> Slot
     Slot::At(i)
 }
 
-// Undoes what p left unfinished; returns how many the tail has an abort record of.
-pub(crate) fn undo_left(
-    image: Image,
-    keys: Keys,
-    p: Pass,
-    memory: &mut [u8],
-    tail: &mut [u8],
-) -> usize
-    requires { ⌜ Undoable image × (keys ≡ keysOf (image .txs)) ⌝ }
+// Undoes what p left unfinished. s has the transactions of the image that h shows.
+pub(crate) fn undo_left(h: Heads, s: &[u8], p: Pass, memory: &mut [u8]) -> Undone
+    requires { ⌜ HeadsFit h (now s) × StatusByCsn (imageBy h (now s)) ⌝ }
     requires { ⌜ length (now memory) ≡ memoryLen ⌝ }
-    requires { ⌜ length (now tail) ≡ tailLen ⌝ }
-    ensures { λ r. ⌜ r ≡ length (undoneOf image p) ⌝ }
-    ensures { λ _. ⌜ now (memory .exit) ≡ undoEach layBytes (undoneOf image p) (now (memory .entry)) ⌝ }
-    ensures { λ _. ⌜ now (tail .exit) ≡ sets (now (tail .entry)) 0 (encodeLog (aborts (undoneOf image p))) ⌝ }
+    ensures { λ r. ⌜ r ≡ undoneList (undoneOf (imageBy h (now (s .entry))) p) ⌝ }
+    ensures { λ _. ⌜ now (memory .exit) ≡ undoEach layBytes (undoneOf (imageBy h (now (s .entry))) p) (now (memory .entry)) ⌝ }
 {
-    let n = image.count as usize;
-    let ids = keys.ids;
+    let n = h.count as usize;
+    let keys = h.keys;
     let csns = keys.csns;
     let last = p.csn;
     let mut found = p.found;
+    let none = TxId(0);
+    let mut ids = [none; MAX_TXS];
     let mut k: usize = 0;
     loop {
         let slot = next(csns, found, last, n);
         let Slot::At(i) = slot else {
-            return k;
+            return Undone { count: k, ids: ids };
         };
-        let t = image.txs[i];
-        let undo = t.undo;
-        undo.lay_back(memory);
-        let id = ids[i];
-        put_abort(tail, k * ABORT_LEN, id);
+        let place = h.at[i];
+        lay_back(&s[place..], memory);
+        let id = keys.ids[i];
+        ids[k] = id;
         k += 1;
         found[i] = 2;
+    }
+}
+
+// Lays the abort records of the first n of these ids into the front of a tail.
+pub fn put_aborts(ids: [TxId; MAX_TXS], n: usize, tail: &mut [u8])
+    requires { ⌜ (n ≤ maxTxs) × (length (now tail) ≡ tailLen) ⌝ }
+    ensures { λ _. ⌜ now (tail .exit) ≡ abortsLaid ids n (now (tail .entry)) ⌝ }
+{
+    let mut i: usize = 0;
+    while i < n {
+        let id = ids[i];
+        put_abort(tail, i * ABORT_LEN, id);
+        i += 1;
     }
 }

@@ -45,6 +45,28 @@ pub fn alike(id: TxId, csn: Csn, other: TxId, number: Csn) -> bool
     csn.0 == number.0
 }
 
+// The image rules of id, status and commit number.
+pub fn head_ok(id: TxId, status: u8, number: Csn, last: TxId, assigned: Csn) -> bool
+    ensures { λ r. ⌜ r ≡ headOk (last .0) (assigned .0) (id .0) status (number .0) ⌝ }
+{
+    if id.0 == 0 {
+        return false;
+    }
+    if last.0 < id.0 {
+        return false;
+    }
+    if status == RUNNING {
+        return number.0 == 0;
+    }
+    if status != COMMITTING {
+        return false;
+    }
+    if number.0 == 0 {
+        return false;
+    }
+    number.0 <= assigned.0
+}
+
 impl Tx {
     pub fn empty() -> Self
         ensures { λ r. ⌜ r ≡ emptyTx ⌝ }
@@ -73,33 +95,11 @@ impl Tx {
         }
     }
 
-    // The image rules of id, status and commit number.
-    fn head_ok(self, last: TxId, assigned: Csn) -> bool
-        ensures { λ r. ⌜ r ≡ headOk (last .0) (assigned .0) (self .id .0) (self .status) (self .csn .0) ⌝ }
-    {
-        if self.id.0 == 0 {
-            return false;
-        }
-        if last.0 < self.id.0 {
-            return false;
-        }
-        if self.status == RUNNING {
-            return self.csn.0 == 0;
-        }
-        if self.status != COMMITTING {
-            return false;
-        }
-        if self.csn.0 == 0 {
-            return false;
-        }
-        self.csn.0 <= assigned.0
-    }
-
     // The image rules of one transaction.
     pub fn image_ok(self, last: TxId, assigned: Csn) -> bool
         ensures { λ r. ⌜ r ≡ outlineOk (last .0) (assigned .0) (outlineOf self) ⌝ }
     {
-        if !self.head_ok(last, assigned) {
+        if !head_ok(self.id, self.status, self.csn, last, assigned) {
             return false;
         }
         let undo = self.undo;

@@ -1,52 +1,53 @@
-use mathlib.Core.Path.{_∙_}
+use Prim.Native.Nat.{_≤_}
+use native.Mathlib.Omega.{arith}
+use mathlib.Core.Path.{ap, _∙_}
+use lib.ListN.{length, replicate}
 use borrow.Author.Needs.{needs}
-use Rattle.restart.proofs.Rules.{undoable}
+use Rattle.image.specs.declared.Image.{Image}
+use Rattle.image.specs.Heads.{imageBy}
+use Rattle.image.proofs.Rules.{image-count}
+use Rattle.image.proofs.HeadLaws.{shown-count}
+use Rattle.restart.specs.Undo.{undoneOf}
+use Rattle.restart.proofs.Rules.{status-by-csn}
+use Rattle.restart.proofs.Select.{left-is, left-few}
 use Rattle.restart.proofs.Undos.{restart-case}
 use Rattle.restart.proofs.recover.Statement.{statement}
 use Rattle.restart.proofs.recover.Tie as tie
 
--- places of the code by name
-
-abbrev entryFromUndoLeftArg2 : tie.After-undo-left-arg2 → tie.Start
-entryFromUndoLeftArg2 c = c .before .before .before .before .before .before .before .before .before .before .before
-
-keys-of-requires : tie.Need-keys-of-requires
-keys-of-requires c κs = search needs
+abbrev imageAt : tie.Start → Image
+imageAt c = imageBy (c .args .h) (c .args .s .now)
 
 forward-requires : tie.Need-forward-requires
 forward-requires c κs =
-    let s = c .before .before .before .before .before .before in
-    ((undoable (s .args .image) (s .pre .0), c .before .keys-of .ensures), s .pre .1 .0)
+    let s = c .before .before .before .before in
+    let n = shown-count (s .args .h) (s .args .s .now) (s .pre .0 .0) in
+    ((s .pre .0 .0, omega (arith, n, image-count (imageAt s) (s .pre .0 .1))), s .pre .1)
 
 undo-left-requires : tie.Need-undo-left-requires
 undo-left-requires c κs =
-    let s = entryFromUndoLeftArg2 c in
-    let f = c .before .before .before .before .forward in
-    ((undoable (s .args .image) (s .pre .0), c .before .before .before .before .before .before .keys-of .ensures), (f .kept .1 .1 .1 .0 ∙ s .pre .1 .0, s .pre .1 .1))
+    let s = c .before .before .before .before .before .before .before .before in
+    ((s .pre .0 .0, status-by-csn (imageAt s) (s .pre .0 .1)), c .before .before .before .forward .kept .1 .1 .1 .0 ∙ s .pre .1)
 
 same-length : tie.Need-same-length
 same-length c = search needs
 
-same-length-2 : tie.Need-same-length-2
-same-length-2 c = search needs
-
 returns : tie.Need-returns
 returns c =
-    let left = c .before .before .before .before .before .before .before in
-    let passed = left .before .before .before .before .before in
-    let a = passed .before .before .before .before .before .before .before .args in
+    let left = c .before .before .before .before .before .before in
+    let passed = left .before .before .before .before in
+    let s = passed .before .before .before .before .before in
+    let a = s .args in
     let f = passed .forward in
     let u = left .undo-left in
-    restart-case (a .image) (a .log .now) (a .memory .now) (a .tail .now) (f .result) _ (f .ensures .0) (f .ensures .1) _ _ _
-    (u .ensures .0) (u .ensures .1 .0) (u .ensures .1 .1)
+    let few : length (undoneOf (imageAt s) (f .result)) ≤ 8 =
+    omega (
+      arith,
+      ap length (left-is (imageAt s) (f .result)),
+      left-few (imageAt s) (f .result .found) (f .result .csn .0),
+      image-count (imageAt s) (s .pre .0 .1),
+    ) in
+    restart-case (imageAt s) (a .log .now) (a .memory .now) (replicate 16384 0) (f .result) _ (f .ensures .0) (f .ensures .1) (u .result) _ (u .ensures .0) few
+    (u .ensures .1)
 
 pub recover-spec : {M : Type 1} → statement M
-recover-spec =
-    tie.close
-    (tie.spec
-    keys-of-requires
-    forward-requires
-    undo-left-requires
-    same-length
-    same-length-2
-    returns)
+recover-spec = tie.close (tie.spec forward-requires undo-left-requires same-length returns)

@@ -14,14 +14,11 @@ returns c = sym (not-first _ (c .before .before .before .args .b .now) (short (c
 returns-2 : tie.Need-returns-2
 returns-2 c = sym (not-second (c .before .before .before .before .args .a .now) _ (short (c .before .before .before .before .args .b .now) (c .if2 .taken)))
 
-slice-aggregate-examine : tie.Need-slice-aggregate-examine
-slice-aggregate-examine c = search needs
+slice-aggregate-judge : tie.Need-slice-aggregate-judge
+slice-aggregate-judge c = search needs
 
-slice-aggregate-examine-2 : tie.Need-slice-aggregate-examine-2
-slice-aggregate-examine-2 c = search needs
-
-examine-requires : tie.Need-examine-requires
-examine-requires c κs = search needs
+judge-requires : tie.Need-judge-requires
+judge-requires c κs = search needs
 
 -- ---- the two disks, once their lengths are right, and where each was looked at
 
@@ -31,11 +28,11 @@ one l = l .before .before .before .before .args .a .now
 abbrev two : tie.Else2 → List ℕ
 two l = l .before .before .before .before .args .b .now
 
-abbrev lengths : tie.After-examine → tie.Else2
-lengths x = x .before .before .before
+abbrev lengths : tie.After-judge → tie.Else2
+lengths x = x .before .before
 
-abbrev first : tie.After-examine2 → tie.After-examine
-first y = y .before .before .before .before .before .before .before
+abbrev first : tie.After-judge2 → tie.After-judge
+first y = y .before .before .before .before .before .before
 
 abbrev numberOf : Examined → ℕ
 numberOf r = r .number
@@ -44,22 +41,19 @@ returns-3 : tie.Need-returns-3
 returns-3 c =
     let x = c .before .before .before .before in
     let l = lengths x in
-    sym (not-first (one l) (two l) (refused (one l) (l .before .if1 .left) (λ z. c .if3 .taken (ap numberOf (x .examine .ensures .0) ∙ z))))
+    sym (not-first (one l) (two l) (refused (one l) (l .before .if1 .left) (λ z. c .if3 .taken (ap numberOf (x .judge .ensures .0 .found) ∙ z))))
 
-slice-aggregate-examine-3 : tie.Need-slice-aggregate-examine-3
-slice-aggregate-examine-3 c = search needs
+slice-aggregate-judge-2 : tie.Need-slice-aggregate-judge-2
+slice-aggregate-judge-2 c = search needs
 
-slice-aggregate-examine-4 : tie.Need-slice-aggregate-examine-4
-slice-aggregate-examine-4 c = search needs
-
-examine-requires-2 : tie.Need-examine-requires-2
-examine-requires-2 c κs = search needs
+judge-requires-2 : tie.Need-judge-requires-2
+judge-requires-2 c κs = search needs
 
 returns-4 : tie.Need-returns-4
 returns-4 c =
     let y = c .before .before .before .before in
     let l = lengths (first y) in
-    sym (not-second (one l) (two l) (refused (two l) (l .if2 .left) (λ z. c .if4 .taken (ap numberOf (y .examine2 .ensures .0) ∙ z))))
+    sym (not-second (one l) (two l) (refused (two l) (l .if2 .left) (λ z. c .if4 .taken (ap numberOf (y .judge2 .ensures .0 .found) ∙ z))))
 
 slice-aggregate-same : tie.Need-slice-aggregate-same
 slice-aggregate-same c = search needs
@@ -74,11 +68,11 @@ returns-5 : tie.Need-returns-5
 returns-5 c =
     let y = c .before .before .before .before .before .before .before in
     let l = lengths (first y) in
-    let e = first y .examine .ensures in
-    let f = y .examine2 .ensures in
-    let p = taken (one l) (l .before .if1 .left) (sym (ap numberOf (e .0)) ∙ y .before .before .before .if3 .left) in
-    let q = taken (two l) (l .if2 .left) (sym (ap numberOf (f .0)) ∙ c .before .before .before .if4 .left) in
-    c .same .ensures ∙ (ap₂ sameBytes (e .1 .0) (f .1 .0) ∙ sym (both (one l) (two l) p q))
+    let e = first y .judge .ensures in
+    let f = y .judge2 .ensures in
+    let p = taken (one l) (l .before .if1 .left) (sym (ap numberOf (e .0 .found)) ∙ y .before .before .if3 .left) in
+    let q = taken (two l) (l .if2 .left) (sym (ap numberOf (f .0 .found)) ∙ c .before .before .before .if4 .left) in
+    c .same .ensures ∙ (ap₂ sameBytes (e .1) (f .1) ∙ sym (both (one l) (two l) p q))
 
 pub equal-spec : {M : Type 1} → statement M
 equal-spec =
@@ -86,13 +80,11 @@ equal-spec =
     (tie.spec
     returns
     returns-2
-    slice-aggregate-examine
-    slice-aggregate-examine-2
-    examine-requires
+    slice-aggregate-judge
+    judge-requires
     returns-3
-    slice-aggregate-examine-3
-    slice-aggregate-examine-4
-    examine-requires-2
+    slice-aggregate-judge-2
+    judge-requires-2
     returns-4
     slice-aggregate-same
     slice-aggregate-same-2

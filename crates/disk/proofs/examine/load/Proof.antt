@@ -1,40 +1,31 @@
 use Prim.Native.Nat.{ℕ, _+_, _-_, _≤_}
 use borrow.Author.Needs.{needs}
 use native.Mathlib.Omega.{arith}
-use mathlib.Core.Bool.{true}
 use mathlib.Core.Path.{_≡_, sym, ap, ap₂, subst, _∙_}
 use lib.ListN.{take, drop, replicate}
-use Rattle.image.specs.declared.Image.{Image}
-use Rattle.image.specs.Decode.{decodeOf}
+use Rattle.image.specs.Heads.{headsOf}
 use Rattle.image.specs.Reading.{memoryOf}
 use Rattle.disk.specs.Layout.{imageAt}
 use Rattle.disk.specs.Examine.{Loaded}
-use Rattle.disk.proofs.Loading.{slot-within, load-none, load-image, memory-loaded}
+use Rattle.disk.proofs.Loading.{slot-within, load-none, load-image, memory-loaded, heads-none, heads-image}
 use Rattle.disk.proofs.examine.load.Statement.{statement}
 use Rattle.disk.proofs.examine.load.Tie as tie
-
--- places of the code by name
-
-abbrev entryFromEmpty : tie.After-empty → tie.Start
-entryFromEmpty c = c .before .before .before .before .before .before .before .before
-
-abbrev entryFromSliceKnown3 : tie.After-slice-known3 → tie.Start
-entryFromSliceKnown3 c = c .before .before .before .before .before .before .before .before .before
 
 fill-zero-requires : tie.Need-fill-zero-requires
 fill-zero-requires c κs = search needs
 
-empty-requires : tie.Need-empty-requires
-empty-requires c κs = search needs
+blank-heads-requires : tie.Need-blank-heads-requires
+blank-heads-requires c κs = search needs
 
 same-length : tie.Need-same-length
 same-length c = search needs
 
 returns : tie.Need-returns
 returns c =
-    let start = entryFromEmpty c in
-    let e = load-none (start .args .pointer) (start .args .disk .now) (c .before .before .before .before .before .if1 .taken) in (
-      ap (λ (i : Image). record { ok = true; image = i }) (c .empty .ensures) ∙ sym (ap (λ (l : Loaded). l .decoded) e),
+    let start = c .before .before .before .before .before .before .before .before in
+    let z = c .before .before .before .before .before .if1 .taken in
+    let e = load-none (start .args .pointer) (start .args .disk .now) z in (
+      c .blank-heads .ensures ∙ sym (heads-none (start .args .pointer) (start .args .disk .now) z),
       c .before .before .before .fill-zero .ensures
           ∙ ap (λ (n : ℕ). replicate n 0) (start .pre .1) ∙ sym (ap (λ (l : Loaded). l .memory) e),
     )
@@ -64,21 +55,21 @@ part-copy-end c = omega (arith, slot (c .before), c .before .before .before .bef
 copy-requires : tie.Need-copy-requires
 copy-requires c κs = search needs
 
-add-decode : tie.Need-add-decode
-add-decode c = omega (arith, slot (c .before .before .before .before .before))
+add-read-heads : tie.Need-add-read-heads
+add-read-heads c = omega (arith, slot (c .before .before .before .before .before))
 
-sub-decode : tie.Need-sub-decode
-sub-decode c = search needs
+sub-read-heads : tie.Need-sub-read-heads
+sub-read-heads c = search needs
 
-part-decode-start : tie.Need-part-decode-start
-part-decode-start c = search needs
+part-read-heads-start : tie.Need-part-read-heads-start
+part-read-heads-start c = search needs
 
-part-decode-end : tie.Need-part-decode-end
-part-decode-end c =
-    omega (arith, slot (c .before .before .before .before .before), entryFromSliceKnown3 c .pre .0)
+part-read-heads-end : tie.Need-part-read-heads-end
+part-read-heads-end c =
+    omega (arith, slot (c .before .before .before .before .before), c .before .before .before .before .before .before .before .before .before .pre .0)
 
-decode-requires : tie.Need-decode-requires
-decode-requires c κs = search needs
+read-heads-requires : tie.Need-read-heads-requires
+read-heads-requires c κs = search needs
 
 same-length-2 : tie.Need-same-length-2
 same-length-2 c = search needs
@@ -92,9 +83,9 @@ returns-2 c =
     let f = x .image-at .result in
     let s : f ≡ imageAt (a .pointer) = x .image-at .ensures in
     let z : f + 8653 - f ≡ 8653 = omega arith in (
-      c .decode .ensures
-          ∙ ap decodeOf (ap₂ (λ (n k : ℕ). take n (drop k (a .disk .now))) z s)
-          ∙ sym (ap (λ (l : Loaded). l .decoded) e),
+      c .read-heads .ensures
+          ∙ ap headsOf (ap₂ (λ (n k : ℕ). take n (drop k (a .disk .now))) z s)
+          ∙ sym (heads-image (a .pointer) (a .disk .now) (x .before .if1 .left)),
       c .before .before .before .before .copy .ensures
           ∙ memory-loaded _ (a .disk .now) (a .memory .now) (slot x) (start .pre .0) (start .pre .1)
           ∙ ap (λ (k : ℕ). memoryOf (take 8653 (drop k (a .disk .now)))) s
@@ -106,7 +97,7 @@ load-spec =
     tie.close
     (tie.spec
     fill-zero-requires
-    empty-requires
+    blank-heads-requires
     same-length
     returns
     image-at-requires
@@ -116,10 +107,10 @@ load-spec =
     part-copy-start
     part-copy-end
     copy-requires
-    add-decode
-    sub-decode
-    part-decode-start
-    part-decode-end
-    decode-requires
+    add-read-heads
+    sub-read-heads
+    part-read-heads-start
+    part-read-heads-end
+    read-heads-requires
     same-length-2
     returns-2)

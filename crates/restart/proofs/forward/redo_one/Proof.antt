@@ -1,43 +1,34 @@
+use Prim.Native.Nat.{_+_, _≤_}
 use native.Mathlib.Omega.{arith}
-use mathlib.Core.Option.{some}
-use mathlib.Core.Path.{_≡_, refl, sym, _∙_}
-use lib.ListN.{length}
+use lib.ListN.{length, getD}
 use borrow.Author.Needs.{needs}
-use Rattle.recovery.specs.Group.{Write}
-use Rattle.log.specs.Record.{redo, readRecord}
-use Rattle.log.proofs.Inversions.{head-redo, head-commit, head-abort, head-nothing}
+use Rattle.log.specs.Number.{be16}
 use Rattle.log.proofs.RecordLaws.{record-within}
-use Rattle.restart.proofs.RedoLaws.{redo-parts, redo-case, other-case}
+use Rattle.restart.proofs.RedoLaws.{redo-parts, redo-case}
 use Rattle.restart.proofs.forward.redo_one.Statement.{statement}
 use Rattle.restart.proofs.forward.redo_one.Tie as tie
 
--- places of the code by name
+-- it lies within the slice, and within memory
+within : (c : tie.Start) → let s = c .args .s .now in (7 + getD s 5 0 ≤ length s) × (be16 s 3 + getD s 5 0 ≤ 4096)
+within c =
+    let r = c .pre .0 in
+    let i = redo-parts (c .args .s .now) (r .0) (r .1) (r .2) in
+    (omega (arith, record-within _ _ (r .2), i .1), omega (arith, i .0, i .1, i .3))
 
-abbrev entryFromCopyArg2 : tie.After-copy-arg2 → tie.Start
-entryFromCopyArg2 c = c .before .before .before .before .before .before .before .before
-
-abbrev entryFromSliceKnown2 : tie.After-slice-known2 → tie.Start
-entryFromSliceKnown2 c = entryFromCopyArg2 (c .before .before .before)
-
-redo-at : (c : tie.After-head)
-    → (w : Write) × (readRecord (c .before .before .before .before .before .args .s .now) ≡ some (redo (c .head .given .0 .0 .0) w))
-    × (w .addr ≡ c .head .given .0 .1 .0) × (length (w .bytes) ≡ c .head .given .0 .1 .1 .0)
-redo-at c = head-redo _ _ _ _ (sym (c .before .before .read-record .ensures) ∙ c .head .given .1)
-
-read-record-requires : tie.Need-read-record-requires
-read-record-requires c κs = search needs
-
-enum-known-head : tie.Need-enum-known-head
-enum-known-head c = search needs
+be16-requires : tie.Need-be16-requires
+be16-requires c κs = omega (arith, within (c .before .before) .0)
 
 cast-at : tie.Need-cast-at
 cast-at c = search needs
 
+shared-slice-read-n : tie.Need-shared-slice-read-n
+shared-slice-read-n c = omega (arith, within (c .before .before .before .before) .0)
+
 cast-n : tie.Need-cast-n
-cast-n c = search needs
+cast-n c = omega (arith, c .shared-slice-known2 .given 5)
 
 add-copy : tie.Need-add-copy
-add-copy c = search needs
+add-copy c = omega (arith, within (c .before .before .before .before .before) .0, c .before .before .before .before .before .good)
 
 sub-copy : tie.Need-sub-copy
 sub-copy c = search needs
@@ -46,60 +37,30 @@ part-copy-start : tie.Need-part-copy-start
 part-copy-start c = search needs
 
 part-copy-end : tie.Need-part-copy-end
-part-copy-end c =
-    let w = redo-at (c .before .before) in
-    omega (arith, record-within _ _ (w .1), w .3)
+part-copy-end c = omega (arith, within (c .before .before .before .before .before) .0)
 
 copy-requires : tie.Need-copy-requires
-copy-requires c κs =
-    let w = redo-at (c .before .before .before) in
-    let q = redo-parts _ _ _ (w .1) in
-    let p = c .copy-arg2 .given .2 in
-    omega (arith, w .2, w .3, q, p, entryFromCopyArg2 c .pre)
+copy-requires c κs = omega (arith, c .copy-arg2 .given .2, within (c .before .before .before .before .before .before) .1, c .before .before .before .be16 .ensures, c .before .before .before .before .before .before .pre .1)
 
 add-result : tie.Need-add-result
-add-result c = search needs
+add-result c = omega (arith, within (c .before .before .before .before .before .before .before .before .before) .0, c .before .before .before .before .before .before .before .before .before .good)
 
 same-length : tie.Need-same-length
 same-length c = search needs
 
 returns : tie.Need-returns
 returns c =
-    let a = entryFromSliceKnown2 c .args in
-    let w = redo-at (c .before .before .before .before .before .before) in
-    redo-case (a .s .now) (a .memory .now) _ _ _ (w .0) _ (w .1) (w .2) (w .3) (c .before .before .copy .ensures)
-
-enum-told : tie.Need-enum-told
-enum-told c = search needs
-
-returns-2 : tie.Need-returns-2
-returns-2 c =
-    let a = c .before .before .before .before .before .args in
-    other-case (a .s .now) (a .memory .now) _ (head-commit _ _ _ (sym (c .before .before .read-record .ensures) ∙ c .enum-told .given .1)) refl refl
-
-enum-told-2 : tie.Need-enum-told-2
-enum-told-2 c = search needs
-
-returns-3 : tie.Need-returns-3
-returns-3 c =
-    let a = c .before .before .before .before .before .args in
-    other-case (a .s .now) (a .memory .now) _ (head-abort _ _ (sym (c .before .before .read-record .ensures) ∙ c .enum-told2 .given .1)) refl refl
-
-enum-told-3 : tie.Need-enum-told-3
-enum-told-3 c = search needs
-
-returns-4 : tie.Need-returns-4
-returns-4 c =
-    let a = c .before .before .before .before .before .args in
-    other-case (a .s .now) (a .memory .now) _ (head-nothing _ (sym (c .before .before .read-record .ensures) ∙ c .enum-told3 .given .1)) refl refl
+    let a = c .before .before .before .before .before .before .before .before .before .args in
+    let r = c .before .before .before .before .before .before .before .before .before .pre .0 in
+    redo-case (a .s .now) (a .memory .now) (r .0) (r .1) (r .2) _ _ (c .before .before .before .before .before .before .be16 .ensures) (c .before .before .copy .ensures)
 
 pub redo-one-spec : {M : Type 1} → statement M
 redo-one-spec =
     tie.close
     (tie.spec
-    read-record-requires
-    enum-known-head
+    be16-requires
     cast-at
+    shared-slice-read-n
     cast-n
     add-copy
     sub-copy
@@ -108,10 +69,4 @@ redo-one-spec =
     copy-requires
     add-result
     same-length
-    returns
-    enum-told
-    returns-2
-    enum-told-2
-    returns-3
-    enum-told-3
-    returns-4)
+    returns)

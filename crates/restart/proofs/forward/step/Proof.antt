@@ -7,8 +7,9 @@ use lib.ListN.{drop}
 use borrow.Author.Needs.{needs}
 use Rattle.recovery.specs.Group.{Write, aborted, committed, redoSize}
 use Rattle.recovery.specs.Replay.{redoAll, layBytes}
-use Rattle.log.specs.Group.{readGroup, endOf}
+use Rattle.log.specs.Group.{readBody, readGroup, endOf}
 use Rattle.log.proofs.Basics.{from}
+use Rattle.log.proofs.GroupLaws.{group-inv}
 use Rattle.log.proofs.Inversions.{end-aborted, end-committed, end-none}
 use Rattle.restart.specs.declared.forward.Pass.{Pass}
 use Rattle.restart.specs.declared.forward.Slot.the-variants.{Nowhere}
@@ -116,8 +117,16 @@ part-redo-all-start c = search needs
 part-redo-all-end : tie.Need-part-redo-all-end
 part-redo-all-end c = search needs
 
+sub-redo-all-2 : tie.Need-sub-redo-all-2
+sub-redo-all-2 c = omega (arith, commit-at (c .before .before .before .before) .2)
+
 redo-all-requires : tie.Need-redo-all-requires
-redo-all-requires c κs = search needs
+redo-all-requires c κs =
+    let s = c .before .before .before .before .before .before .before .before .before .before .before in
+    let a = s .args in
+    let e = commit-at (c .before .before .before .before) in
+    let g = group-inv _ _ (committed _ _ (e .0)) (e .1) in
+    ((a .p .csn .0, _, e .0, ap (readBody (a .p .csn .0) _) (from (a .log .now) (a .p .end)) ∙ g .1, omega (arith, e .2)), s .pre .1 .0)
 
 add-pass-group-2 : tie.Need-add-pass-group-2
 add-pass-group-2 c =
@@ -173,6 +182,7 @@ step-spec =
     sub-redo-all
     part-redo-all-start
     part-redo-all-end
+    sub-redo-all-2
     redo-all-requires
     add-pass-group-2
     pass-group-requires-2
