@@ -76,7 +76,7 @@ module _ (p k : ℕ) (disk : List ℕ) (h : p ≤ length disk) where
       ∙ log-torn prev (readLog prev (logFrom at disk)) (logFrom at disk) (p - (17307 + at)) k refl
       ∙ fitting-all (p - (17307 + at)) (readLog prev (logFrom at disk)) (omega arith)
 
--- steps 2 to 5 read_heads at the log's groups alone
+-- steps 2 to 5 look at the log's groups alone
 steps-same : (i : Image) (log log' m t : List ℕ) → groupsOf i log' ≡ groupsOf i log → recoverOf i log' m t ≡ recoverOf i log m t
 unfolding recoverOf forwardOf
 steps-same i log log' m t e = ap (λ (gs : List Group). afterSteps i (goOver i gs (startOf i m)) t) e

@@ -15,7 +15,7 @@ slotAt txs i = getD txs i noTx
 abbrev pub listed : List Tx → ℕ → List Tx
 listed txs n = upFrom (slotAt txs) n 0
 
--- what the image rules read_heads at in them
+-- what the image rules look at in them
 abbrev pub outlineAt : List Tx → ℕ → Outline
 outlineAt txs i = outlineOf (slotAt txs i)
 
