@@ -25,7 +25,8 @@ use Rattle.store.specs.Stored.{carriedOut}
 use Rattle.store.specs.Steps.{begunState, writtenState, precommittedState, without, droppedState}
 use Rattle.disk.specs.Examine.{loadOf, refusedBy, stepsOf, examineOf}
 use Rattle.disk.specs.Restart.{recoveredState, restartOf}
-use Rattle.listing.specs.Text.{decimal, line, foundText}
+use Rattle.text.specs.{decimal}
+use Rattle.listing.specs.Lines.{line, foundText}
 use Rattle.listing.specs.Listing.{listingOf}
 use Rattle.history.specs.Calls.{World, freshWorld, runOf}
 use Rattle.history.specs.Cases.{Shown, Row, rows, showing, shown, Worked}

@@ -11,7 +11,7 @@ use Rattle.image.specs.Content.{transactionsIn}
 use Rattle.store.specs.Answer.{done, cut, refused}
 use Rattle.disk.specs.Layout.{pointerOf}
 use Rattle.disk.specs.Examine.{Loaded, loadOf}
-use Rattle.listing.specs.Text.{ascii}
+use Rattle.text.specs.{ascii}
 use Rattle.listing.specs.Listing.{listingOf}
 use Rattle.history.specs.Calls.{Call, begin, write, read, readAnswer, precommit, abort, flush, settle, checkpoint, restart}
 use Rattle.history.specs.Calls.{Reply, told, part, World, freshWorld, Ran, runOf}

@@ -24,7 +24,7 @@ use Rattle.disk.specs.Examine.{examineOf}
 use Rattle.disk.specs.Restart.{ofRestarted, refusedRestart, restartOf}
 use Rattle.disk.proofs.Examining.{roomy}
 use Rattle.disk.proofs.Restarting.{doneFrom, restart-1, restart-refused, restart-done}
-use Rattle.listing.specs.Text.{foundText, refusedText}
+use Rattle.listing.specs.Lines.{foundText, refusedText}
 use Rattle.listing.specs.Listing.{restartWhole, listingOf, Printed}
 
 pub data Ending (disk : List ℕ) : Type 0 where

@@ -1,5 +1,4 @@
--- Numbers in decimal (Decimal), texts put one after another (Putting), how a restart with stores enough ends (Endings), M1's text (Worked).
-pub mod Decimal
+-- What is put of a text (Putting), how a restart with stores enough ends (Endings), M1's text (Worked).
 pub mod Putting
 pub mod Endings
 mod Worked

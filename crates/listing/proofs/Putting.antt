@@ -1,28 +1,15 @@
--- Texts put into a buffer one after another.
+-- What is put of a disk's text: at the front of zeros, and how long.
 use Prim.Native.Nat.{ℕ, _+_, _-_, _≤_, _<_}
 use native.Mathlib.Omega.{arith}
-use mathlib.Core.List.{List, [], _∷_, _++_}
-use mathlib.Core.Path.{_≡_, refl, sym, ap, ap₂, _∙_}
-use lib.ListN.{length, take, drop, set, replicate, length-append, length-replicate}
-use lib.Seq.{sets, sets-eq, take-append-seam}
-use Rattle.log.proofs.StoreLaws.{sets-append}
+use mathlib.Core.List.{List, _++_}
+use mathlib.Core.Path.{_≡_, sym, ap, ap₂, _∙_}
+use lib.ListN.{length, take, drop, replicate, length-append, length-replicate}
+use lib.Seq.{sets-eq, take-append-seam}
 use Rattle.log.proofs.StoreLaws.{drop-zeros}
-use Rattle.listing.specs.Text.{Put, ascii, line, foundText, refusedText}
+use Rattle.text.specs.{ascii, decimal, Put}
+use Rattle.text.proofs.Decimal.{powerOfTen, decimal-short}
+use Rattle.listing.specs.Lines.{line, foundText, refusedText}
 use Rattle.listing.specs.Listing.{padded, Printed}
-use Rattle.listing.proofs.Decimal.{line-short}
-
-pub put-one : (b : List ℕ) (at v : ℕ) → Put b at (v ∷ []) (at + 1) (set b at v)
-put-one b at v = record { bytes = refl; ends = refl }
-
-pub put-then : {b b′ b″ x y : List ℕ} {at e e′ : ℕ} → Put b at x e b′ → Put b′ e y e′ b″ → Put b at (x ++ y) e′ b″
-put-then {b} {b′} {b″} {x} {y} {at} {e} p q = record {
-  bytes = q .bytes ∙ ap₂ (λ (l : List ℕ) (i : ℕ). sets l i y) (p .bytes) (p .ends) ∙ sym (sets-append b at x y);
-  ends = omega (arith, p .ends, q .ends, length-append x y);
-}
-
--- a copy is a text put
-pub put-copy : (b : List ℕ) (at : ℕ) (text b′ : List ℕ) → b′ ≡ sets b at text → Put b at text (at + length text) b′
-put-copy b at text b′ e = record { bytes = e; ends = refl }
 
 -- a text at the front of 64 zeros
 pub put-front : {b text out : List ℕ} {r : ℕ} → b ≡ replicate 64 0 → length text ≤ 64 → Put b 0 text r out → Printed text r out
@@ -41,6 +28,13 @@ put-front {b} {text} {out} {r} e h p =
     }
 
 -- ---- lengths: each line of a disk's numbers, and what they come to
+
+pub length-line : (name : List ℕ) (n : ℕ) → length (line name n) ≡ length name + length (decimal n) + 1
+unfolding line
+length-line name n = simp length-append (omega arith)
+
+pub line-short : (k : ℕ) (name : List ℕ) (n : ℕ) → n < powerOfTen k → length (line name n) ≤ length name + k + 2
+line-short k name n h = omega (arith, length-line name n, decimal-short k n h)
 
 pub record Short (pointer end csn id undone : ℕ) : Type 0 where
   pub pointer-line : length (line (ascii "pointer=") pointer) ≤ 12

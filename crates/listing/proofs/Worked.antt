@@ -5,7 +5,8 @@ use mathlib.Core.Path.{_≡_, refl}
 use lib.ListN.{length}
 use borrow.Author.Tests.{ne-eqb}
 use Rattle.disk.specs.Restart.{restartOf}
-use Rattle.listing.specs.Text.{ascii, decimal, line, foundText, refusedText}
+use Rattle.text.specs.{ascii, decimal}
+use Rattle.listing.specs.Lines.{line, foundText, refusedText}
 use Rattle.listing.specs.Listing.{listingOf}
 
 -- the longest numbers that a disk can give

@@ -1,3 +1,3 @@
--- disklist's text: lines with numbers in decimal (Text), and which lines a disk gives (Listing).
-pub mod Text
+-- disklist's text: lines with numbers in decimal (Lines), and which lines a disk gives (Listing).
+pub mod Lines
 pub mod Listing

@@ -8,7 +8,7 @@ use Rattle.store.specs.Answer.{Word, done, cut, refused, Told}
 use Rattle.store.specs.Stored.{DiskOutcome}
 use Rattle.disk.specs.Layout.{pointerOf}
 use Rattle.disk.specs.Restart.{restartOf}
-use Rattle.listing.specs.Text.{foundText, refusedText}
+use Rattle.listing.specs.Lines.{foundText, refusedText}
 
 -- the log has 16,384 bytes, so no restart needs more stores
 abbrev pub restartWhole : List ℕ → DiskOutcome

@@ -1,8 +1,8 @@
 // disklist's text: what restart finds on a disk (document 01, "Program disklist").
-mod text;
+mod lines;
 
-use crate::text::put_found;
-use crate::text::put_line;
+use crate::lines::put_found;
+use crate::lines::put_line;
 use disk::call::restart;
 use layout::DISK_LEN;
 use layout::LOG_LEN;

@@ -4,7 +4,7 @@ use mathlib.Core.Path.{_≡_, sym, ap, _∙_}
 use lib.ListN.{length, replicate, length-replicate}
 use borrow.Author.Needs.{needs}
 use Rattle.store.specs.Answer.{Told}
-use Rattle.listing.specs.Text.{refusedText}
+use Rattle.listing.specs.Lines.{refusedText}
 use Rattle.listing.proofs.Putting.{Short, lines-short, found-short, refused-short, put-front}
 use Rattle.listing.proofs.Endings.{few-undone, listing-refused, listing-found, printed}
 use Rattle.listing.proofs.list.Statement.{statement}

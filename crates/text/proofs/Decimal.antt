@@ -8,7 +8,7 @@ use mathlib.Core.Path.{_≡_, refl, ap, _∙_}
 use lib.ListN.{length, length-append}
 use lib.Dec.{ltb}
 use borrow.Author.Tests.{lt-ltb, le-ltb, ltb-false}
-use Rattle.listing.specs.Text.{spelled, decimal, line}
+use Rattle.text.specs.{spelled, decimal}
 
 abbrev chosen : ℕ → ℕ → Bool → List ℕ
 chosen k n b = elim b [ true ↦ (48 + n) ∷ [] | false ↦ spelled k (n / 10) ++ ((48 + n % 10) ∷ []) ]
@@ -51,10 +51,3 @@ decimal-short (suc k) n h = go (decLt n 10) (decimal-short k (n / 10) (omega ari
     go : Dec (n < 10) → length (decimal (n / 10)) ≤ suc k → length (decimal n) ≤ suc (suc k)
     go (yes p) i = omega (arith, ap length (decimal-one n p))
     go (no q) i = omega (arith, length-more n (omega (arith, q)))
-
-pub length-line : (name : List ℕ) (n : ℕ) → length (line name n) ≡ length name + length (decimal n) + 1
-unfolding line
-length-line name n = simp length-append (omega arith)
-
-pub line-short : (k : ℕ) (name : List ℕ) (n : ℕ) → n < powerOfTen k → length (line name n) ≤ length name + k + 2
-line-short k name n h = omega (arith, length-line name n, decimal-short k n h)

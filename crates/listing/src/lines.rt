@@ -1,24 +1,12 @@
 // Lines of text: a name, a number in decimal, a line feed.
 use log::stores::copy;
 use store::State;
+use text::put_decimal;
 ghost use mathlib.Core.Path.{_≡_};
 ghost use Prim.Native.Nat.{_+_, _≤_};
 ghost use lib.ListN.{length};
-ghost use Rattle.listing.specs.Text.{decimal, line, foundText, Put};
-
-// n in decimal from at on. Returns where it ends.
-fn put_decimal(out: &mut [u8], at: usize, n: u32) -> usize
-    requires { ⌜ at + length (decimal n) ≤ length (now out) ⌝ }
-    ensures { λ r. ⌜ Put (now (out .entry)) at (decimal n) r (now (out .exit)) ⌝ }
-{
-    if n < 10 {
-        out[at] = (48 + n) as u8;
-        return at + 1;
-    }
-    let end = put_decimal(out, at, n / 10);
-    out[end] = (48 + n % 10) as u8;
-    end + 1
-}
+ghost use Rattle.text.specs.{Put};
+ghost use Rattle.listing.specs.Lines.{line, foundText};
 
 // A line from at on. Returns where it ends.
 pub(crate) fn put_line(out: &mut [u8], at: usize, name: &[u8], n: u32) -> usize

@@ -3,10 +3,11 @@ use native.Mathlib.Omega.{arith}
 use mathlib.Core.Path.{_≡_}
 use lib.ListN.{length}
 use borrow.Author.Needs.{needs}
-use Rattle.listing.specs.Text.{foundText}
-use Rattle.listing.proofs.Putting.{put-then, Short, lines-short}
-use Rattle.listing.proofs.text.put_found.Statement.{statement}
-use Rattle.listing.proofs.text.put_found.Tie as tie
+use Rattle.listing.specs.Lines.{foundText}
+use Rattle.text.proofs.Putting.{put-then}
+use Rattle.listing.proofs.Putting.{Short, lines-short}
+use Rattle.listing.proofs.lines.put_found.Statement.{statement}
+use Rattle.listing.proofs.lines.put_found.Tie as tie
 
 -- ---- places of the code by name: where it starts, and where each line but the last is written
 

@@ -1,4 +1,4 @@
--- Text in ASCII.
+-- Text in ASCII: numbers in decimal, and a text put into a buffer.
 use Prim.Native.Nat.{ℕ, zero, suc, _+_, _/_, _%_}
 use Prim.Native.Char.{code}
 use Prim.Native.String.{String, [] as no-text, _∷_ as _followed-by_}
@@ -22,20 +22,6 @@ spelled (suc k) n = elim (ltb n 10) [ true ↦ (48 + n) ∷ [] | false ↦ spell
 -- without leading zeros; no number has more digits than itself plus 1
 unfoldable pub decimal : ℕ → List ℕ
 decimal n = spelled (suc n) n
-
--- a name, a number, a line feed
-unfoldable pub line : List ℕ → ℕ → List ℕ
-line name n = name ++ (decimal n ++ (10 ∷ []))
-
--- "The lines are the pointer byte, the log's end counted from its first place, the last commit number, the last id, and the transactions
--- undone in step 4."
-unfoldable pub foundText : ℕ → ℕ → ℕ → ℕ → ℕ → List ℕ
-foundText pointer end csn id undone =
-    line (ascii "pointer=") pointer ++ (line (ascii "end=") end ++ (line (ascii "csn=") csn ++ (line (ascii "id=") id ++ line (ascii "undone=") undone)))
-
--- "A refusal prints only refused= and its number"
-unfoldable pub refusedText : ℕ → List ℕ
-refusedText n = line (ascii "refused=") n
 
 -- a text put into a buffer from at on, and where it ends
 pub record Put (old : List ℕ) (at : ℕ) (text : List ℕ) (end : ℕ) (new : List ℕ) : Type 0 where

@@ -2,11 +2,11 @@ use native.Mathlib.Omega.{arith}
 use mathlib.Core.Path.{_∙_}
 use lib.ListN.{length-set}
 use borrow.Author.Needs.{needs}
-use Rattle.listing.specs.Text.{line}
-use Rattle.listing.proofs.Decimal.{length-line}
-use Rattle.listing.proofs.Putting.{put-one, put-copy, put-then}
-use Rattle.listing.proofs.text.put_line.Statement.{statement}
-use Rattle.listing.proofs.text.put_line.Tie as tie
+use Rattle.listing.specs.Lines.{line}
+use Rattle.listing.proofs.Putting.{length-line}
+use Rattle.text.proofs.Putting.{put-one, put-copy, put-then}
+use Rattle.listing.proofs.lines.put_line.Statement.{statement}
+use Rattle.listing.proofs.lines.put_line.Tie as tie
 
 -- places of the code by name
 

@@ -1,0 +1,3 @@
+-- Numbers in decimal (Decimal), texts put one after another (Putting).
+pub mod Decimal
+pub mod Putting
