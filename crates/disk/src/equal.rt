@@ -6,18 +6,18 @@ ghost use mathlib.Core.Path.{_≡_};
 ghost use lib.ListN.{length};
 ghost use Rattle.disk.specs.Equal.{sameBytes, equalOf};
 
+// An or over all differences instead of a stop at the first: it runs in wide registers.
 fn same(a: &[u8], b: &[u8]) -> bool
     requires { ⌜ length (now a) ≡ length (now b) ⌝ }
     ensures { λ r. ⌜ r ≡ sameBytes (now (a .entry)) (now (b .entry)) ⌝ }
 {
+    let mut seen: u8 = 0;
     let mut i: usize = 0;
     while i < a.len() {
-        if a[i] != b[i] {
-            return false;
-        }
+        seen = seen | (a[i] ^ b[i]);
         i += 1;
     }
-    true
+    seen == 0
 }
 
 pub fn equal(a: &[u8], b: &[u8]) -> bool

@@ -20,7 +20,7 @@ pub zeros-behind : (l : List ℕ) (n : ℕ) → allZero (l ++ replicate n 0) ≡
 zeros-behind [] n = zeros-pass n
 zeros-behind (x ∷ l) n = ap (λ (b : Bool). eqb x 0 && b) (zeros-behind l n)
 
-or-is-zero : (a b : ℕ) → eqb (bitOr a b) 0 ≡ eqb a 0 && eqb b 0
+pub or-is-zero : (a b : ℕ) → eqb (bitOr a b) 0 ≡ eqb a 0 && eqb b 0
 or-is-zero a b = go (eqb a 0) (eqb b 0) refl refl
   where
     some-one : (bitOr a b ≡ 0 → ⊥) → eqb (bitOr a b) 0 ≡ false
