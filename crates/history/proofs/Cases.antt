@@ -11,7 +11,7 @@ use Rattle.log.specs.Reader.{run, whole as all}
 use Rattle.log.specs.Group.{readBody, readGroup}
 use Rattle.log.specs.Log.{readLog}
 use Rattle.transaction.specs.Flat.{emptyRecords, emptyTx}
-use Rattle.transaction.specs.Rules.{headOk, heldAgainst}
+use Rattle.transaction.specs.Rules.{headOk, stateOk, heldAgainst}
 use Rattle.transaction.specs.Steps.{pushed, freshTx, written, precommitted}
 use Rattle.image.specs.Pack.{loaded, packedTxs, packed, emptyImage}
 use Rattle.image.specs.Reading.{undoHere, readTx, readContent, memoryOf}
@@ -44,7 +44,7 @@ abbrev quickShown : Row → Option Shown
 quickShown r = quickShowing (r .look) (quickRun (r .calls) start)
 
 computed : map quickShown rows ≡ map (λ r. some (r .expected)) rows
-unfolding undoOrder readRecord readRedo readCommit readAbort run all readBody readGroup readLog emptyRecords emptyTx headOk heldAgainst pushed freshTx
+unfolding undoOrder readRecord readRedo readCommit readAbort run all readBody readGroup readLog emptyRecords emptyTx headOk stateOk heldAgainst pushed freshTx
     written precommitted loaded packedTxs packed emptyImage undoHere readTx readContent memoryOf past forwardOf isRunning isLost runningOf lostOf
     recoverOf unrecovered unfit begunState writtenState precommittedState without droppedState loadOf refusedBy stepsOf examineOf recoveredState
     restartOf carriedOut decimal line foundText listingOf

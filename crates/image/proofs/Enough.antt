@@ -15,7 +15,7 @@ use Rattle.recovery.specs.Group.{Write}
 use Rattle.log.specs.Number.{be16, be32}
 use Rattle.log.specs.Record.{inRange}
 use Rattle.log.specs.Group.{andThen}
-use Rattle.transaction.proofs.Ranges.{in-range}
+use Rattle.transaction.proofs.RangeLaws.{in-range}
 use Rattle.image.specs.Content.{Saved}
 use Rattle.image.specs.Format.{undosIn, undosSize, txSize}
 use Rattle.image.specs.Reading.{undoHere, firstUndo, readUndos, savedIf, readTx, onTx, readTxs, contentIf, readContent, keepingRules, readImage}

@@ -20,7 +20,7 @@ use Rattle.transaction.specs.View.{range, rangeAt, rangesOf, writesOf}
 use Rattle.transaction.specs.Rules.{rangeOk, recordsOk}
 use Rattle.transaction.specs.Steps.{pushed}
 use Rattle.transaction.proofs.Lists.{up-same}
-use Rattle.transaction.proofs.Ranges.{in-range}
+use Rattle.transaction.proofs.RangeLaws.{in-range}
 use Rattle.transaction.proofs.Writes.{writes-up, bytes-length}
 use Rattle.transaction.proofs.Pushed.{Sized, empty-sized, push-sized, pushed-count, pushed-writes}
 use Rattle.image.specs.Content.{rangeOf}
@@ -28,18 +28,18 @@ use Rattle.image.specs.Pack.{pushedAll}
 use Rattle.image.proofs.Lists.{up-map}
 
 abbrev pub undoAt : Records → ℕ → Write
-undoAt r i = writeAt (r .addr) (r .len) (r .bytes) i
+undoAt r i = writeAt (r .ranges .addr) (r .ranges .len) (r .bytes) i
 
 -- no record is longer than its place
 abbrev Short : Records → Type 0
-Short r = (j : ℕ) → j < r .count → getD (r .len) j 0 ≤ 32
+Short r = (j : ℕ) → j < r .ranges .count → getD (r .ranges .len) j 0 ≤ 32
 
-push-short : (r : Records) (a : ℕ) (bs : List ℕ) → Sized r → r .count < 16 → length bs ≤ 32 → Short r → Short (pushed r a bs)
+push-short : (r : Records) (a : ℕ) (bs : List ℕ) → Sized r → r .ranges .count < 16 → length bs ≤ 32 → Short r → Short (pushed r a bs)
 unfolding pushed
 push-short r a bs z c l s j h =
-    elim (decLt j (r .count)) [
-      | yes q ↦ rw (getD-set-other (r .len) (r .count) j (length bs) 0 (λ e. omega (arith, q, e))) (s j q)
-      | no q ↦ let e : j ≡ r .count = omega (arith, q, h) in rw (e, getD-set-same (r .len) (r .count) (length bs) 0 (omega (arith, z .lens))) l
+    elim (decLt j (r .ranges .count)) [
+      | yes q ↦ rw (getD-set-other (r .ranges .len) (r .ranges .count) j (length bs) 0 (λ e. omega (arith, q, e))) (s j q)
+      | no q ↦ let e : j ≡ r .ranges .count = omega (arith, q, h) in rw (e, getD-set-same (r .ranges .len) (r .ranges .count) (length bs) 0 (omega (arith, z .lens))) l
     ]
 
 -- records that keep the rules, as they were read or are to be written
@@ -65,10 +65,10 @@ module _ (u : Write) (us : List Write) (e : every rangeOk (map rangeOf (u ∷ us
 record Laid (r : Records) (ws : List Write) : Type 0 where
   pub arrays : Sized r
   pub short : Short r
-  pub few : r .count ≤ 16
+  pub few : r .ranges .count ≤ 16
   pub writes : writesOf r ≡ ws
 
-push-all : (us : List Write) (r : Records) (ws : List Write) → Laid r ws → r .count + length us ≤ 16 → every rangeOk (map rangeOf us) ≡ true
+push-all : (us : List Write) (r : Records) (ws : List Write) → Laid r ws → r .ranges .count + length us ≤ 16 → every rangeOk (map rangeOf us) ≡ true
     → Laid (pushedAll r us) (ws ++ us)
 push-all [] r ws z c e = record { arrays = z .arrays; short = z .short; few = z .few; writes = z .writes ∙ sym (append-nil ws) }
 push-all (u ∷ us) r ws z c e =
@@ -87,13 +87,13 @@ push-all (u ∷ us) r ws z c e =
     (push-all us (pushed r a bs) (ws ++ (u ∷ [])) next (omega arith) (rest-ranged u us e))
 
 -- the ranges of records are those of what they hold
-pub ranges-of : (r : Records) → length (r .bytes) ≡ 512 → r .count ≤ 16 → ((j : ℕ) → j < r .count → getD (r .len) j 0 ≤ 32)
-    → map rangeOf (writesOf r) ≡ rangesOf r
+pub ranges-of : (r : Records) → length (r .bytes) ≡ 512 → r .ranges .count ≤ 16 → ((j : ℕ) → j < r .ranges .count → getD (r .ranges .len) j 0 ≤ 32)
+    → map rangeOf (writesOf r) ≡ rangesOf (r .ranges)
 ranges-of r l c s =
-    ap (map rangeOf) (writes-up (r .addr) (r .len) (r .bytes) (r .count) 0)
-    ∙ sym (up-map rangeOf (undoAt r) (r .count) 0)
-    ∙ up-same (λ j. rangeOf (undoAt r j)) (rangeAt r) (r .count) 0
-    (λ j g h. ap (range (getD (r .addr) j 0)) (bytes-length r j l (omega arith) (s j (omega arith))))
+    ap (map rangeOf) (writes-up (r .ranges .addr) (r .ranges .len) (r .bytes) (r .ranges .count) 0)
+    ∙ sym (up-map rangeOf (undoAt r) (r .ranges .count) 0)
+    ∙ up-same (λ j. rangeOf (undoAt r j)) (rangeAt (r .ranges)) (r .ranges .count) 0
+    (λ j g h. ap (range (getD (r .ranges .addr) j 0)) (bytes-length r j l (omega arith) (s j (omega arith))))
 
 module _ (us : List Write) (e : UndosOk us) where
   laid : Laid (pushedAll emptyRecords us) us
@@ -105,7 +105,7 @@ module _ (us : List Write) (e : UndosOk us) where
   pub packed-writes : writesOf (pushedAll emptyRecords us) ≡ us
   packed-writes = laid .writes
 
-  pub packed-ranges : rangesOf (pushedAll emptyRecords us) ≡ map rangeOf us
+  pub packed-ranges : rangesOf (pushedAll emptyRecords us .ranges) ≡ map rangeOf us
   packed-ranges =
       let r = pushedAll emptyRecords us in
       sym (ranges-of r (laid .arrays .space) (laid .few) (laid .short)) ∙ ap (map rangeOf) (laid .writes)

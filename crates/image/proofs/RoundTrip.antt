@@ -19,7 +19,7 @@ use Rattle.transaction.specs.Lists.{every}
 use Rattle.transaction.specs.View.{outline, viewOf}
 use Rattle.transaction.specs.Rules.{rangeOk}
 use Rattle.transaction.proofs.Lists.{up-same}
-use Rattle.transaction.proofs.Ranges.{counted, ranged}
+use Rattle.transaction.proofs.RangeLaws.{counted, ranged}
 use Rattle.image.specs.declared.Image.{Image}
 use Rattle.image.specs.Slots.{slotAt, listed, outlineAt}
 use Rattle.image.specs.Rules.{imageOk, keepsRules}
@@ -155,7 +155,7 @@ module _ (i : Image) (w : Whole i) (e : keepsRules i ≡ true) where
       same j h =
           let t = slotAt (i .txs) j in
           let k = undo-at i e j h in
-          ap (outline (t .id .0) (t .status) (t .csn .0)) (ranges-of (t .undo) (w j h) (counted (t .undo) k) (λ n b. ranged (t .undo) k n b .1))
+          ap (outline (t .id .0) (t .status) (t .csn .0)) (ranges-of (t .undo) (w j h) (counted (t .undo .ranges) k) (λ n b. ranged (t .undo .ranges) k n b .1))
 
   module _ (m rest : List ℕ) (l : length m ≡ 4096) where
     pub image-decoded : decodeOf (encodeImage i m ++ rest) ≡ record { ok = true; image = packed (contentOf i) }

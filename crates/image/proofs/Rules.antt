@@ -93,12 +93,12 @@ module _ (i : Image) (e : keepsRules i ≡ true) where
         (rules-each (i .logend) (i .ondisk .0) (i .assigned .0) (i .lastid .0) (outlined (i .txs) (i .count)) e) j (omega arith) (omega arith)
 
     pub head-at : headOk (i .lastid .0) (i .assigned .0) (slotAt (i .txs) j .id .0) (slotAt (i .txs) j .status) (slotAt (i .txs) j .csn .0) ≡ true
-    head-at = and-left _ (recordsOk (rangesOf (slotAt (i .txs) j .undo))) outline-at
+    head-at = and-left _ (recordsOk (rangesOf (slotAt (i .txs) j .undo .ranges))) outline-at
 
-    pub undo-at : recordsOk (rangesOf (slotAt (i .txs) j .undo)) ≡ true
+    pub undo-at : recordsOk (rangesOf (slotAt (i .txs) j .undo .ranges)) ≡ true
     undo-at =
         let t = slotAt (i .txs) j in
-        and-right (headOk (i .lastid .0) (i .assigned .0) (t .id .0) (t .status) (t .csn .0)) (recordsOk (rangesOf (t .undo))) outline-at
+        and-right (headOk (i .lastid .0) (i .assigned .0) (t .id .0) (t .status) (t .csn .0)) (recordsOk (rangesOf (t .undo .ranges))) outline-at
 
     pub ruled-at : Ruled (i .lastid .0) (i .assigned .0) (slotAt (i .txs) j .id .0) (slotAt (i .txs) j .status) (slotAt (i .txs) j .csn .0)
     ruled-at = head-rules _ _ _ _ _ head-at

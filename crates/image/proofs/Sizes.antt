@@ -13,7 +13,7 @@ use Rattle.transaction.specs.declared.Tx.{Tx}
 use Rattle.transaction.specs.Lists.{upFrom, every}
 use Rattle.transaction.specs.View.{rangesOf, writesOf, outline}
 use Rattle.transaction.specs.Rules.{rangeOk, headOk, recordsOk, outlineOk}
-use Rattle.transaction.proofs.Ranges.{in-range, counted, ranged}
+use Rattle.transaction.proofs.RangeLaws.{in-range, counted, ranged}
 use Rattle.image.specs.declared.Image.{Image}
 use Rattle.image.specs.Slots.{slotAt}
 use Rattle.image.specs.Rules.{keepsRules}
@@ -76,22 +76,22 @@ take-short zero l = omega arith
 take-short (suc n) [] = omega arith
 take-short (suc n) (x ∷ l) = omega (arith, take-short n l)
 
-records-from : (r : Records) (k i : ℕ) → ((j : ℕ) → j < i + k → getD (r .len) j 0 ≤ 32)
-    → undosSize (writesFrom (r .addr) (r .len) (r .bytes) k i) ≤ 35 * k
+records-from : (r : Records) (k i : ℕ) → ((j : ℕ) → j < i + k → getD (r .ranges .len) j 0 ≤ 32)
+    → undosSize (writesFrom (r .ranges .addr) (r .ranges .len) (r .bytes) k i) ≤ 35 * k
 records-from r zero i s = omega arith
 records-from r (suc k) i s =
     let n = s i (omega arith) in
-    let l = take-short (getD (r .len) i 0) (drop (i * 32) (r .bytes)) in
+    let l = take-short (getD (r .ranges .len) i 0) (drop (i * 32) (r .bytes)) in
     let h = records-from r k (suc i) (λ j b. s j (omega arith)) in
     omega arith
 
-records-small : (r : Records) → recordsOk (rangesOf r) ≡ true → undosSize (writesOf r) ≤ 560
+records-small : (r : Records) → recordsOk (rangesOf (r .ranges)) ≡ true → undosSize (writesOf r) ≤ 560
 records-small r e =
-    let n = counted r e in
-    let h = records-from r (r .count) 0 (λ j b. ranged r e j (omega arith) .1) in
+    let n = counted (r .ranges) e in
+    let h = records-from r (r .ranges .count) 0 (λ j b. ranged (r .ranges) e j (omega arith) .1) in
     omega arith
 
-slots-small : (txs : List Tx) (k i : ℕ) → ((j : ℕ) → j < i + k → recordsOk (rangesOf (slotAt txs j .undo)) ≡ true)
+slots-small : (txs : List Tx) (k i : ℕ) → ((j : ℕ) → j < i + k → recordsOk (rangesOf (slotAt txs j .undo .ranges)) ≡ true)
     → txsSize (upFrom (savedAt txs) k i) ≤ 568 * k
 slots-small txs zero i s = omega arith
 slots-small txs (suc k) i s =

@@ -35,14 +35,15 @@ fn put_undo(b: &mut [u8], at: usize, addr: u16, src: &[u8])
 }
 
 fn put_undos(b: &mut [u8], at: usize, undo: Records) -> usize
-    requires { ⌜ recordsOk (rangesOf undo) ≡ true ⌝ }
+    requires { ⌜ recordsOk (rangesOf (undo .ranges)) ≡ true ⌝ }
     requires { ⌜ at + undosSize (writesOf undo) ≤ length (now b) ⌝ }
     ensures { λ r. ⌜ r ≡ at + undosSize (writesOf undo) ⌝ }
     ensures { λ _. ⌜ now (b .exit) ≡ sets (now (b .entry)) at (encodeUndos (writesOf undo)) ⌝ }
 {
-    let n = undo.count as usize;
-    let addr = undo.addr;
-    let len = undo.len;
+    let ranges = undo.ranges;
+    let n = ranges.count as usize;
+    let addr = ranges.addr;
+    let len = ranges.len;
     let bytes = undo.bytes;
     let mut o = at;
     let mut i: usize = 0;
@@ -57,7 +58,7 @@ fn put_undos(b: &mut [u8], at: usize, undo: Records) -> usize
 }
 
 fn put_tx(b: &mut [u8], at: usize, t: Tx) -> usize
-    requires { ⌜ recordsOk (rangesOf (t .undo)) ≡ true ⌝ }
+    requires { ⌜ recordsOk (rangesOf (t .undo .ranges)) ≡ true ⌝ }
     requires { ⌜ at + txSize (savedOf t) ≤ length (now b) ⌝ }
     ensures { λ r. ⌜ r ≡ at + txSize (savedOf t) ⌝ }
     ensures { λ _. ⌜ now (b .exit) ≡ sets (now (b .entry)) at (encodeTx (savedOf t)) ⌝ }
@@ -65,7 +66,7 @@ fn put_tx(b: &mut [u8], at: usize, t: Tx) -> usize
     put16(b, at, t.id.0);
     b[at + 2] = t.status;
     put32(b, at + 3, t.csn.0);
-    b[at + 7] = t.undo.count;
+    b[at + 7] = t.undo.ranges.count;
     let undo = t.undo;
     put_undos(b, at + TX_HEAD_LEN, undo)
 }

@@ -17,7 +17,7 @@ use Rattle.log.proofs.Basics.{nonzero-within, and-left, and-right}
 use Rattle.log.proofs.Reader.{Shrinks, step}
 use Rattle.log.proofs.RecordLaws.{keep-inv, record-cases, record-within}
 use Rattle.log.proofs.GroupLaws.{body-inv}
-use Rattle.transaction.proofs.Ranges.{in-range}
+use Rattle.transaction.proofs.RangeLaws.{in-range}
 use Rattle.restart.specs.Turns.{layFront, frontSize, onRecord, redoStep, frontWrites}
 
 -- ---- what a redo record that is read says of its bytes

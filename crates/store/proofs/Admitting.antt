@@ -13,9 +13,10 @@ use Rattle.log.proofs.Basics.{and-left, and-right}
 use Rattle.transaction.specs.Lists.{upFrom, every, sumOf}
 use Rattle.transaction.specs.declared.Tx.{Tx}
 use Rattle.transaction.specs.View.{Range, rangesOf}
-use Rattle.transaction.specs.Rules.{headOk as headRules, recordsOk, outlineOk, redoOk, rangesSize, roomOf}
+use Rattle.transaction.specs.Rules.{headOk as headRules, recordsOk, outlineOk, stateOk, rangesSize, roomOf}
 use Rattle.transaction.proofs.Lists.{every-at, length-up}
-use Rattle.transaction.proofs.Ranges.{size-bound}
+use Rattle.transaction.proofs.StateRule.{running-ranges}
+use Rattle.transaction.proofs.RangeLaws.{size-bound}
 use Rattle.store.specs.declared.State.{State}
 use Rattle.store.specs.declared.admit.Measured.{Measured}
 use Rattle.store.specs.declared.admit.Admission.{Admission}
@@ -24,7 +25,7 @@ use Rattle.image.specs.Rules.{distinct, boundsOk, outlinesOk}
 use Rattle.store.specs.Rules.{allZero, tailLength, tailOk, roomUsed, unfit}
 use Rattle.store.specs.Numbers.{Check, firstNumber, sharedChecks, numberBy}
 use Rattle.store.specs.Admission.{notAdmitted, ruleBroken, countersOk, measuredIf, measuredTxs, measuredTail, admission, numberAfter, Seen}
-use Rattle.store.proofs.Fits.{Fit, fit, unfit-no, running-redo}
+use Rattle.store.proofs.Fits.{Fit, fit, unfit-no}
 use Rattle.store.proofs.Checks.{stops, passes, passed}
 
 -- ---- what was measured
@@ -69,23 +70,23 @@ module _ (s : State) where
   unfolding measuredTxs
   bad-alike e = rw (e, and-false)
 
-  pub bad-redo : every redoOk (txsOf s) ≡ false → measuredTxs s ≡ ruleBroken
+  pub bad-states : every stateOk (txsOf s) ≡ false → measuredTxs s ≡ ruleBroken
   unfolding measuredTxs
-  bad-redo e = rw (e, and-false)
+  bad-states e = rw (e, and-false)
 
-  pub good-txs : every (outlineOk (s .lastid .0) (s .assigned .0)) (outlinesOf s) ≡ true → distinct (outlinesOf s) ≡ true → every redoOk (txsOf s) ≡ true
+  pub good-txs : every (outlineOk (s .lastid .0) (s .assigned .0)) (outlinesOf s) ≡ true → distinct (outlinesOf s) ≡ true → every stateOk (txsOf s) ≡ true
       → measuredTxs s ≡ record { ok = true; room = sumOf roomOf (txsOf s) }
   unfolding measuredTxs
   good-txs e f g = rw (e, f, g)
 
-  pub txs-measured : (r : Measured) → r ≡ measuredTxs s → r .ok ≡ outlined && every redoOk (txsOf s)
+  pub txs-measured : (r : Measured) → r ≡ measuredTxs s → r .ok ≡ outlined && every stateOk (txsOf s)
   unfolding measuredTxs
-  txs-measured r e = ap (λ (x : Measured). x .ok) e ∙ if-ok (outlined && every redoOk (txsOf s)) (sumOf roomOf (txsOf s))
+  txs-measured r e = ap (λ (x : Measured). x .ok) e ∙ if-ok (outlined && every stateOk (txsOf s)) (sumOf roomOf (txsOf s))
 
   pub txs-room : (r : Measured) → r ≡ measuredTxs s → r .ok ≡ true → r .room ≡ sumOf roomOf (txsOf s)
   unfolding measuredTxs
   txs-room r e o =
-      ap (λ (x : Measured). x .room) e ∙ if-room (outlined && every redoOk (txsOf s)) (sumOf roomOf (txsOf s)) (sym (txs-measured r e) ∙ o)
+      ap (λ (x : Measured). x .room) e ∙ if-room (outlined && every stateOk (txsOf s)) (sumOf roomOf (txsOf s)) (sym (txs-measured r e) ∙ o)
 
 -- ---- number 2
 
@@ -101,19 +102,19 @@ module _ (s : State) (t : List ℕ) where
   unfit-head e =
       rw (length-up (outlineAt s) (s .count) 0)
       (go (s .recovered) bounds (outlinesOk (s .lastid .0) (s .assigned .0) (outlinesOf s))
-      (ltb 16384 (roomUsed s t)) (not (every redoOk (txsOf s))) (not (tailOk (s .ondisk .0) (s .assigned .0) t)) e)
+      (ltb 16384 (roomUsed s t)) (not (every stateOk (txsOf s))) (not (tailOk (s .ondisk .0) (s .assigned .0) t)) e)
     where
       go : (r i o x y z : Bool) → r && i ≡ false → not r || not (i && o) || x || y || z ≡ true
       go false i o x y z e = refl
       go true false o x y z e = refl
       go true true o x y z e = let w : true ≡ false = e in cc
 
-  pub unfit-txs : outlinesOk (s .lastid .0) (s .assigned .0) (outlinesOf s) && every redoOk (txsOf s) ≡ false → unfit s t ≡ true
+  pub unfit-txs : outlinesOk (s .lastid .0) (s .assigned .0) (outlinesOf s) && every stateOk (txsOf s) ≡ false → unfit s t ≡ true
   unfolding unfit
   unfit-txs e =
       go (not (s .recovered)) (leb (s .logend) 16384 && leb (s .ondisk .0) (s .assigned .0) && leb (length (outlinesOf s)) 8)
       (outlinesOk (s .lastid .0) (s .assigned .0) (outlinesOf s))
-      (every redoOk (txsOf s)) (ltb 16384 (roomUsed s t)) (not (tailOk (s .ondisk .0) (s .assigned .0) t)) e
+      (every stateOk (txsOf s)) (ltb 16384 (roomUsed s t)) (not (tailOk (s .ondisk .0) (s .assigned .0) t)) e
     where
       go : (r i o d x z : Bool) → o && d ≡ false → r || not (i && o) || x || not d || z ≡ true
       go r i false d x z e = rw (and-false, or-true)
@@ -134,31 +135,31 @@ module _ (s : State) (t : List ℕ) where
     head-count =
         leb-true _ _ (and-right (leb (s .logend) 16384 && leb (s .ondisk .0) (s .assigned .0)) (leb (s .count) 8) (and-right (s .recovered) bounds e))
 
-    pub unfit-none : outlinesOk (s .lastid .0) (s .assigned .0) (outlinesOf s) && every redoOk (txsOf s) ≡ true
+    pub unfit-none : outlinesOk (s .lastid .0) (s .assigned .0) (outlinesOf s) && every stateOk (txsOf s) ≡ true
         → tailOk (s .ondisk .0) (s .assigned .0) t ≡ true
         → roomUsed s t ≤ 16384 → unfit s t ≡ false
     unfolding countersOk
     unfit-none m q h =
-        let o : outlinesOk (s .lastid .0) (s .assigned .0) (outlinesOf s) ≡ true = and-left _ (every redoOk (txsOf s)) m in
+        let o : outlinesOk (s .lastid .0) (s .assigned .0) (outlinesOf s) ≡ true = and-left _ (every stateOk (txsOf s)) m in
         unfit-no s t
         (record {
           recovered = and-left (s .recovered) bounds e;
           image = rw (length-up (outlineAt s) (s .count) 0, and-right (s .recovered) bounds e, o);
           room = h;
-          redo = and-right (outlinesOk (s .lastid .0) (s .assigned .0) (outlinesOf s)) (every redoOk (txsOf s)) m;
+          states = and-right (outlinesOk (s .lastid .0) (s .assigned .0) (outlinesOf s)) (every stateOk (txsOf s)) m;
           tail = q;
         })
 
 -- ---- bounds, so that no sum wraps
 
-pub redo-records : (t : Tx) → recordsOk (rangesOf (t .undo)) ≡ true → redoOk t ≡ true → t .status ≡ 1 → recordsOk (rangesOf (t .redo)) ≡ true
-redo-records t e f h = subst (λ (rs : List Range). recordsOk rs ≡ true) (running-redo t f h) e
+pub redo-records : (t : Tx) → recordsOk (rangesOf (t .undo .ranges)) ≡ true → stateOk t ≡ true → t .status ≡ 1 → recordsOk (rangesOf (t .redo .ranges)) ≡ true
+redo-records t e f h = subst (λ (rs : List Range). recordsOk rs ≡ true) (running-ranges t f h) e
 
-pub room-bound : (t : Tx) → recordsOk (rangesOf (t .undo)) ≡ true → redoOk t ≡ true → roomOf t ≤ 632
+pub room-bound : (t : Tx) → recordsOk (rangesOf (t .undo .ranges)) ≡ true → stateOk t ≡ true → roomOf t ≤ 632
 room-bound t e f = go (eqb (t .status) 1) refl
   where
-    go : (b : Bool) → eqb (t .status) 1 ≡ b → cond b (rangesSize (rangesOf (t .redo)) + 8) 0 ≤ 632
-    go true p = let h = size-bound (rangesOf (t .redo)) (redo-records t e f (eqb-true _ _ p)) in omega arith
+    go : (b : Bool) → eqb (t .status) 1 ≡ b → cond b (rangesSize (rangesOf (t .redo .ranges)) + 8) 0 ≤ 632
+    go true p = let h = size-bound (rangesOf (t .redo .ranges)) (redo-records t e f (eqb-true _ _ p)) in omega arith
     go false p = omega arith
 
 sum-bound : (f : ℕ → Tx) (k i : ℕ) → ((j : ℕ) → i ≤ j → j < i + k → roomOf (f j) ≤ 632) → sumOf roomOf (upFrom f k i) ≤ 632 * k
@@ -172,16 +173,16 @@ abbrev headOf : State → ℕ → Bool
 headOf s j = headRules (s .lastid .0) (s .assigned .0) (txAt s j .id .0) (txAt s j .status) (txAt s j .csn .0)
 
 -- what the transactions of a state have reserved together
-pub reserved-bound : (s : State) → s .count ≤ 8 → outlinesOk (s .lastid .0) (s .assigned .0) (outlinesOf s) && every redoOk (txsOf s) ≡ true
+pub reserved-bound : (s : State) → s .count ≤ 8 → outlinesOk (s .lastid .0) (s .assigned .0) (outlinesOf s) && every stateOk (txsOf s) ≡ true
     → sumOf roomOf (txsOf s) ≤ 5056
 reserved-bound s h e =
     let o : every (outlineOk (s .lastid .0) (s .assigned .0)) (outlinesOf s) ≡ true =
-    and-left _ (distinct (outlinesOf s)) (and-left _ (every redoOk (txsOf s)) e) in
-    let d : every redoOk (txsOf s) ≡ true = and-right (outlinesOk (s .lastid .0) (s .assigned .0) (outlinesOf s)) _ e in
+    and-left _ (distinct (outlinesOf s)) (and-left _ (every stateOk (txsOf s)) e) in
+    let d : every stateOk (txsOf s) ≡ true = and-right (outlinesOk (s .lastid .0) (s .assigned .0) (outlinesOf s)) _ e in
     let b = sum-bound (txAt s) (s .count) 0
     (λ j p q. room-bound (txAt s j)
-    (and-right (headOf s j) (recordsOk (rangesOf (txAt s j .undo))) (every-at (outlineAt s) (outlineOk (s .lastid .0) (s .assigned .0)) (s .count) 0 o j p q))
-    (every-at (txAt s) redoOk (s .count) 0 d j p q)) in
+    (and-right (headOf s j) (recordsOk (rangesOf (txAt s j .undo .ranges))) (every-at (outlineAt s) (outlineOk (s .lastid .0) (s .assigned .0)) (s .count) 0 o j p q))
+    (every-at (txAt s) stateOk (s .count) 0 d j p q)) in
     omega arith
 
 -- ---- the admission

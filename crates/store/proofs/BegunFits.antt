@@ -13,9 +13,10 @@ use Rattle.transaction.specs.declared.Tx.{Tx}
 use Rattle.transaction.specs.Lists.{upFrom, sumOf}
 use Rattle.transaction.specs.Flat.{emptyRecords}
 use Rattle.transaction.specs.View.{outlineOf}
-use Rattle.transaction.specs.Rules.{headOk, outlineOk, redoOk, roomOf}
+use Rattle.transaction.specs.Rules.{headOk, outlineOk, roomOf}
 use Rattle.transaction.specs.Steps.{freshTx}
 use Rattle.transaction.proofs.Lists.{up-snoc, up-same}
+use Rattle.transaction.proofs.StateRule.{fresh-state}
 use Rattle.store.specs.declared.State.{State}
 use Rattle.store.specs.State.{txAt, txsOf, outlineAt, imageOf}
 use Rattle.image.specs.Rules.{alikeTo}
@@ -24,7 +25,7 @@ use Rattle.store.specs.Rules.{roomUsed}
 use Rattle.store.proofs.Fits.{Fit}
 use Rattle.store.proofs.Stepping.{SizedState, begun-slot}
 use Rattle.store.specs.Steps.{begunState}
-use Rattle.store.proofs.Changing.{image-kept, changed-outlines, changed-redo, changed-distinct}
+use Rattle.store.proofs.Changing.{image-kept, changed-outlines, changed-states, changed-distinct}
 
 sum-snoc : {A : Type 0} (g : A → ℕ) (xs : List A) (x : A) → sumOf g (xs ++ (x ∷ [])) ≡ sumOf g xs + g x
 sum-snoc g [] x = omega arith
@@ -37,10 +38,6 @@ never false = refl
 fresh-room : (id : TxId) → roomOf (freshTx id) ≡ 8
 unfolding freshTx emptyRecords
 fresh-room id = refl
-
-fresh-redo : (id : TxId) → redoOk (freshTx id) ≡ true
-unfolding freshTx emptyRecords
-fresh-redo id = refl
 
 fresh-outline : (last assigned : ℕ) → outlineOk (last + 1) assigned (outlineOf (freshTx (record { 0 = last + 1 }))) ≡ true
 unfolding freshTx emptyRecords headOk
@@ -74,6 +71,6 @@ begun-fits s t z f h room =
           image-kept r (image-logend (imageOf s) (f .image)) (image-ordered (imageOf s) (f .image)) (omega (arith, h))
           (changed-outlines s t f r u (s .count) c (omega arith) (omega arith) old good) d;
       room = omega (arith, sum, room);
-      redo = changed-redo s t f r u (s .count) c (omega arith) (omega arith) old good (fresh-redo id);
+      states = changed-states s t f r u (s .count) c (omega arith) (omega arith) old good (fresh-state id);
       tail = f .tail;
     }

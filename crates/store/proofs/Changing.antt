@@ -12,7 +12,7 @@ use Rattle.log.proofs.Basics.{and-left, and-right}
 use Rattle.transaction.specs.declared.Tx.{Tx}
 use Rattle.transaction.specs.Lists.{upFrom, every, sumOf}
 use Rattle.transaction.specs.View.{Outline, outlineOf}
-use Rattle.transaction.specs.Rules.{headOk, outlineOk, redoOk, roomOf}
+use Rattle.transaction.specs.Rules.{headOk, outlineOk, stateOk, roomOf}
 use Rattle.transaction.proofs.Lists.{every-at, length-up}
 use Rattle.store.specs.declared.State.{State}
 use Rattle.store.specs.State.{txAt, txsOf, outlineAt, outlinesOf, imageOf}
@@ -70,8 +70,8 @@ module _ (s : State) (t : List ℕ) (f : Fit s t) where
   pub apart : (x y : ℕ) → x < y → y < s .count → alikeTo (outlineAt s x) (outlineAt s y) ≡ false
   apart x y a b = distinct-at (outlineAt s) (s .count) 0 (image-distinct (imageOf s) (f .image)) x y (omega arith) a (omega arith)
 
-  pub redo-right : (i : ℕ) → i < s .count → redoOk (txAt s i) ≡ true
-  redo-right i h = every-at (txAt s) redoOk (s .count) 0 (f .redo) i (omega arith) (omega arith)
+  pub state-right : (i : ℕ) → i < s .count → stateOk (txAt s i) ≡ true
+  state-right i h = every-at (txAt s) stateOk (s .count) 0 (f .states) i (omega arith) (omega arith)
 
   -- ---- a state whose slots are those of s but for one, with counters that did not fall
   module _ (r : State) (u : Tx) (j : ℕ) (c : Changed (txAt s) (txAt r) j u) (last : s .lastid .0 ≤ r .lastid .0) (csn : s .assigned .0 ≤ r .assigned .0)
@@ -84,12 +84,12 @@ module _ (s : State) (t : List ℕ) (f : Fit s t) where
         (λ q. subst (λ (x : Tx). outlineOk (r .lastid .0) (r .assigned .0) (outlineOf x) ≡ true) (sym (c .other i q))
         (outline-later (r .lastid .0) (r .assigned .0) last csn i (old i (omega arith) q))))
 
-    pub changed-redo : redoOk u ≡ true → every redoOk (txsOf r) ≡ true
-    changed-redo e =
-        every-intro redoOk (txAt r) (r .count) 0
+    pub changed-states : stateOk u ≡ true → every stateOk (txsOf r) ≡ true
+    changed-states e =
+        every-intro stateOk (txAt r) (r .count) 0
         (λ i a b.
-        same-or-other i j (λ q. subst (λ (x : Tx). redoOk x ≡ true) (sym (ap (txAt r) q ∙ c .here)) e)
-        (λ q. subst (λ (x : Tx). redoOk x ≡ true) (sym (c .other i q)) (redo-right i (old i (omega arith) q))))
+        same-or-other i j (λ q. subst (λ (x : Tx). stateOk x ≡ true) (sym (ap (txAt r) q ∙ c .here)) e)
+        (λ q. subst (λ (x : Tx). stateOk x ≡ true) (sym (c .other i q)) (state-right i (old i (omega arith) q))))
 
     pub changed-distinct : ((x : ℕ) → x < j → x < s .count → alikeTo (outlineAt s x) (outlineOf u) ≡ false)
         → ((y : ℕ) → j < y → y < s .count → alikeTo (outlineOf u) (outlineAt s y) ≡ false)

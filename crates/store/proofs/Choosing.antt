@@ -9,7 +9,7 @@ use native.Mathlib.Decide.{decLe}
 use borrow.Author.Tests.{eq-eqb, ne-eqb, eqb-true, eqb-false, le-leb, lt-leb, le-ltb, lt-ltb, not-false}
 use Rattle.recovery.specs.Lists.{any}
 use Rattle.log.specs.Record.{inRange}
-use Rattle.transaction.proofs.Ranges.{in-range}
+use Rattle.transaction.proofs.RangeLaws.{in-range}
 use Rattle.image.proofs.Rules.{image-count}
 use Rattle.store.specs.declared.State.{State}
 use Rattle.store.specs.State.{imageOf, txAt, txsOf, hasId, slotOf}

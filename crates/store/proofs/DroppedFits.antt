@@ -8,7 +8,7 @@ use borrow.Author.Tests.{eq-eqb}
 use Rattle.recovery.specs.Group.{aborted}
 use Rattle.transaction.specs.Lists.{every, sumOf}
 use Rattle.transaction.specs.View.{outlineOf}
-use Rattle.transaction.specs.Rules.{outlineOk, redoOk, roomOf}
+use Rattle.transaction.specs.Rules.{outlineOk, stateOk, roomOf}
 use Rattle.store.specs.declared.State.{State}
 use Rattle.store.specs.State.{txAt, txsOf, outlineAt, slotOf, imageOf}
 use Rattle.image.proofs.Rules.{image-logend, image-ordered, image-count, outline-at}
@@ -21,7 +21,7 @@ use Rattle.store.proofs.Views.{abort-appends, tail-csn, tail-zeros}
 use Rattle.store.proofs.Positions.{every-intro}
 use Rattle.store.proofs.Stepping.{SizedState, dropped-slot}
 use Rattle.store.specs.Steps.{droppedState}
-use Rattle.store.proofs.Changing.{image-kept, redo-right, dropped-each, dropped-distinct, dropped-sum}
+use Rattle.store.proofs.Changing.{image-kept, state-right, dropped-each, dropped-distinct, dropped-sum}
 
 dropped-image : (s : State) (t : List ℕ) (j : ℕ) → SizedState s → Fit s t → j < s .count → keepsImageRules (droppedState s j) ≡ true
 unfolding droppedState
@@ -35,12 +35,12 @@ dropped-image s t j z f h =
     (λ k l. outline-at (imageOf s) (f .image) k l) i (omega (arith, b))))
     (dropped-distinct s t f r j h d refl)
 
-dropped-redo : (s : State) (t : List ℕ) (j : ℕ) → SizedState s → Fit s t → j < s .count → every redoOk (txsOf (droppedState s j)) ≡ true
+dropped-states : (s : State) (t : List ℕ) (j : ℕ) → SizedState s → Fit s t → j < s .count → every stateOk (txsOf (droppedState s j)) ≡ true
 unfolding droppedState
-dropped-redo s t j z f h =
+dropped-states s t j z f h =
     let d = dropped-slot s z j h (image-count (imageOf s) (f .image)) in
-    every-intro redoOk (txAt (droppedState s j)) (s .count - 1) 0
-    (λ i a b. dropped-each s t f (droppedState s j) j h d refl redoOk (redo-right s t f) i (omega (arith, b)))
+    every-intro stateOk (txAt (droppedState s j)) (s .count - 1) 0
+    (λ i a b. dropped-each s t f (droppedState s j) j h d refl stateOk (state-right s t f) i (omega (arith, b)))
 
 dropped-reserved : (s : State) (t : List ℕ) (j : ℕ) → SizedState s → Fit s t → j < s .count
     → sumOf roomOf (txsOf (droppedState s j)) + roomOf (txAt s j) ≡ sumOf roomOf (txsOf s)
@@ -54,7 +54,7 @@ settled-fits s t j z f h =
       recovered = f .recovered;
       image = dropped-image s t j z f h;
       room = omega (arith, dropped-reserved s t j z f h, f .room);
-      redo = dropped-redo s t j z f h;
+      states = dropped-states s t j z f h;
       tail = f .tail;
     }
 
@@ -74,6 +74,6 @@ aborted-fits s m t id z run =
       recovered = f .recovered;
       image = dropped-image s t j z f h;
       room = omega (arith, dropped-reserved s t j z f h, size, k, f .room);
-      redo = dropped-redo s t j z f h;
+      states = dropped-states s t j z f h;
       tail = rw (eq-eqb _ _ last, appended-zeros (s .ondisk .0) t (aborted id) (tail-zeros s t f) (y .room) (y .right));
     }

@@ -5,15 +5,14 @@ use mathlib.Core.Bool.{true, false, not, _||_}
 use mathlib.Core.List.{List}
 use mathlib.Core.Path.{_≡_, refl}
 use lib.Dec.{ltb}
-use borrow.Author.Tests.{ltb-false, le-ltb, eq-eqb, not-false}
+use borrow.Author.Tests.{ltb-false, le-ltb, not-false}
 use Rattle.recovery.proofs.Bool.{or-left, or-right}
-use Rattle.transaction.specs.declared.Tx.{Tx}
 use Rattle.transaction.specs.Lists.{upFrom, every, sumOf}
 use Rattle.transaction.specs.View.{rangesOf}
-use Rattle.transaction.specs.Rules.{redoOk, roomOf}
+use Rattle.transaction.specs.Rules.{stateOk, roomOf}
 use Rattle.transaction.proofs.Lists.{every-at}
 use Rattle.transaction.proofs.Heads.{running-status}
-use Rattle.transaction.proofs.Ranges.{equal-ranges}
+use Rattle.transaction.proofs.StateRule.{running-ranges}
 use Rattle.image.proofs.Rules.{ruled-at}
 use Rattle.store.specs.declared.State.{State}
 use Rattle.store.specs.State.{imageOf, txAt, txsOf}
@@ -23,7 +22,7 @@ pub record Fit (s : State) (t : List ℕ) : Type 0 where
   pub recovered : s .recovered ≡ true
   pub image : keepsImageRules s ≡ true
   pub room : roomUsed s t ≤ 16384
-  pub redo : every redoOk (txsOf s) ≡ true
+  pub states : every stateOk (txsOf s) ≡ true
   pub tail : tailOk (s .ondisk .0) (s .assigned .0) t ≡ true
 
 pub fit : (s : State) (t : List ℕ) → unfit s t ≡ false → Fit s t
@@ -32,7 +31,7 @@ fit s t e =
     let a = not (s .recovered) in
     let b = not (keepsImageRules s) in
     let c = ltb 16384 (roomUsed s t) in
-    let d = not (every redoOk (txsOf s)) in
+    let d = not (every stateOk (txsOf s)) in
     let f = not (tailOk (s .ondisk .0) (s .assigned .0) t) in
     let e₃ = or-left (a || b || c || d) f e in
     let e₂ = or-left (a || b || c) d e₃ in
@@ -41,18 +40,15 @@ fit s t e =
       recovered = not-false _ (or-left a b e₁);
       image = not-false _ (or-right a b e₁);
       room = ltb-false _ _ (or-right (a || b) c e₂);
-      redo = not-false _ (or-right (a || b || c) d e₃);
+      states = not-false _ (or-right (a || b || c) d e₃);
       tail = not-false _ (or-right (a || b || c || d) f e);
     }
 
 pub unfit-no : (s : State) (t : List ℕ) → Fit s t → unfit s t ≡ false
 unfolding unfit
-unfit-no s t f = rw (f .recovered, f .image, le-ltb _ _ (f .room), f .redo, f .tail)
+unfit-no s t f = rw (f .recovered, f .image, le-ltb _ _ (f .room), f .states, f .tail)
 
 -- ---- one transaction
-
-pub running-redo : (t : Tx) → redoOk t ≡ true → t .status ≡ 1 → rangesOf (t .undo) ≡ rangesOf (t .redo)
-running-redo t e h = equal-ranges _ _ (rw (eq-eqb (t .status) 1 h) at e)
 
 part-of-sum : {A : Type 0} (g : A → ℕ) (f : ℕ → A) (k i j : ℕ) → i ≤ j → j < i + k → g (f j) ≤ sumOf g (upFrom f k i)
 part-of-sum g f zero i j a b = absurd (omega arith)
@@ -66,8 +62,8 @@ module _ (s : State) (t : List ℕ) (f : Fit s t) (i : ℕ) (h : i < s .count) w
   pub status-at : (txAt s i .status ≡ 2 → ⊥) → txAt s i .status ≡ 1
   status-at = running-status _ _ _ _ _ (ruled-at (imageOf s) (f .image) i h)
 
-  pub redo-at : txAt s i .status ≡ 1 → rangesOf (txAt s i .undo) ≡ rangesOf (txAt s i .redo)
-  redo-at = running-redo (txAt s i) (every-at (txAt s) redoOk (s .count) 0 (f .redo) i (omega arith) (omega arith))
+  pub redo-at : txAt s i .status ≡ 1 → rangesOf (txAt s i .undo .ranges) ≡ rangesOf (txAt s i .redo .ranges)
+  redo-at = running-ranges (txAt s i) (every-at (txAt s) stateOk (s .count) 0 (f .states) i (omega arith) (omega arith))
 
   pub room-at : roomOf (txAt s i) ≤ sumOf roomOf (txsOf s)
   room-at = part-of-sum roomOf (txAt s) (s .count) 0 i (omega arith) (omega arith)

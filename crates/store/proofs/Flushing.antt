@@ -191,6 +191,6 @@ module _ (s : State) (t : List ℕ) (k : ℕ) where
             other-first (leb (s .logend) 16384) (leb (s .ondisk .0) (s .assigned .0)) (leb (length (outlinesOf s)) 8)
             (outlinesOk (s .lastid .0) (s .assigned .0) (outlinesOf s)) _ _ (f .image) (le-leb _ _ (flush-room s t k f)) (le-leb _ _ ordered);
         room = omega (arith, f .room, ap groupsSize flush-tail, size-split k groups);
-        redo = f .redo;
+        states = f .states;
         tail = rw (flush-tail, eq-eqb _ _ last) (rest-zero (and-right c z (f .tail)));
       }

@@ -10,12 +10,12 @@ use borrow.Author.Tests.{eq-eqb, eqb-false, ltb-false}
 use Rattle.recovery.specs.Lists.{any}
 use Rattle.recovery.proofs.Bool.{or-left, or-right}
 use Rattle.log.specs.declared.TxId.{TxId}
-use Rattle.transaction.specs.declared.records.Records.{Records}
+use Rattle.transaction.specs.declared.ranges.Ranges.{Ranges}
 use Rattle.transaction.specs.Lists.{sumOf}
 use Rattle.transaction.specs.View.{Range, rangeAt, rangesOf}
 use Rattle.transaction.specs.Rules.{recordsOk, heldAgainst, rangesSize, roomOf}
 use Rattle.transaction.proofs.Lists.{length-up}
-use Rattle.transaction.proofs.Ranges.{counted}
+use Rattle.transaction.proofs.RangeLaws.{counted}
 use Rattle.image.proofs.Rules.{image-count, undo-at}
 use Rattle.store.specs.declared.State.{State}
 use Rattle.store.specs.State.{txsOf, slotOf, imageOf}
@@ -28,7 +28,7 @@ use Rattle.store.proofs.Admitting.{unrefused}
 use Rattle.store.proofs.Choosing.{listed-by-6, Ranged, ranged-by-8}
 use Rattle.store.proofs.Stepping.{same-or-other}
 
-same-count : (u r : Records) → rangesOf u ≡ rangesOf r → u .count ≡ r .count
+same-count : (u r : Ranges) → rangesOf u ≡ rangesOf r → u .count ≡ r .count
 same-count u r e = sym (length-up (rangeAt u) (u .count) 0) ∙ ap length e ∙ length-up (rangeAt r) (r .count) 0
 
 -- 1, 2, 11, 12 and 13
@@ -47,10 +47,10 @@ pub record RunningPassed (s : State) (m t : List ℕ) (id : ℕ) : Type 0 where
   pub listed : slotOf s id < s .count
   pub named : txOf s id .id .0 ≡ id
   pub status : txOf s id .status ≡ 1
-  pub same : rangesOf (txOf s id .undo) ≡ rangesOf (txOf s id .redo)
-  pub undo : recordsOk (rangesOf (txOf s id .undo)) ≡ true
-  pub redo : recordsOk (rangesOf (txOf s id .redo)) ≡ true
-  pub room : tailLength (s .ondisk .0) t + rangesSize (rangesOf (txOf s id .redo)) + 8 ≤ 16384
+  pub same : rangesOf (txOf s id .undo .ranges) ≡ rangesOf (txOf s id .redo .ranges)
+  pub undo : recordsOk (rangesOf (txOf s id .undo .ranges)) ≡ true
+  pub redo : recordsOk (rangesOf (txOf s id .redo .ranges)) ≡ true
+  pub room : tailLength (s .ondisk .0) t + rangesSize (rangesOf (txOf s id .redo .ranges)) + 8 ≤ 16384
 
 -- these, 8 and 9
 pub record ReadPassed (s : State) (m t : List ℕ) (id a n : ℕ) : Type 0 where
@@ -63,8 +63,8 @@ pub record WritePassed (s : State) (m t : List ℕ) (id a n : ℕ) : Type 0 wher
   pub runs : RunningPassed s m t id
   pub range : Ranged a n
   pub free : any (heldAgainst id a n) (txsOf s) ≡ false
-  pub undo : txOf s id .undo .count < 16
-  pub redo : txOf s id .redo .count < 16
+  pub undo : txOf s id .undo .ranges .count < 16
+  pub redo : txOf s id .redo .ranges .count < 16
   pub room : roomUsed s t + (7 + n) ≤ 16384
 
 -- these and 12
@@ -107,7 +107,7 @@ module _ (s : State) (m t : List ℕ) where
         let one : txOf s i .status ≡ 1 = status-at s t f k (l .0) (eqb-false _ _ (p .0 .1 .0)) in
         let same = redo-at s t f k (l .0) one in
         let u = undo-at (imageOf s) (f .image) k (l .0) in
-        let r : rangesSize (rangesOf (txOf s i .redo)) + 8 ≤ sumOf roomOf (txsOf s) = rw (eq-eqb (txOf s i .status) 1 one) at (room-at s t f k (l .0)) in (
+        let r : rangesSize (rangesOf (txOf s i .redo .ranges)) + 8 ≤ sumOf roomOf (txsOf s) = rw (eq-eqb (txOf s i .status) 1 one) at (room-at s t f k (l .0)) in (
           record {
             memory = x .memory;
             tail = x .tail;
@@ -155,13 +155,13 @@ module _ (s : State) (m t : List ℕ) where
           let p = range-passed cs e in
           let r = p .0 in
           let q = passed cs [] refl (p .2) .0 in
-          let few : x .undo .count < 16 = omega (arith, counted (x .undo) (r .undo), eqb-false (x .undo .count) 16 (q .1 .0)) in
+          let few : x .undo .ranges .count < 16 = omega (arith, counted (x .undo .ranges) (r .undo), eqb-false (x .undo .ranges .count) 16 (q .1 .0)) in
           record {
             runs = r;
             range = p .1;
             free = q .0;
             undo = few;
-            redo = omega (arith, few, same-count (x .undo) (x .redo) (r .same));
+            redo = omega (arith, few, same-count (x .undo .ranges) (x .redo .ranges) (r .same));
             room = ltb-false _ _ (q .1 .1 .0);
           }
 

@@ -11,8 +11,9 @@ use Rattle.log.specs.declared.Csn.{Csn}
 use Rattle.log.proofs.Basics.{and-left, and-right}
 use Rattle.transaction.specs.declared.Tx.{Tx}
 use Rattle.transaction.specs.View.{rangesOf, Outline, outline, outlineOf}
-use Rattle.transaction.specs.Rules.{recordsOk, headOk, outlineOk, redoOk, roomOf}
+use Rattle.transaction.specs.Rules.{recordsOk, headOk, outlineOk, roomOf}
 use Rattle.transaction.specs.Steps.{precommitted}
+use Rattle.transaction.proofs.StateRule.{precommitted-state}
 use Rattle.store.specs.declared.State.{State}
 use Rattle.store.specs.State.{txAt, outlineAt, slotOf, imageOf}
 use Rattle.image.specs.Rules.{alikeTo}
@@ -26,9 +27,9 @@ use Rattle.store.proofs.Views.{commitOf, commit-size, commit-appends, t
 use Rattle.store.proofs.Positions.{sum-changed}
 use Rattle.store.proofs.Stepping.{SizedState, precommitted-slot}
 use Rattle.store.specs.Steps.{precommittedState}
-use Rattle.store.proofs.Changing.{image-kept, apart, changed-outlines, changed-redo, changed-distinct}
+use Rattle.store.proofs.Changing.{image-kept, apart, changed-outlines, changed-states, changed-distinct}
 
-precommitted-outline : (t : Tx) (last assigned : ℕ) → headOk last assigned (t .id .0) (t .status) (t .csn .0) ≡ true → recordsOk (rangesOf (t .undo)) ≡ true
+precommitted-outline : (t : Tx) (last assigned : ℕ) → headOk last assigned (t .id .0) (t .status) (t .csn .0) ≡ true → recordsOk (rangesOf (t .undo .ranges)) ≡ true
     → outlineOk last (assigned + 1) (outlineOf (precommitted t (record { 0 = assigned + 1 }))) ≡ true
 unfolding precommitted headOk
 precommitted-outline t last assigned h e =
@@ -58,10 +59,6 @@ precommitted-above (outline id status csn undo) t n e h =
 precommitted-room : (t : Tx) (n : Csn) → roomOf (precommitted t n) ≡ 0
 unfolding precommitted
 precommitted-room t n = refl
-
-precommitted-redo : (t : Tx) (n : Csn) → redoOk (precommitted t n) ≡ true
-unfolding precommitted
-precommitted-redo t n = refl
 
 pub precommitted-fits : (s : State) (m t : List ℕ) (id : ℕ) → SizedState s → RunningPassed s m t id
     → Fit (precommittedState s (slotOf s id)) (appended s t (commitOf s id))
@@ -93,7 +90,7 @@ precommitted-fits s m t id z run =
           image-kept r (image-logend (imageOf s) (f .image)) (omega (arith, image-ordered (imageOf s) (f .image))) (run .few)
           (changed-outlines s t f r u j c (omega arith) (omega arith) same good) d;
       room = omega (arith, sum, precommitted-room x csn, k, size, f .room);
-      redo = changed-redo s t f r u j c (omega arith) (omega arith) same good (precommitted-redo x csn);
+      states = changed-states s t f r u j c (omega arith) (omega arith) same good (precommitted-state x csn);
       tail =
           rw (
             eq-eqb _ _ (appended-csn (s .ondisk .0) t g (tail-zeros s t f) (y .room) (y .right)),

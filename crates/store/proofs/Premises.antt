@@ -14,9 +14,9 @@ use Rattle.log.specs.Flat.{writeAt}
 use Rattle.transaction.specs.declared.records.Records.{Records}
 use Rattle.transaction.specs.Lists.{upFrom, sumOf}
 use Rattle.transaction.specs.View.{rangeAt, rangesOf, writesOf}
-use Rattle.transaction.specs.Rules.{recordsOk, redoOk, meets, heldAgainst, roomOf}
+use Rattle.transaction.specs.Rules.{recordsOk, stateOk, meets, heldAgainst, roomOf}
 use Rattle.transaction.proofs.Lists.{every-at, any-same}
-use Rattle.transaction.proofs.Ranges.{counted, ranged}
+use Rattle.transaction.proofs.RangeLaws.{counted, ranged}
 use Rattle.transaction.proofs.Writes.{writes-up, bytes-length, sized}
 use Rattle.transaction.proofs.Pushed.{Sized}
 use Rattle.image.proofs.Rules.{undo-at}
@@ -29,17 +29,17 @@ use Rattle.store.proofs.Admitting.{redo-records}
 use Rattle.store.proofs.Stepping.{SizedState}
 
 -- a record over one of the bytes, as a range and as a write
-over : (r : Records) (a : ℕ) (bs : List ℕ) → Sized r → recordsOk (rangesOf r) ≡ true
-    → any (meets a (length bs)) (rangesOf r) ≡ any (λ u. overlap u (record { addr = a; bytes = bs })) (writesOf r)
+over : (r : Records) (a : ℕ) (bs : List ℕ) → Sized r → recordsOk (rangesOf (r .ranges)) ≡ true
+    → any (meets a (length bs)) (rangesOf (r .ranges)) ≡ any (λ u. overlap u (record { addr = a; bytes = bs })) (writesOf r)
 over r a bs z e =
     let w : Write = record { addr = a; bytes = bs } in
-    let at = writeAt (r .addr) (r .len) (r .bytes) in
-    any-same (meets a (length bs)) (λ u. overlap u w) (rangeAt r) at (r .count) 0
+    let at = writeAt (r .ranges .addr) (r .ranges .len) (r .bytes) in
+    any-same (meets a (length bs)) (λ u. overlap u w) (rangeAt (r .ranges)) at (r .ranges .count) 0
     (λ j p q.
-    let c = counted r e in
-    let l = bytes-length r j (z .space) (omega arith) (ranged r e j (omega arith) .1) in
-    ap (λ (n : ℕ). ltb (getD (r .addr) j 0) (a + length bs) && ltb a (getD (r .addr) j 0 + n)) (sym l))
-    ∙ ap (any (λ u. overlap u w)) (sym (writes-up (r .addr) (r .len) (r .bytes) (r .count) 0))
+    let c = counted (r .ranges) e in
+    let l = bytes-length r j (z .space) (omega arith) (ranged (r .ranges) e j (omega arith) .1) in
+    ap (λ (n : ℕ). ltb (getD (r .ranges .addr) j 0) (a + length bs) && ltb a (getD (r .ranges .addr) j 0 + n)) (sym l))
+    ∙ ap (any (λ u. overlap u w)) (sym (writes-up (r .ranges .addr) (r .ranges .len) (r .bytes) (r .ranges .count) 0))
 
 module _ (s : State) (m t : List ℕ) (z : SizedState s) (f : Fit s t) where
   -- a listed transaction is running exactly if it is not committing
@@ -75,8 +75,8 @@ module _ (s : State) (m t : List ℕ) (z : SizedState s) (f : Fit s t) where
           let one = status-at s t f i h (eqb-false (txAt s i .status) 2 e) in
           let r = txAt s i .redo in
           let k = redo-records (txAt s i) (undo-at (imageOf s) (f .image) i h)
-          (every-at (txAt s) redoOk (s .count) 0 (f .redo) i (omega arith) (omega arith)) one in
-          let l = sized r (z .each i h .redos .space) (counted r k) (λ j b. ranged r k j b .1) in
+          (every-at (txAt s) stateOk (s .count) 0 (f .states) i (omega arith) (omega arith)) one in
+          let l = sized r (z .each i h .redos .space) (counted (r .ranges) k) (λ j b. ranged (r .ranges) k j b .1) in
           rw (eq-eqb (txAt s i .status) 1 one) (omega (arith, l))
 
   reserved-from : (k i : ℕ) → i + k ≤ s .count → sumOf roomOf (upFrom (txAt s) k i) ≡ reserved (running (upFrom (viewAt s) k i))

@@ -81,5 +81,5 @@ module _ (s r : State) (h : ShowsSame s r) where
           (listed-alike id (check7 s id ∷ check8 a n ∷ check9 s id a n ∷ check10 s id ∷ check13 (roomUsed s t) n ∷ [])
           (check7 r id ∷ check8 a n ∷ check9 r id a n ∷ check10 r id ∷ check13 (roomUsed r t) n ∷ [])
           (λ e.
-          ap₂ (λ (k : ℕ) (b : Bool). upTo9 k b (last (txOf s id .undo .count) (roomUsed s t))) (named id e .status) (helds s r h id a n)
+          ap₂ (λ (k : ℕ) (b : Bool). upTo9 k b (last (txOf s id .undo .ranges .count) (roomUsed s t))) (named id e .status) (helds s r h id a n)
           ∙ ap₂ (λ (c m : ℕ). upTo9 (txOf r id .status) (any (heldAgainst id a n) (txsOf r)) (last c m)) (named id e .undo .count) (room-alike s r h t)))

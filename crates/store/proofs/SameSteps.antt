@@ -15,7 +15,7 @@ use Rattle.transaction.specs.Flat.{emptyRecords}
 use Rattle.transaction.specs.View.{Range, range, rangesOf}
 use Rattle.transaction.specs.Rules.{recordsOk}
 use Rattle.transaction.specs.Steps.{pushed, freshTx, written, precommitted}
-use Rattle.transaction.proofs.Ranges.{ranged}
+use Rattle.transaction.proofs.RangeLaws.{ranged}
 use Rattle.transaction.proofs.Pushed.{Sized, pushed-ranges, pushed-writes}
 use Rattle.image.specs.Slots.{slotAt}
 use Rattle.store.specs.declared.State.{State}
@@ -41,18 +41,18 @@ precommitted-same t u h n m e =
 
 -- records that keep their rules, with room for one more
 pub record Open (r : Records) : Type 0 where
-  pub few : r .count < 16
-  pub ok : recordsOk (rangesOf r) ≡ true
+  pub few : r .ranges .count < 16
+  pub ok : recordsOk (rangesOf (r .ranges)) ≡ true
 
-count-same : (r q : Records) (a : ℕ) (bs : List ℕ) → r .count ≡ q .count → pushed r a bs .count ≡ pushed q a bs .count
+count-same : (r q : Records) (a : ℕ) (bs : List ℕ) → r .ranges .count ≡ q .ranges .count → pushed r a bs .ranges .count ≡ pushed q a bs .ranges .count
 unfolding pushed
 count-same r q a bs e = ap (λ (n : ℕ). n + 1) e
 
 pushed-same : (r q : Records) → SameRecords r q → Sized r → Sized q → Open r → (a : ℕ) (bs : List ℕ) → length bs ≤ 32
     → SameRecords (pushed r a bs) (pushed q a bs)
 pushed-same r q h z y o a bs short =
-    let few : q .count < 16 = omega (arith, o .few, h .count) in
-    let ok : recordsOk (rangesOf q) ≡ true = subst (λ (rs : List Range). recordsOk rs ≡ true) (h .ranges) (o .ok) in
+    let few : q .ranges .count < 16 = omega (arith, o .few, h .count) in
+    let ok : recordsOk (rangesOf (q .ranges)) ≡ true = subst (λ (rs : List Range). recordsOk rs ≡ true) (h .ranges) (o .ok) in
     record {
       count = count-same r q a bs (h .count);
       ranges =
@@ -60,9 +60,9 @@ pushed-same r q h z y o a bs short =
           ∙ ap (λ (rs : List Range). rs ++ (range a (length bs) ∷ [])) (h .ranges)
           ∙ sym (pushed-ranges q a bs y few);
       writes =
-          pushed-writes r a bs z (o .few) short (λ j l. ranged r (o .ok) j l .1)
+          pushed-writes r a bs z (o .few) short (λ j l. ranged (r .ranges) (o .ok) j l .1)
           ∙ ap (λ (ws : List Write). ws ++ (record { addr = a; bytes = bs } ∷ [])) (h .writes)
-          ∙ sym (pushed-writes q a bs y few short (λ j l. ranged q ok j l .1));
+          ∙ sym (pushed-writes q a bs y few short (λ j l. ranged (q .ranges) ok j l .1));
     }
 
 written-same : (t u : Tx) → SameTx t u → SizedTx t → SizedTx u → Open (t .undo) → Open (t .redo) → (a : ℕ) (old new : List ℕ) → length old ≤ 32

@@ -11,8 +11,9 @@ use Rattle.recovery.specs.Lists.{any}
 use Rattle.transaction.specs.declared.Tx.{Tx}
 use Rattle.transaction.specs.Lists.{upFrom, every, sumOf}
 use Rattle.transaction.specs.View.{Range, rangesOf, Outline, outline, outlineOf}
-use Rattle.transaction.specs.Rules.{sameRanges, redoOk, meets, heldAgainst, rangesSize, roomOf}
+use Rattle.transaction.specs.Rules.{stateOk, meets, heldAgainst, rangesSize, roomOf}
 use Rattle.transaction.proofs.Lists.{up-same, any-same}
+use Rattle.transaction.proofs.StateRule.{state-same}
 use Rattle.image.specs.Rules.{imageOk}
 use Rattle.store.specs.declared.State.{State}
 use Rattle.store.specs.State.{txAt, txsOf, outlineAt, outlinesOf, hasId, slotIn, slotOf}
@@ -25,32 +26,25 @@ use Rattle.store.specs.Same.{SameTx, ShowsSame}
 module _ (t u : Tx) (h : SameTx t u) where
   outline-same : outlineOf t ≡ outlineOf u
   outline-same =
-      ap (λ (n : ℕ). outline n (t .status) (t .csn .0) (rangesOf (t .undo))) (h .id)
-      ∙ ap (λ (n : ℕ). outline (u .id .0) n (t .csn .0) (rangesOf (t .undo))) (h .status)
-      ∙ ap (λ (n : ℕ). outline (u .id .0) (u .status) n (rangesOf (t .undo))) (h .csn)
+      ap (λ (n : ℕ). outline n (t .status) (t .csn .0) (rangesOf (t .undo .ranges))) (h .id)
+      ∙ ap (λ (n : ℕ). outline (u .id .0) n (t .csn .0) (rangesOf (t .undo .ranges))) (h .status)
+      ∙ ap (λ (n : ℕ). outline (u .id .0) (u .status) n (rangesOf (t .undo .ranges))) (h .csn)
       ∙ ap (λ (rs : List Range). outline (u .id .0) (u .status) (u .csn .0) rs) (h .undo .ranges)
 
   room-same : roomOf t ≡ roomOf u
-  room-same = go (eqb (t .status) 1) refl ∙ ap (λ (n : ℕ). cond (eqb n 1) (rangesSize (rangesOf (u .redo)) + 8) 0) (h .status)
+  room-same = go (eqb (t .status) 1) refl ∙ ap (λ (n : ℕ). cond (eqb n 1) (rangesSize (rangesOf (u .redo .ranges)) + 8) 0) (h .status)
     where
-      go : (b : Bool) → eqb (t .status) 1 ≡ b → cond b (rangesSize (rangesOf (t .redo)) + 8) 0 ≡ cond b (rangesSize (rangesOf (u .redo)) + 8) 0
+      go : (b : Bool) → eqb (t .status) 1 ≡ b → cond b (rangesSize (rangesOf (t .redo .ranges)) + 8) 0 ≡ cond b (rangesSize (rangesOf (u .redo .ranges)) + 8) 0
       go true e = ap (λ (rs : List Range). rangesSize rs + 8) (h .redo (eqb-true (t .status) 1 e) .ranges)
       go false e = refl
 
-  redo-same : redoOk t ≡ redoOk u
-  redo-same =
-      go (eqb (t .status) 1) refl
-      ∙ ap (λ (n : ℕ). not (eqb n 1) || sameRanges (rangesOf (u .undo)) (rangesOf (u .redo))) (h .status)
-    where
-      go : (b : Bool) → eqb (t .status) 1 ≡ b
-          → not b || sameRanges (rangesOf (t .undo)) (rangesOf (t .redo)) ≡ not b || sameRanges (rangesOf (u .undo)) (rangesOf (u .redo))
-      go true e = ap₂ sameRanges (h .undo .ranges) (h .redo (eqb-true (t .status) 1 e) .ranges)
-      go false e = refl
+  rule-same : stateOk t ≡ stateOk u
+  rule-same = state-same t u (h .status) (h .undo .ranges) (λ e. h .redo e .ranges)
 
   held-same : (id a n : ℕ) → heldAgainst id a n t ≡ heldAgainst id a n u
   unfolding heldAgainst
   held-same id a n =
-      ap (λ (i : ℕ). not (eqb id i) && (eqb (t .status) 1 && any (meets a n) (rangesOf (t .undo)))) (h .id)
+      ap (λ (i : ℕ). not (eqb id i) && (eqb (t .status) 1 && any (meets a n) (rangesOf (t .undo .ranges)))) (h .id)
       ∙ ap₂ (λ (k : ℕ) (rs : List Range). not (eqb id (u .id .0)) && (eqb k 1 && any (meets a n) rs)) (h .status) (h .undo .ranges)
 
 -- ---- lists of them
@@ -73,8 +67,8 @@ module _ (f g : ℕ → Tx) where
 
 -- number 2 by what it looks at
 abbrev verdict : List ℕ → ℕ → ℕ → ℕ → ℕ → List Outline → ℕ → Bool → Bool → Bool
-verdict t logend ondisk assigned last os room recovered redo =
-    not recovered || not (imageOk logend ondisk assigned last os) || ltb 16384 room || not redo || not (tailOk ondisk assigned t)
+verdict t logend ondisk assigned last os room recovered states =
+    not recovered || not (imageOk logend ondisk assigned last os) || ltb 16384 room || not states || not (tailOk ondisk assigned t)
 
 module _ (s r : State) (h : ShowsSame s r) where
   outlines : outlinesOf s ≡ outlinesOf r
@@ -87,10 +81,10 @@ module _ (s r : State) (h : ShowsSame s r) where
       sum-same (txAt s) (txAt r) roomOf (s .count) 0 (λ i a b. room-same (txAt s i) (txAt r i) (h .listed i (omega arith)))
       ∙ ap (λ (k : ℕ). sumOf roomOf (upFrom (txAt r) k 0)) (h .count)
 
-  redos : every redoOk (txsOf s) ≡ every redoOk (txsOf r)
-  redos =
-      every-same (txAt s) (txAt r) redoOk (s .count) 0 (λ i a b. redo-same (txAt s i) (txAt r i) (h .listed i (omega arith)))
-      ∙ ap (λ (k : ℕ). every redoOk (upFrom (txAt r) k 0)) (h .count)
+  states : every stateOk (txsOf s) ≡ every stateOk (txsOf r)
+  states =
+      every-same (txAt s) (txAt r) stateOk (s .count) 0 (λ i a b. rule-same (txAt s i) (txAt r i) (h .listed i (omega arith)))
+      ∙ ap (λ (k : ℕ). every stateOk (upFrom (txAt r) k 0)) (h .count)
 
   pub helds : (id a n : ℕ) → any (heldAgainst id a n) (txsOf s) ≡ any (heldAgainst id a n) (txsOf r)
   helds id a n =
@@ -118,12 +112,12 @@ module _ (s r : State) (h : ShowsSame s r) where
   pub unfit-alike : (t : List ℕ) → unfit s t ≡ unfit r t
   unfolding unfit
   unfit-alike t =
-      ap₂ (verdict t (s .logend) (s .ondisk .0) (s .assigned .0) (s .lastid .0) (outlinesOf s) (roomUsed s t)) (h .recovered) redos
-      ∙ ap₂ (λ (e d : ℕ). verdict t e d (s .assigned .0) (s .lastid .0) (outlinesOf s) (roomUsed s t) (r .recovered) (every redoOk (txsOf r)))
+      ap₂ (verdict t (s .logend) (s .ondisk .0) (s .assigned .0) (s .lastid .0) (outlinesOf s) (roomUsed s t)) (h .recovered) states
+      ∙ ap₂ (λ (e d : ℕ). verdict t e d (s .assigned .0) (s .lastid .0) (outlinesOf s) (roomUsed s t) (r .recovered) (every stateOk (txsOf r)))
       (h .logend) (h .ondisk)
-      ∙ ap₂ (λ (a l : ℕ). verdict t (r .logend) (r .ondisk .0) a l (outlinesOf s) (roomUsed s t) (r .recovered) (every redoOk (txsOf r)))
+      ∙ ap₂ (λ (a l : ℕ). verdict t (r .logend) (r .ondisk .0) a l (outlinesOf s) (roomUsed s t) (r .recovered) (every stateOk (txsOf r)))
       (h .assigned) (h .lastid)
-      ∙ ap₂ (λ (os : List Outline) (n : ℕ). verdict t (r .logend) (r .ondisk .0) (r .assigned .0) (r .lastid .0) os n (r .recovered) (every redoOk (txsOf r)))
+      ∙ ap₂ (λ (os : List Outline) (n : ℕ). verdict t (r .logend) (r .ondisk .0) (r .assigned .0) (r .lastid .0) os n (r .recovered) (every stateOk (txsOf r)))
       outlines (room-alike t)
 
   pub number-alike : (lent : ℕ) (t : List ℕ) (cs ds : List Check) → firstNumber cs ≡ firstNumber ds → numberBy s lent t cs ≡ numberBy r lent t ds

@@ -28,7 +28,7 @@ use Rattle.transaction.specs.View.{rangesOf, writesOf, viewOf}
 use Rattle.transaction.specs.Rules.{recordsOk, rangesSize}
 use Rattle.transaction.specs.Steps.{freshTx, written, precommitted}
 use Rattle.transaction.proofs.Lists.{up-snoc, up-same}
-use Rattle.transaction.proofs.Ranges.{counted, ranged}
+use Rattle.transaction.proofs.RangeLaws.{counted, ranged}
 use Rattle.transaction.proofs.Writes.{bytes-length, sized}
 use Rattle.transaction.proofs.Pushed.{Sized, pushed-writes}
 use Rattle.image.proofs.Rules.{ruled-at}
@@ -59,14 +59,14 @@ precommitted-view : (t : Tx) (n : ℕ) → viewOf (precommitted t (record { 0 = 
 unfolding precommitted emptyRecords
 precommitted-view t n = refl
 
-written-view : (t : Tx) (a : ℕ) (old new : List ℕ) → SizedTx t → recordsOk (rangesOf (t .undo)) ≡ true → recordsOk (rangesOf (t .redo)) ≡ true
-    → t .undo .count < 16 → t .redo .count < 16 → length old ≤ 32 → length new ≤ 32
+written-view : (t : Tx) (a : ℕ) (old new : List ℕ) → SizedTx t → recordsOk (rangesOf (t .undo .ranges)) ≡ true → recordsOk (rangesOf (t .redo .ranges)) ≡ true
+    → t .undo .ranges .count < 16 → t .redo .ranges .count < 16 → length old ≤ 32 → length new ≤ 32
     → viewOf (written t a old new) ≡ withWrite (record { addr = a; bytes = old }) (record { addr = a; bytes = new }) (viewOf t)
 unfolding written
 written-view t a old new z u r cu cr lo ln =
     ap₂ (λ (us rs : List Write). record { id = t .id .0; committing = eqb (t .status) 2; csn = t .csn .0; undo = us; redo = rs })
-    (pushed-writes (t .undo) a old (z .undos) cu lo (λ j h. ranged (t .undo) u j h .1))
-    (pushed-writes (t .redo) a new (z .redos) cr ln (λ j h. ranged (t .redo) r j h .1))
+    (pushed-writes (t .undo) a old (z .undos) cu lo (λ j h. ranged (t .undo .ranges) u j h .1))
+    (pushed-writes (t .redo) a new (z .redos) cr ln (λ j h. ranged (t .redo .ranges) r j h .1))
 
 view-changed : (s r : State) (j : ℕ) (u : Tx) → Changed (txAt s) (txAt r) j u → Changed (viewAt s) (viewAt r) j (viewOf u)
 view-changed s r j u c = record { here = ap viewOf (c .here); other = λ x n. ap viewOf (c .other x n) }
@@ -83,12 +83,12 @@ listed-view s m t id h = found (viewAt s) id (slotOf s id) (s .count) 0 (first s
 
 -- ---- the group that precommit appends may stand in a log
 
-body-right : (r : Records) (id csn : ℕ) → Sized r → recordsOk (rangesOf r) ≡ true → eqb id 0 ≡ false → (k i : ℕ) → i + k ≤ r .count
-    → wellFormedBody id csn (writesFrom (r .addr) (r .len) (r .bytes) k i) ≡ true
+body-right : (r : Records) (id csn : ℕ) → Sized r → recordsOk (rangesOf (r .ranges)) ≡ true → eqb id 0 ≡ false → (k i : ℕ) → i + k ≤ r .ranges .count
+    → wellFormedBody id csn (writesFrom (r .ranges .addr) (r .ranges .len) (r .bytes) k i) ≡ true
 body-right r id csn z e n zero i h = rw n
 body-right r id csn z e n (suc k) i h =
-    let g = ranged r e i (omega arith) in
-    let c = counted r e in
+    let g = ranged (r .ranges) e i (omega arith) in
+    let c = counted (r .ranges) e in
     let l = bytes-length r i (z .space) (omega arith) (g .1) in
     rw (n, l, le-leb _ _ (g .0), le-leb _ _ (g .1), le-leb _ _ (g .2)) (body-right r id csn z e n k (suc i) (omega arith))
 
@@ -111,10 +111,10 @@ commitOf s id = committed id (s .assigned .0 + 1) (writesOf (txOf s id .redo))
 
 module _ (s : State) (m t : List ℕ) (id : ℕ) (p : RunningPassed s m t id) where
   -- the group's size, by the ranges of the redo records
-  pub commit-size : SizedState s → groupSize (commitOf s id) ≡ rangesSize (rangesOf (txOf s id .redo)) + 8
+  pub commit-size : SizedState s → groupSize (commitOf s id) ≡ rangesSize (rangesOf (txOf s id .redo .ranges)) + 8
   commit-size z =
       let x = txOf s id .redo in
-      ap (λ (n : ℕ). n + 8) (sized x (z .each (slotOf s id) (p .listed) .redos .space) (counted x (p .redo)) (λ j b. ranged x (p .redo) j b .1))
+      ap (λ (n : ℕ). n + 8) (sized x (z .each (slotOf s id) (p .listed) .redos .space) (counted (x .ranges) (p .redo)) (λ j b. ranged (x .ranges) (p .redo) j b .1))
 
   pub commit-appends : SizedState s → Appends s t (commitOf s id)
   commit-appends z =
@@ -124,7 +124,7 @@ module _ (s : State) (m t : List ℕ) (id : ℕ) (p : RunningPassed s m t id) wh
         room = omega (arith, commit-size z, p .tail, p .room);
         right =
             rw (tail-csn s t (p .fits), eq-eqb (s .assigned .0 + 1) (s .assigned .0 + 1) refl)
-            (body-right x id (s .assigned .0 + 1) y (p .redo) (id-nonzero s m t id p) (x .count) 0 (omega arith));
+            (body-right x id (s .assigned .0 + 1) y (p .redo) (id-nonzero s m t id p) (x .ranges .count) 0 (omega arith));
       }
 
   pub abort-appends : Appends s t (aborted id)

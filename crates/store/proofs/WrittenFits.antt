@@ -1,22 +1,23 @@
 -- Write keeps number 2: one more undo record and one more redo record, of the same range.
 use Prim.Native.Nat.{ℕ, _+_, _<_}
 use native.Mathlib.Omega.{arith}
-use mathlib.Core.Bool.{Bool, true, false, not, _||_}
+use mathlib.Core.Bool.{true}
 use mathlib.Core.List.{List, [], _∷_, _++_}
 use mathlib.Core.Path.{_≡_, refl, sym, ap, _∙_, subst}
 use lib.ListN.{length, take, drop, length-drop}
 use lib.Seq.{length-take-le}
-use lib.Dec.{eqb, leb}
+use lib.Dec.{leb}
 use borrow.Author.Tests.{eq-eqb}
 use Rattle.log.specs.Record.{inRange}
 use Rattle.log.proofs.Basics.{and-right}
 use Rattle.transaction.specs.declared.Tx.{Tx}
 use Rattle.transaction.specs.Lists.{every}
 use Rattle.transaction.specs.View.{Range, range, rangeAt, rangesOf, Outline, outline, outlineOf}
-use Rattle.transaction.specs.Rules.{rangeOk, recordsOk, headOk, outlineOk, sameRanges, redoOk, rangesSize, roomOf}
+use Rattle.transaction.specs.Rules.{rangeOk, recordsOk, headOk, outlineOk, rangesSize, roomOf}
 use Rattle.transaction.specs.Steps.{written}
 use Rattle.transaction.proofs.Lists.{length-up}
-use Rattle.transaction.proofs.Pushed.{pushed-ranges, one-more, ranges-self, size-snoc}
+use Rattle.transaction.proofs.Pushed.{one-more, size-snoc}
+use Rattle.transaction.proofs.StateRule.{written-undo, written-redo, written-state}
 use Rattle.store.specs.declared.State.{State}
 use Rattle.store.specs.State.{txAt, outlineAt, slotOf, imageOf}
 use Rattle.image.specs.Rules.{alikeTo}
@@ -26,42 +27,24 @@ use Rattle.store.proofs.Passing.{WritePassed}
 use Rattle.store.proofs.Positions.{sum-changed}
 use Rattle.store.proofs.Stepping.{SizedTx, SizedState, written-slot}
 use Rattle.store.specs.Steps.{writtenState}
-use Rattle.store.proofs.Changing.{image-kept, apart, changed-outlines, changed-redo, changed-distinct}
+use Rattle.store.proofs.Changing.{image-kept, apart, state-right, changed-outlines, changed-states, changed-distinct}
 
-module _ (t : Tx) (a : ℕ) (old new : List ℕ) (z : SizedTx t) (cu : t .undo .count < 16) (cr : t .redo .count < 16) (l : length old ≡ length new) where
-  written-undo : rangesOf (written t a old new .undo) ≡ rangesOf (t .undo) ++ (range a (length new) ∷ [])
-  unfolding written
-  written-undo = pushed-ranges (t .undo) a old (z .undos) cu ∙ ap (λ (n : ℕ). rangesOf (t .undo) ++ (range a n ∷ [])) l
-
-  written-redo : rangesOf (written t a old new .redo) ≡ rangesOf (t .redo) ++ (range a (length new) ∷ [])
-  unfolding written
-  written-redo = pushed-ranges (t .redo) a new (z .redos) cr
-
-  written-outline : (last assigned : ℕ) → headOk last assigned (t .id .0) (t .status) (t .csn .0) ≡ true → recordsOk (rangesOf (t .undo)) ≡ true
+module _ (t : Tx) (a : ℕ) (old new : List ℕ) (z : SizedTx t) (cu : t .undo .ranges .count < 16) (cr : t .redo .ranges .count < 16) (l : length old ≡ length new) where
+  written-outline : (last assigned : ℕ) → headOk last assigned (t .id .0) (t .status) (t .csn .0) ≡ true → recordsOk (rangesOf (t .undo .ranges)) ≡ true
       → inRange a (length new) ≡ true
       → outlineOk last assigned (outlineOf (written t a old new)) ≡ true
   unfolding written
   written-outline last assigned h e g =
-      let c : length (rangesOf (t .undo)) < 16 = omega (arith, length-up (rangeAt (t .undo)) (t .undo .count) 0, cu) in
-      let m = one-more (rangesOf (t .undo)) a (length new) c (and-right (leb (length (rangesOf (t .undo))) 16) (every rangeOk (rangesOf (t .undo))) e) g in
-      rw h (subst (λ (rs : List Range). recordsOk rs ≡ true) (sym written-undo) m)
-
-  written-redo-ok : rangesOf (t .undo) ≡ rangesOf (t .redo) → redoOk (written t a old new) ≡ true
-  written-redo-ok e =
-      let q : rangesOf (written t a old new .undo) ≡ rangesOf (written t a old new .redo) = written-undo
-      ∙ ap (λ (rs : List Range). rs ++ (range a (length new) ∷ [])) e ∙ sym written-redo in
-      go (not (eqb (written t a old new .status) 1))
-      (subst (λ (rs : List Range). sameRanges (rangesOf (written t a old new .undo)) rs ≡ true) q (ranges-self (rangesOf (written t a old new .undo))))
-    where
-      go : (b : Bool) {c : Bool} → c ≡ true → b || c ≡ true
-      go true e = refl
-      go false e = e
+      let c : length (rangesOf (t .undo .ranges)) < 16 = omega (arith, length-up (rangeAt (t .undo .ranges)) (t .undo .ranges .count) 0, cu) in
+      let m = one-more (rangesOf (t .undo .ranges)) a (length new) c (and-right (leb (length (rangesOf (t .undo .ranges))) 16) (every rangeOk (rangesOf (t .undo .ranges))) e) g in
+      rw h (subst (λ (rs : List Range). recordsOk rs ≡ true) (sym (written-undo t a old new (z .undos) (z .redos) cu cr l)) m)
 
   written-room : t .status ≡ 1 → roomOf (written t a old new) ≡ roomOf t + (7 + length new)
   unfolding written
   written-room e =
-      let w : rangesSize (rangesOf (written t a old new .redo)) ≡ rangesSize (rangesOf (t .redo)) + (7 + length new) = ap rangesSize written-redo
-      ∙ size-snoc (rangesOf (t .redo)) a (length new) in
+      let w : rangesSize (rangesOf (written t a old new .redo .ranges)) ≡ rangesSize (rangesOf (t .redo .ranges)) + (7 + length new) = ap rangesSize
+      (written-redo t a old new (z .undos) (z .redos) cu cr l)
+      ∙ size-snoc (rangesOf (t .redo .ranges)) a (length new) in
       rw (eq-eqb (t .status) 1 e) (omega (arith, w))
 
   written-apart : (o : Outline) → (alikeTo o (outlineOf (written t a old new)) ≡ alikeTo o (outlineOf t))
@@ -98,6 +81,8 @@ written-fits s m t id a bs z w =
           image-kept r (image-logend (imageOf s) (f .image)) (image-ordered (imageOf s) (f .image)) (p .few)
           (changed-outlines s t f r u j c (omega arith) (omega arith) same good) d;
       room = omega (arith, sum, more, w .room);
-      redo = changed-redo s t f r u j c (omega arith) (omega arith) same good (written-redo-ok x a old bs y (w .undo) (w .redo) l (p .same));
+      states =
+          changed-states s t f r u j c (omega arith) (omega arith) same good
+          (written-state x a old bs (y .undos) (y .redos) (w .undo) (w .redo) l (state-right s t f j h));
       tail = f .tail;
     }

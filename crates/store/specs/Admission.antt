@@ -7,7 +7,7 @@ use mathlib.Core.Path.{_≡_}
 use lib.Dec.{eqb, leb}
 use Rattle.layout.specs.{logLen, maxTxs}
 use Rattle.transaction.specs.Lists.{every, sumOf}
-use Rattle.transaction.specs.Rules.{redoOk, roomOf}
+use Rattle.transaction.specs.Rules.{stateOk, roomOf}
 use Rattle.store.specs.declared.State.{State}
 use Rattle.store.specs.declared.admit.Measured.{Measured}
 use Rattle.store.specs.declared.admit.Admission.{Admission}
@@ -29,7 +29,7 @@ measuredIf true n = record { ok = true; room = n }
 measuredIf false n = ruleBroken
 
 unfoldable pub measuredTxs : State → Measured
-measuredTxs s = measuredIf (outlinesOk (s .lastid .0) (s .assigned .0) (outlinesOf s) && every redoOk (txsOf s)) (sumOf roomOf (txsOf s))
+measuredTxs s = measuredIf (outlinesOk (s .lastid .0) (s .assigned .0) (outlinesOf s) && every stateOk (txsOf s)) (sumOf roomOf (txsOf s))
 
 unfoldable pub measuredTail : ℕ → ℕ → List ℕ → Measured
 measuredTail ondisk assigned tail = measuredIf (tailOk ondisk assigned tail) (tailLength ondisk tail)

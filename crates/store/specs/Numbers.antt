@@ -51,7 +51,7 @@ check9 s id a n = check 9 (any (heldAgainst id a n) (txsOf s))
 
 -- "10. Write: it has 16 undo records."
 abbrev pub check10 : State → ℕ → Check
-check10 s id = check 10 (eqb (txOf s id .undo .count) maxRecords)
+check10 s id = check 10 (eqb (txOf s id .undo .ranges .count) maxRecords)
 
 -- Begin: "11. .. 8 transactions are listed." "12. .. last id 65,535." "13. .. room used + 8 above 16,384."
 abbrev pub beginChecks : ℕ → ℕ → ℕ → List Check

@@ -8,7 +8,7 @@ use Rattle.layout.specs.{logLen}
 use Rattle.recovery.specs.Group.{groupsSize, lastCsn}
 use Rattle.log.specs.Log.{readLog}
 use Rattle.transaction.specs.Lists.{every, sumOf}
-use Rattle.transaction.specs.Rules.{redoOk, roomOf}
+use Rattle.transaction.specs.Rules.{stateOk, roomOf}
 use Rattle.image.specs.Rules.{keepsRules}
 use Rattle.store.specs.declared.State.{State}
 use Rattle.store.specs.State.{imageOf, txsOf}
@@ -48,5 +48,5 @@ unfit s tail =
     not (s .recovered)
     || not (keepsImageRules s)
     || ltb logLen (roomUsed s tail)
-    || not (every redoOk (txsOf s))
+    || not (every stateOk (txsOf s))
     || not (tailOk (s .ondisk .0) (s .assigned .0) tail)

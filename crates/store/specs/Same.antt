@@ -20,8 +20,8 @@ use Rattle.store.specs.Checkpoint.{checkpointOf}
 
 -- as many records, of the same ranges, with the same bytes
 pub record SameRecords (r q : Records) : Type 0 where
-  pub count : r .count ≡ q .count
-  pub ranges : rangesOf r ≡ rangesOf q
+  pub count : r .ranges .count ≡ q .ranges .count
+  pub ranges : rangesOf (r .ranges) ≡ rangesOf (q .ranges)
   pub writes : writesOf r ≡ writesOf q
 
 pub record SameTx (t u : Tx) : Type 0 where

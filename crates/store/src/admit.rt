@@ -102,7 +102,7 @@ impl State {
             if !t.image_ok(last, assigned) {
                 return rule_broken();
             }
-            if !t.redo_ok() {
+            if !t.state_ok() {
                 return rule_broken();
             }
             if alike_from(keys, n, i + 1, t.id, t.csn) {

@@ -186,7 +186,7 @@ impl State {
             return refuse(9);
         }
         let slot = ranged.slot;
-        if self.txs[slot].undo.count == RECORDS_MAX {
+        if self.txs[slot].undo.ranges.count == RECORDS_MAX {
             return refuse(10);
         }
         if LOG_LEN < ranged.room + (REDO_LEN + len) {

@@ -41,7 +41,7 @@ impl State {
         bytes: &[u8],
     ) -> Self
         requires { ⌜ (slot < maxTxs) × (length (now memory) ≡ memoryLen) × (length (now bytes) ≤ maxWrite) × (addr + length (now bytes) ≤ memoryLen) ⌝ }
-        requires { ⌜ (txAt self slot .undo .count < maxRecords) × (txAt self slot .redo .count < maxRecords) ⌝ }
+        requires { ⌜ (txAt self slot .undo .ranges .count < maxRecords) × (txAt self slot .redo .ranges .count < maxRecords) ⌝ }
         ensures { λ r. ⌜ r ≡ writtenState self slot (now (memory .entry)) addr (now (bytes .entry)) ⌝ }
         ensures { λ _. ⌜ now (memory .exit) ≡ sets (now (memory .entry)) addr (now (bytes .entry)) ⌝ }
     {
@@ -55,8 +55,8 @@ impl State {
 
     pub(crate) fn precommit_step(mut self, tail: &mut [u8], end: usize, slot: usize) -> Self
         requires { ⌜ (slot < maxTxs) × (self .assigned .0 < 4294967295) ⌝ }
-        requires { ⌜ (recordsOk (rangesOf (txAt self slot .redo)) ≡ true)
-            × (end + rangesSize (rangesOf (txAt self slot .redo)) + commitLen ≤ length (now tail)) ⌝ }
+        requires { ⌜ (recordsOk (rangesOf (txAt self slot .redo .ranges)) ≡ true)
+            × (end + rangesSize (rangesOf (txAt self slot .redo .ranges)) + commitLen ≤ length (now tail)) ⌝ }
         ensures { λ r. ⌜ r ≡ precommittedState self slot ⌝ }
         ensures { λ _. ⌜ now (tail .exit) ≡ sets (now (tail .entry)) end
             (encodeGroup (committed (txAt self slot .id .0) (self .assigned .0 + 1) (writesOf (txAt self slot .redo)))) ⌝ }
@@ -96,7 +96,7 @@ impl State {
         slot: usize,
     ) -> Self
         requires { ⌜ (slot < self .count) × (self .count ≤ maxTxs) × (length (now memory) ≡ memoryLen) ⌝ }
-        requires { ⌜ (recordsOk (rangesOf (txAt self slot .undo)) ≡ true) × (end + abortLen ≤ length (now tail)) ⌝ }
+        requires { ⌜ (recordsOk (rangesOf (txAt self slot .undo .ranges)) ≡ true) × (end + abortLen ≤ length (now tail)) ⌝ }
         ensures { λ r. ⌜ r ≡ droppedState self slot ⌝ }
         ensures { λ _. ⌜ now (memory .exit) ≡ undoAll layBytes (writesOf (txAt self slot .undo)) (now (memory .entry)) ⌝ }
         ensures { λ _. ⌜ now (tail .exit) ≡ sets (now (tail .entry)) end (encodeGroup (aborted (txAt self slot .id .0))) ⌝ }

@@ -14,19 +14,20 @@ use Rattle.log.specs.Record.{inRange}
 use Rattle.log.specs.Flat.{writeAt}
 use Rattle.log.proofs.Basics.{and-left, and-right}
 use Rattle.log.proofs.RoundTrip.{drop-take}
+use Rattle.transaction.specs.declared.ranges.Ranges.{Ranges}
 use Rattle.transaction.specs.declared.records.Records.{Records}
 use Rattle.transaction.specs.Lists.{upFrom, every}
 use Rattle.transaction.specs.Flat.{emptyRecords}
 use Rattle.transaction.specs.View.{Range, range, rangeAt, rangesOf, writesOf}
 use Rattle.transaction.specs.Rules.{rangeOk, recordsOk, sameRange, sameRanges, rangesSize}
-use Rattle.transaction.specs.Steps.{pushed}
+use Rattle.transaction.specs.Steps.{pushedRange, pushed}
 use Rattle.transaction.proofs.Lists.{up-snoc, up-same}
 use Rattle.transaction.proofs.Writes.{writes-up}
 
 -- the arrays' lengths, which every value of the code has
 pub record Sized (r : Records) : Type 0 where
-  pub addrs : length (r .addr) ≡ 16
-  pub lens : length (r .len) ≡ 16
+  pub addrs : length (r .ranges .addr) ≡ 16
+  pub lens : length (r .ranges .len) ≡ 16
   pub space : length (r .bytes) ≡ 512
 
 pub empty-sized : Sized emptyRecords
@@ -37,9 +38,9 @@ pub push-sized : (r : Records) (a : ℕ) (bs : List ℕ) → Sized r → Sized (
 unfolding pushed
 push-sized r a bs z =
     record {
-      addrs = length-set (r .addr) (r .count) a ∙ z .addrs;
-      lens = length-set (r .len) (r .count) (length bs) ∙ z .lens;
-      space = length-sets (r .bytes) (r .count * 32) bs ∙ z .space;
+      addrs = length-set (r .ranges .addr) (r .ranges .count) a ∙ z .addrs;
+      lens = length-set (r .ranges .len) (r .ranges .count) (length bs) ∙ z .lens;
+      space = length-sets (r .bytes) (r .ranges .count * 32) bs ∙ z .space;
     }
 
 -- ---- a part of a list after stores: before them it is as it was, and where they were made it is what was stored
@@ -59,62 +60,68 @@ sets-there d bs q h =
     ∙ ap (take (length bs)) (drop-at (take q d) (bs ++ rest) q (length-take-le q d (omega arith)))
     ∙ take-at bs rest (length bs) refl
 
+-- ---- the range that was pushed
+
+module _ (r : Ranges) (a n : ℕ) (addrs : length (r .addr) ≡ 16) (lens : length (r .len) ≡ 16) (c : r .count < 16) where
+  address : getD (set (r .addr) (r .count) a) (r .count) 0 ≡ a
+  address = getD-set-same (r .addr) (r .count) a 0 (omega (arith, addrs))
+
+  long : getD (set (r .len) (r .count) n) (r .count) 0 ≡ n
+  long = getD-set-same (r .len) (r .count) n 0 (omega (arith, lens))
+
+  range-kept : (j : ℕ) → j < r .count → rangeAt (pushedRange r a n) j ≡ rangeAt r j
+  range-kept j h =
+      ap₂ range (getD-set-other (r .addr) (r .count) j a 0 (λ e. omega (arith, e))) (getD-set-other (r .len) (r .count) j n 0 (λ e. omega (arith, e)))
+
+  range-new : rangeAt (pushedRange r a n) (0 + r .count) ≡ range a n
+  range-new = ap (rangeAt (pushedRange r a n)) (zero-add (r .count)) ∙ ap₂ range address long
+
+  pub ranges-pushed : rangesOf (pushedRange r a n) ≡ rangesOf r ++ (range a n ∷ [])
+  ranges-pushed =
+      ap (λ (k : ℕ). upFrom (rangeAt (pushedRange r a n)) k 0) (add-one (r .count))
+      ∙ up-snoc (rangeAt (pushedRange r a n)) (r .count) 0
+      ∙ ap₂ (λ (rs : List Range) (q : Range). rs ++ (q ∷ []))
+      (up-same (rangeAt (pushedRange r a n)) (rangeAt r) (r .count) 0 (λ j p q. range-kept j (omega arith))) range-new
+
 -- ---- the record that was pushed
 
-pub pushed-count : (r : Records) (a : ℕ) (bs : List ℕ) → pushed r a bs .count ≡ suc (r .count)
+pub pushed-count : (r : Records) (a : ℕ) (bs : List ℕ) → pushed r a bs .ranges .count ≡ suc (r .ranges .count)
 unfolding pushed
-pushed-count r a bs = add-one (r .count)
+pushed-count r a bs = add-one (r .ranges .count)
 
-module _ (r : Records) (a : ℕ) (bs : List ℕ) (z : Sized r) (c : r .count < 16) where
-  address : getD (set (r .addr) (r .count) a) (r .count) 0 ≡ a
-  address = getD-set-same (r .addr) (r .count) a 0 (omega (arith, z .addrs))
-
-  long : getD (set (r .len) (r .count) (length bs)) (r .count) 0 ≡ length bs
-  long = getD-set-same (r .len) (r .count) (length bs) 0 (omega (arith, z .lens))
-
-  range-kept : (j : ℕ) → j < r .count → rangeAt (pushed r a bs) j ≡ rangeAt r j
+module _ (r : Records) (a : ℕ) (bs : List ℕ) (z : Sized r) (c : r .ranges .count < 16) where
+  pub pushed-ranges : rangesOf (pushed r a bs .ranges) ≡ rangesOf (r .ranges) ++ (range a (length bs) ∷ [])
   unfolding pushed
-  range-kept j h =
-      ap₂ range (getD-set-other (r .addr) (r .count) j a 0 (λ e. omega (arith, e))) (getD-set-other (r .len) (r .count) j (length bs) 0 (λ e. omega (arith, e)))
+  pushed-ranges = ranges-pushed (r .ranges) a (length bs) (z .addrs) (z .lens) c
 
-  range-new : rangeAt (pushed r a bs) (0 + r .count) ≡ range a (length bs)
-  unfolding pushed
-  range-new = ap (rangeAt (pushed r a bs)) (zero-add (r .count)) ∙ ap₂ range address long
-
-  pub pushed-ranges : rangesOf (pushed r a bs) ≡ rangesOf r ++ (range a (length bs) ∷ [])
-  pushed-ranges =
-      ap (λ (k : ℕ). upFrom (rangeAt (pushed r a bs)) k 0) (pushed-count r a bs)
-      ∙ up-snoc (rangeAt (pushed r a bs)) (r .count) 0
-      ∙ ap₂ (λ (rs : List Range) (q : Range). rs ++ (q ∷ []))
-      (up-same (rangeAt (pushed r a bs)) (rangeAt r) (r .count) 0 (λ j p q. range-kept j (omega arith))) range-new
-
-  module _ (l : length bs ≤ 32) (short : (j : ℕ) → j < r .count → getD (r .len) j 0 ≤ 32) where
+  module _ (l : length bs ≤ 32) (short : (j : ℕ) → j < r .ranges .count → getD (r .ranges .len) j 0 ≤ 32) where
     abbrev seen : Records → ℕ → Write
-    seen q j = writeAt (q .addr) (q .len) (q .bytes) j
+    seen q j = writeAt (q .ranges .addr) (q .ranges .len) (q .bytes) j
 
-    write-kept : (j : ℕ) → j < r .count → seen (pushed r a bs) j ≡ seen r j
+    write-kept : (j : ℕ) → j < r .ranges .count → seen (pushed r a bs) j ≡ seen r j
     unfolding pushed
     write-kept j h =
-        let x : getD (set (r .addr) (r .count) a) j 0 ≡ getD (r .addr) j 0 = getD-set-other (r .addr) (r .count) j a 0 (λ e. omega (arith, e)) in
-        let y : getD (set (r .len) (r .count) (length bs)) j 0 ≡ getD (r .len) j 0 =
-        getD-set-other (r .len) (r .count) j (length bs) 0 (λ e. omega (arith, e)) in
-        let w = sets-before (r .bytes) bs (j * 32) (getD (r .len) j 0) (r .count * 32) (omega (arith, short j h)) in
-        rw (x, y) (ap (λ (ds : List ℕ). record { addr = getD (r .addr) j 0; bytes = ds }) w)
+        let x : getD (set (r .ranges .addr) (r .ranges .count) a) j 0 ≡ getD (r .ranges .addr) j 0 = getD-set-other (r .ranges .addr) (r .ranges .count) j a 0 (λ e. omega (arith, e)) in
+        let y : getD (set (r .ranges .len) (r .ranges .count) (length bs)) j 0 ≡ getD (r .ranges .len) j 0 =
+        getD-set-other (r .ranges .len) (r .ranges .count) j (length bs) 0 (λ e. omega (arith, e)) in
+        let w = sets-before (r .bytes) bs (j * 32) (getD (r .ranges .len) j 0) (r .ranges .count * 32) (omega (arith, short j h)) in
+        rw (x, y) (ap (λ (ds : List ℕ). record { addr = getD (r .ranges .addr) j 0; bytes = ds }) w)
 
-    write-new : seen (pushed r a bs) (0 + r .count) ≡ record { addr = a; bytes = bs }
+    write-new : seen (pushed r a bs) (0 + r .ranges .count) ≡ record { addr = a; bytes = bs }
     unfolding pushed
     write-new =
-        ap (seen (pushed r a bs)) (zero-add (r .count))
-        ∙ rw (address, long) (ap (λ (ds : List ℕ). record { addr = a; bytes = ds }) (sets-there (r .bytes) bs (r .count * 32) (omega (arith, z .space))))
+        ap (seen (pushed r a bs)) (zero-add (r .ranges .count))
+        ∙ rw (address (r .ranges) a (length bs) (z .addrs) (z .lens) c, long (r .ranges) a (length bs) (z .addrs) (z .lens) c)
+        (ap (λ (ds : List ℕ). record { addr = a; bytes = ds }) (sets-there (r .bytes) bs (r .ranges .count * 32) (omega (arith, z .space))))
 
     pub pushed-writes : writesOf (pushed r a bs) ≡ writesOf r ++ (record { addr = a; bytes = bs } ∷ [])
     pushed-writes =
-        writes-up (pushed r a bs .addr) (pushed r a bs .len) (pushed r a bs .bytes) (pushed r a bs .count) 0
+        writes-up (pushed r a bs .ranges .addr) (pushed r a bs .ranges .len) (pushed r a bs .bytes) (pushed r a bs .ranges .count) 0
         ∙ ap (λ (k : ℕ). upFrom (seen (pushed r a bs)) k 0) (pushed-count r a bs)
-        ∙ up-snoc (seen (pushed r a bs)) (r .count) 0
+        ∙ up-snoc (seen (pushed r a bs)) (r .ranges .count) 0
         ∙ ap₂ (λ (ws : List Write) (w : Write). ws ++ (w ∷ []))
-        (up-same (seen (pushed r a bs)) (seen r) (r .count) 0 (λ j p q. write-kept j (omega arith))) write-new
-        ∙ ap (λ (ws : List Write). ws ++ (record { addr = a; bytes = bs } ∷ [])) (sym (writes-up (r .addr) (r .len) (r .bytes) (r .count) 0))
+        (up-same (seen (pushed r a bs)) (seen r) (r .ranges .count) 0 (λ j p q. write-kept j (omega arith))) write-new
+        ∙ ap (λ (ws : List Write). ws ++ (record { addr = a; bytes = bs } ∷ [])) (sym (writes-up (r .ranges .addr) (r .ranges .len) (r .bytes) (r .ranges .count) 0))
 
 -- ---- the rules of one more range
 

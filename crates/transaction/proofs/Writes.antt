@@ -35,18 +35,18 @@ undo-turn addr len bytes i k m e =
     ∙ ap (λ (ws : List Write). undoAll layBytes ws (layBytes (w k) m)) (sym (writes-up addr len bytes k 0))
 
 -- a record whose bytes lie within the place set aside for it has as many bytes as its length says
-pub bytes-length : (r : Records) (j : ℕ) → length (r .bytes) ≡ 512 → j < 16 → getD (r .len) j 0 ≤ 32
-    → length (take (getD (r .len) j 0) (drop (j * 32) (r .bytes))) ≡ getD (r .len) j 0
-bytes-length r j l h s = length-take-le (getD (r .len) j 0) (drop (j * 32) (r .bytes)) (rw length-drop (omega arith))
+pub bytes-length : (r : Records) (j : ℕ) → length (r .bytes) ≡ 512 → j < 16 → getD (r .ranges .len) j 0 ≤ 32
+    → length (take (getD (r .ranges .len) j 0) (drop (j * 32) (r .bytes))) ≡ getD (r .ranges .len) j 0
+bytes-length r j l h s = length-take-le (getD (r .ranges .len) j 0) (drop (j * 32) (r .bytes)) (rw length-drop (omega arith))
 
-sized-from : (r : Records) → length (r .bytes) ≡ 512 → (k i : ℕ) → i + k ≤ 16 → ((j : ℕ) → j < i + k → getD (r .len) j 0 ≤ 32)
-    → redoSize (writesFrom (r .addr) (r .len) (r .bytes) k i) ≡ rangesSize (upFrom (rangeAt r) k i)
+sized-from : (r : Records) → length (r .bytes) ≡ 512 → (k i : ℕ) → i + k ≤ 16 → ((j : ℕ) → j < i + k → getD (r .ranges .len) j 0 ≤ 32)
+    → redoSize (writesFrom (r .ranges .addr) (r .ranges .len) (r .bytes) k i) ≡ rangesSize (upFrom (rangeAt (r .ranges)) k i)
 sized-from r l zero i h s = refl
 sized-from r l (suc k) i h s =
     ap₂ (λ (x y : ℕ). 7 + x + y) (bytes-length r i l (omega arith) (s i (omega arith)))
     (sized-from r l k (suc i) (omega arith) (λ j b. s j (omega arith)))
 
 -- records as writes take the bytes in the log that their ranges say
-pub sized : (r : Records) → length (r .bytes) ≡ 512 → r .count ≤ 16 → ((j : ℕ) → j < r .count → getD (r .len) j 0 ≤ 32)
-    → redoSize (writesOf r) ≡ rangesSize (rangesOf r)
-sized r l h s = sized-from r l (r .count) 0 (omega arith) (λ j b. s j (omega arith))
+pub sized : (r : Records) → length (r .bytes) ≡ 512 → r .ranges .count ≤ 16 → ((j : ℕ) → j < r .ranges .count → getD (r .ranges .len) j 0 ≤ 32)
+    → redoSize (writesOf r) ≡ rangesSize (rangesOf (r .ranges))
+sized r l h s = sized-from r l (r .ranges .count) 0 (omega arith) (λ j b. s j (omega arith))

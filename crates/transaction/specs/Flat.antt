@@ -3,18 +3,22 @@ use Prim.Native.Nat.{_*_}
 use mathlib.Core.List.{[]}
 use lib.ListN.{replicate}
 use Rattle.layout.specs.{maxRecords, maxWrite}
+use Rattle.transaction.specs.declared.ranges.Ranges.{Ranges}
 use Rattle.transaction.specs.declared.records.Records.{Records}
 use Rattle.transaction.specs.declared.Tx.{Tx}
 
+abbrev pub emptyRanges : Ranges
+emptyRanges = record { count = 0; addr = replicate maxRecords 0; len = replicate maxRecords 0 }
+
 unfoldable pub emptyRecords : Records
-emptyRecords = record { count = 0; addr = replicate maxRecords 0; len = replicate maxRecords 0; bytes = replicate (maxRecords * maxWrite) 0 }
+emptyRecords = record { ranges = emptyRanges; bytes = replicate (maxRecords * maxWrite) 0 }
 
 -- what an unused slot holds
 unfoldable pub emptyTx : Tx
 emptyTx = record { id = record { 0 = 0 }; status = 0; csn = record { 0 = 0 }; undo = emptyRecords; redo = emptyRecords }
 
 abbrev pub noRecords : Records
-noRecords = record { count = 0; addr = []; len = []; bytes = [] }
+noRecords = record { ranges = record { count = 0; addr = []; len = [] }; bytes = [] }
 
 abbrev pub noTx : Tx
 noTx = record { id = record { 0 = 0 }; status = 0; csn = record { 0 = 0 }; undo = noRecords; redo = noRecords }

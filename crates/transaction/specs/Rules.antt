@@ -43,9 +43,10 @@ sameRanges [] (q ∷ qs) = false
 sameRanges (r ∷ rs) [] = false
 sameRanges (r ∷ rs) (q ∷ qs) = sameRange r q && sameRanges rs qs
 
--- not "a running transaction whose redo records differ from its undo records in count or ranges"
-abbrev pub redoOk : Tx → Bool
-redoOk t = not (eqb (t .status) statusRunning) || sameRanges (rangesOf (t .undo)) (rangesOf (t .redo))
+-- What number 2 asks of a transaction beyond the image rules, a conjunct for each thing asked: not "a running transaction whose redo records
+-- differ from its undo records in count or ranges".
+unfoldable pub stateOk : Tx → Bool
+stateOk t = not (eqb (t .status) statusRunning) || sameRanges (rangesOf (t .undo .ranges)) (rangesOf (t .redo .ranges))
 
 -- ---- held bytes
 
@@ -55,7 +56,7 @@ meets a n (range b m) = ltb b (a + n) && ltb a (b + m)
 
 -- "A byte is held while a running transaction has an undo record over it": one of the n from a on, against the transaction of this id
 unfoldable pub heldAgainst : ℕ → ℕ → ℕ → Tx → Bool
-heldAgainst id a n t = not (eqb id (t .id .0)) && (eqb (t .status) statusRunning && any (meets a n) (rangesOf (t .undo)))
+heldAgainst id a n t = not (eqb id (t .id .0)) && (eqb (t .status) statusRunning && any (meets a n) (rangesOf (t .undo .ranges)))
 
 -- ---- log room
 
@@ -68,4 +69,4 @@ rangesSize rs = sumOf rangeSize rs
 
 -- "for each running transaction its redo bytes + 8"
 abbrev pub roomOf : Tx → ℕ
-roomOf t = cond (eqb (t .status) statusRunning) (rangesSize (rangesOf (t .redo)) + commitLen) 0
+roomOf t = cond (eqb (t .status) statusRunning) (rangesSize (rangesOf (t .redo .ranges)) + commitLen) 0

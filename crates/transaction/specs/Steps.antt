@@ -6,19 +6,18 @@ use lib.Seq.{sets}
 use Rattle.layout.specs.{maxWrite, statusRunning, statusCommitting}
 use Rattle.log.specs.declared.TxId.{TxId}
 use Rattle.log.specs.declared.Csn.{Csn}
+use Rattle.transaction.specs.declared.ranges.Ranges.{Ranges}
 use Rattle.transaction.specs.declared.records.Records.{Records}
 use Rattle.transaction.specs.declared.Tx.{Tx}
 use Rattle.transaction.specs.Flat.{emptyRecords}
 
+-- one range more
+abbrev pub pushedRange : Ranges → ℕ → ℕ → Ranges
+pushedRange r a n = record { count = r .count + 1; addr = set (r .addr) (r .count) a; len = set (r .len) (r .count) n }
+
 -- one record more; what stood past its bytes stays
 unfoldable pub pushed : Records → ℕ → List ℕ → Records
-pushed r a bs =
-    record {
-      count = r .count + 1;
-      addr = set (r .addr) (r .count) a;
-      len = set (r .len) (r .count) (length bs);
-      bytes = sets (r .bytes) (r .count * maxWrite) bs;
-    }
+pushed r a bs = record { ranges = pushedRange (r .ranges) a (length bs); bytes = sets (r .bytes) (r .ranges .count * maxWrite) bs }
 
 unfoldable pub freshTx : TxId → Tx
 freshTx id = record { id = id; status = statusRunning; csn = record { 0 = 0 }; undo = emptyRecords; redo = emptyRecords }

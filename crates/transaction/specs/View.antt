@@ -7,6 +7,7 @@ use Rattle.layout.specs.{statusCommitting}
 use Rattle.recovery.specs.Group.{Write}
 use Rattle.recovery.specs.Transaction.{Tx as Transaction}
 use Rattle.log.specs.Flat.{writesFrom}
+use Rattle.transaction.specs.declared.ranges.Ranges.{Ranges}
 use Rattle.transaction.specs.declared.records.Records.{Records}
 use Rattle.transaction.specs.declared.Tx.{Tx}
 use Rattle.transaction.specs.Lists.{upFrom}
@@ -15,21 +16,21 @@ use Rattle.transaction.specs.Lists.{upFrom}
 pub data Range : Type 0 where
   range : ℕ → ℕ → Range
 
-abbrev pub rangeAt : Records → ℕ → Range
+abbrev pub rangeAt : Ranges → ℕ → Range
 rangeAt r i = range (getD (r .addr) i 0) (getD (r .len) i 0)
 
-abbrev pub rangesOf : Records → List Range
+abbrev pub rangesOf : Ranges → List Range
 rangesOf r = upFrom (rangeAt r) (r .count) 0
 
 abbrev pub writesOf : Records → List Write
-writesOf r = writesFrom (r .addr) (r .len) (r .bytes) (r .count) 0
+writesOf r = writesFrom (r .ranges .addr) (r .ranges .len) (r .bytes) (r .ranges .count) 0
 
 -- what the image rules look at in a transaction: id, status, commit number, ranges of its undo records
 pub data Outline : Type 0 where
   outline : ℕ → ℕ → ℕ → List Range → Outline
 
 abbrev pub outlineOf : Tx → Outline
-outlineOf t = outline (t .id .0) (t .status) (t .csn .0) (rangesOf (t .undo))
+outlineOf t = outline (t .id .0) (t .status) (t .csn .0) (rangesOf (t .undo .ranges))
 
 -- the transaction as recovery has it
 abbrev pub viewOf : Tx → Transaction

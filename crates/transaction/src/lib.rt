@@ -1,4 +1,5 @@
 // One transaction: its undo and redo records, the rules that it has to keep, and what a call does to it.
+pub mod ranges;
 pub mod records;
 
 use crate::records::Records;
@@ -19,10 +20,11 @@ ghost use Rattle.recovery.specs.Group.{committed};
 ghost use Rattle.log.specs.Group.{encodeGroup};
 ghost use Rattle.transaction.specs.Flat.{emptyTx};
 ghost use Rattle.transaction.specs.View.{rangesOf, writesOf, outline, outlineOf};
-ghost use Rattle.transaction.specs.Rules.{recordsOk, headOk, outlineOk, alike, redoOk, heldAgainst, rangesSize, roomOf};
+ghost use Rattle.transaction.specs.Rules.{recordsOk, headOk, outlineOk, alike, stateOk, heldAgainst, rangesSize, roomOf};
 ghost use Rattle.transaction.specs.Steps.{freshTx, written, precommitted};
 
-// A transaction. Its status is RUNNING or COMMITTING.
+// A transaction. Its status is RUNNING or COMMITTING. What a running one is to keep besides goes into one substructure, `extras`: off the image,
+// emptied by precommit, its rule a conjunct of `stateOk`.
 #[repr(C)]
 pub struct Tx {
     pub id: TxId,
@@ -102,37 +104,37 @@ impl Tx {
         if !head_ok(self.id, self.status, self.csn, last, assigned) {
             return false;
         }
-        let undo = self.undo;
+        let undo = self.undo.ranges;
         undo.ok()
     }
 
-    // The rule that number 2 adds to those of an image.
-    pub fn redo_ok(self) -> bool
-        requires { ⌜ self .undo .count ≤ maxRecords ⌝ }
-        ensures { λ r. ⌜ r ≡ redoOk self ⌝ }
+    // The rules that number 2 adds to those of an image.
+    pub fn state_ok(self) -> bool
+        requires { ⌜ self .undo .ranges .count ≤ maxRecords ⌝ }
+        ensures { λ r. ⌜ r ≡ stateOk self ⌝ }
     {
         if self.status != RUNNING {
             return true;
         }
-        let undo = self.undo;
-        undo.same_ranges(self.redo)
+        let undo = self.undo.ranges;
+        undo.same_ranges(self.redo.ranges)
     }
 
     // The log room that it has reserved.
     pub fn room(self) -> usize
-        requires { ⌜ (self .status ≡ statusRunning → recordsOk (rangesOf (self .redo)) ≡ true) ⌝ }
+        requires { ⌜ (self .status ≡ statusRunning → recordsOk (rangesOf (self .redo .ranges)) ≡ true) ⌝ }
         ensures { λ r. ⌜ r ≡ roomOf self ⌝ }
     {
         if self.status != RUNNING {
             return 0;
         }
-        let redo = self.redo;
+        let redo = self.redo.ranges;
         redo.size() + COMMIT_LEN
     }
 
     // Whether it holds one of the len bytes from addr on against the transaction of this id.
     pub fn holds_against(self, id: TxId, addr: usize, len: usize) -> bool
-        requires { ⌜ (self .undo .count ≤ maxRecords) × (addr ≤ memoryLen) × (len ≤ maxWrite) ⌝ }
+        requires { ⌜ (self .undo .ranges .count ≤ maxRecords) × (addr ≤ memoryLen) × (len ≤ maxWrite) ⌝ }
         ensures { λ r. ⌜ r ≡ heldAgainst (id .0) addr len self ⌝ }
     {
         if id.0 == self.id.0 {
@@ -141,13 +143,13 @@ impl Tx {
         if self.status != RUNNING {
             return false;
         }
-        let undo = self.undo;
+        let undo = self.undo.ranges;
         undo.meets(addr, len)
     }
 
     // One undo record and one redo record more.
     pub fn write(mut self, addr: u16, old: &[u8], new: &[u8]) -> Self
-        requires { ⌜ (length (now old) ≤ maxWrite) × (length (now new) ≤ maxWrite) × (self .undo .count < maxRecords) × (self .redo .count < maxRecords) ⌝ }
+        requires { ⌜ (length (now old) ≤ maxWrite) × (length (now new) ≤ maxWrite) × (self .undo .ranges .count < maxRecords) × (self .redo .ranges .count < maxRecords) ⌝ }
         ensures { λ r. ⌜ r ≡ written self addr (now (old .entry)) (now (new .entry)) ⌝ }
     {
         let undo = self.undo;
@@ -169,14 +171,14 @@ impl Tx {
 
     // Writes its group into a log tail.
     pub fn put_group(self, tail: &mut [u8], at: usize, csn: Csn)
-        requires { ⌜ (recordsOk (rangesOf (self .redo)) ≡ true) × (at + rangesSize (rangesOf (self .redo)) + commitLen ≤ length (now tail)) ⌝ }
+        requires { ⌜ (recordsOk (rangesOf (self .redo .ranges)) ≡ true) × (at + rangesSize (rangesOf (self .redo .ranges)) + commitLen ≤ length (now tail)) ⌝ }
         ensures { λ _. ⌜ now (tail .exit) ≡ sets (now (tail .entry)) at (encodeGroup (committed (self .id .0) (csn .0) (writesOf (self .redo)))) ⌝ }
     {
-        let redo = self.redo;
-        let n = redo.count as usize;
-        let addr = redo.addr;
-        let len = redo.len;
-        let bytes = redo.bytes;
+        let ranges = self.redo.ranges;
+        let n = ranges.count as usize;
+        let addr = ranges.addr;
+        let len = ranges.len;
+        let bytes = self.redo.bytes;
         put_group(tail, at, self.id, csn, n, &addr, &len, &bytes);
     }
 }

@@ -5,7 +5,7 @@ use lib.ListN.{length, getD, take, drop}
 use lib.Seq.{sets}
 use borrow.Author.Needs.{needs}
 use Rattle.log.specs.Number.{be16}
-use Rattle.transaction.proofs.Ranges.{in-range}
+use Rattle.transaction.proofs.RangeLaws.{in-range}
 use Rattle.image.proofs.Readings.{here-within, here-ranged}
 use Rattle.image.proofs.read.lay_undo.Statement.{statement}
 use Rattle.image.proofs.read.lay_undo.Tie as tie

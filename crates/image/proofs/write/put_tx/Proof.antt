@@ -71,10 +71,10 @@ returns c =
     let r = a .t .undo in
     let e = c .before .before .put-undos .ensures in (
       omega (arith, e .0),
-      tx-stores (a .b .now) _ _ _ (a .at) (a .t .id .0) (a .t .status) (a .t .csn .0) (r .count) (writesOf r)
+      tx-stores (a .b .now) _ _ _ (a .at) (a .t .id .0) (a .t .status) (a .t .csn .0) (r .ranges .count) (writesOf r)
           (afterPut16FromSliceKnown4 c .put16 .ensures)
           (c .before .before .before .before .before .before .before .put32 .ensures) (e .1)
-          (ap length (writes-up (r .addr) (r .len) (r .bytes) (r .count) 0) ∙ length-up (undoAt r) (r .count) 0),
+          (ap length (writes-up (r .ranges .addr) (r .ranges .len) (r .bytes) (r .ranges .count) 0) ∙ length-up (undoAt r) (r .ranges .count) 0),
     )
 
 pub put-tx-spec : {M : Type 1} → statement M

@@ -6,7 +6,7 @@ use mathlib.Core.Path.{_≡_, refl, sym, _∙_}
 use lib.ListN.{length, getD}
 use lib.Seq.{sets}
 use Rattle.log.specs.Flat.{writesFrom}
-use Rattle.transaction.proofs.Ranges.{counted, ranged}
+use Rattle.transaction.proofs.RangeLaws.{counted, ranged}
 use Rattle.image.specs.Format.{encodeUndos, undosSize}
 use Rattle.image.proofs.Writings.{undo-size, undo-turn}
 use borrow.Author.Needs.{needs}
@@ -26,7 +26,7 @@ abbrev μ-loop : tie.MeasureT-loop
 -- places of the code by name
 
 abbrev entryFromPutUndoArg2 : tie.After-put-undo-arg2 Inv-loop μ-loop → tie.Start Inv-loop μ-loop
-entryFromPutUndoArg2 c = c .before .before .before .before .before .before .before .before .before .before
+entryFromPutUndoArg2 c = c .before .before .before .before .before .before .before .before .before .before .before
 
 abbrev entryFromSliceKnown2 : tie.After-slice-known2 Inv-loop μ-loop → tie.Start Inv-loop μ-loop
 entryFromSliceKnown2 c = entryFromPutUndoArg2 (c .before .before .before)
@@ -36,7 +36,7 @@ cast-n c = search needs
 
 loop-holds : tie.Need-loop-holds Inv-loop μ-loop
 loop-holds c =
-    let n = c .before .before .before .before .before .args .undo .count in
+    let n = c .before .before .before .before .before .before .args .undo .ranges .count in
     (omega arith, refl, rw (sub-zero n), rw (sub-zero n))
 
 -- in a turn: the record at hand lies within the place set aside for it
@@ -46,13 +46,13 @@ pub record Placed (i n : ℕ) (bytes : List ℕ) : Type 0 where
   pub aside : i * 32 + n ≤ length bytes
 
 placed : (c : tie.In-loop Inv-loop μ-loop)
-    → let r = c .before .before .before .before .before .before .before .args .undo in
-    Placed (c .before .loop .i) (getD (r .len) (c .before .loop .i) 0) (r .bytes)
+    → let r = c .before .before .before .before .before .before .before .before .args .undo in
+    Placed (c .before .loop .i) (getD (r .ranges .len) (c .before .loop .i) 0) (r .bytes)
 placed c =
-    let r = c .before .before .before .before .before .before .before .args .undo in
-    let n = counted r (c .before .before .before .before .before .before .before .pre .0) in
+    let r = c .before .before .before .before .before .before .before .before .args .undo in
+    let n = counted (r .ranges) (c .before .before .before .before .before .before .before .before .pre .0) in
     let l : length (r .bytes) ≡ 512 = search needs in
-    let g = ranged r (c .before .before .before .before .before .before .before .pre .0) (c .before .loop .i) (omega (arith, c .loop-test .taken)) in
+    let g = ranged (r .ranges) (c .before .before .before .before .before .before .before .before .pre .0) (c .before .loop .i) (omega (arith, c .loop-test .taken)) in
     record { few = omega (arith, n, c .loop-test .taken); short = g .1; aside = omega (arith, c .loop-test .taken, l, n, g .1) }
 
 array-read-l : tie.Need-array-read-l Inv-loop μ-loop
@@ -86,11 +86,11 @@ part-put-undo-end c = let h = placed (c .before .before) in omega arith
 turn-size : (c : tie.After-put-undo-arg2 Inv-loop μ-loop)
     → let r = entryFromPutUndoArg2 c .args .undo in
     let i = c .before .before .before .before .loop .i in
-    undosSize (writesFrom (r .addr) (r .len) (r .bytes) (r .count - i) i)
-    ≡ 3 + getD (r .len) i 0 + undosSize (writesFrom (r .addr) (r .len) (r .bytes) (r .count - (i + 1)) (i + 1))
+    undosSize (writesFrom (r .ranges .addr) (r .ranges .len) (r .bytes) (r .ranges .count - i) i)
+    ≡ 3 + getD (r .ranges .len) i 0 + undosSize (writesFrom (r .ranges .addr) (r .ranges .len) (r .bytes) (r .ranges .count - (i + 1)) (i + 1))
 turn-size c =
     let r = entryFromPutUndoArg2 c .args .undo in
-    undo-size (r .addr) (r .len) (r .bytes) (r .count) (c .before .before .before .before .loop .i) (c .before .before .before .loop-test .taken)
+    undo-size (r .ranges .addr) (r .ranges .len) (r .bytes) (r .ranges .count) (c .before .before .before .before .loop .i) (c .before .before .before .loop-test .taken)
     (c .put-undo-arg2 .given .2)
 
 put-undo-requires : tie.Need-put-undo-requires Inv-loop μ-loop
@@ -106,7 +106,7 @@ add-o c = let h = placed (c .before .before .before .before .before .before) in 
 add-o-2 : tie.Need-add-o-2 Inv-loop μ-loop
 add-o-2 c =
     let at = c .before .before .before .before .before .before .before in
-    let s = at .before .before .before .before .before .before in
+    let s = at .before .before .before .before .before .before .before in
     omega (arith, turn-size (c .before .before .before), at .loop .inv .2, s .pre .1, s .good .0)
 
 add-i : tie.Need-add-i Inv-loop μ-loop
@@ -123,7 +123,7 @@ loop-again c =
       omega arith,
       c .before .before .put-undo .kept .0 ∙ v .1,
       omega (arith, turn-size (c .before .before .before), v .2),
-      v .3 ∙ undo-turn (r .addr) (r .len) (r .bytes) (r .count) (l .i) (c .before .before .before .before .before .before .loop-test .taken)
+      v .3 ∙ undo-turn (r .ranges .addr) (r .ranges .len) (r .bytes) (r .ranges .count) (l .i) (c .before .before .before .before .before .before .loop-test .taken)
           (c .before .before .before .put-undo-arg2 .given .2) (l .o) (l .b) (c .before .before .put-undo .last .0) (c .before .before .put-undo .ensures),
     )
 
@@ -132,10 +132,10 @@ same-length c = c .before .loop .inv .1
 
 returns : tie.Need-returns Inv-loop μ-loop
 returns c =
-    let r = c .before .before .before .before .before .before .before .args .undo in
+    let r = c .before .before .before .before .before .before .before .before .args .undo in
     let l = c .before .loop in
-    let e : r .count - l .i ≡ 0 = omega arith in
-    let z : undosSize (writesFrom (r .addr) (r .len) (r .bytes) (r .count - l .i) (l .i)) ≡ 0 = rw e in
+    let e : r .ranges .count - l .i ≡ 0 = omega arith in
+    let z : undosSize (writesFrom (r .ranges .addr) (r .ranges .len) (r .bytes) (r .ranges .count - l .i) (l .i)) ≡ 0 = rw e in
     (omega (arith, z, l .inv .2), sym (l .inv .3 ∙ rw e))
 
 pub put-undos-spec : {M : Type 1} → statement M

@@ -8,7 +8,7 @@ use lib.ListN.{length}
 use borrow.Author.Tests.{not-true, not-false}
 use Rattle.log.proofs.LogLaws.{log-within}
 use Rattle.transaction.specs.Lists.{every, sumOf}
-use Rattle.transaction.specs.Rules.{redoOk, roomOf}
+use Rattle.transaction.specs.Rules.{stateOk, roomOf}
 use Rattle.store.specs.declared.State.{State}
 use Rattle.store.specs.State.{txsOf, outlinesOf}
 use Rattle.image.specs.Rules.{outlinesOk}
@@ -102,7 +102,7 @@ cast-room c = search needs
 -- what was measured, once both parts keep their rules
 pub record Measures (s : State) (t : List ℕ) (a b : ℕ) : Type 0 where
   pub heads : countersOk (s .recovered) (s .logend) (s .ondisk .0) (s .assigned .0) (s .count) ≡ true
-  pub txs : outlinesOk (s .lastid .0) (s .assigned .0) (outlinesOf s) && every redoOk (txsOf s) ≡ true
+  pub txs : outlinesOk (s .lastid .0) (s .assigned .0) (outlinesOf s) && every stateOk (txsOf s) ≡ true
   pub log : tailOk (s .ondisk .0) (s .assigned .0) t ≡ true
   pub end : a ≡ tailLength (s .ondisk .0) t
   pub rooms : b ≡ sumOf roomOf (txsOf s)

@@ -61,8 +61,8 @@ returns-2 c =
 
 -- its undo records are those in the slot chosen
 records : (c : tie.Else1) → let a = c .before .before .before .before .args in
-    txAt (a .t1) (c .before .before .choose-range .result .slot) .undo .count ≡ txOf (a .t1) (a .id .0) .undo .count
-records c = ap (λ (k : ℕ). txAt (c .before .before .before .before .args .t1) k .undo .count) (found c .slot)
+    txAt (a .t1) (c .before .before .choose-range .result .slot) .undo .ranges .count ≡ txOf (a .t1) (a .id .0) .undo .ranges .count
+records c = ap (λ (k : ℕ). txAt (c .before .before .before .before .args .t1) k .undo .ranges .count) (found c .slot)
 
 mul-if3 : tie.Need-mul-if3
 mul-if3 c = let w = found (c .before .before) in omega (arith, w .listed, w .few)
@@ -84,7 +84,7 @@ returns-3 c =
     let start = else .before .before .before .before in
     let a = start .args in
     found else .refuses (last start) 10 refl
-    (rw (free (c .before .before), eq-eqb (txOf (a .t1) (a .id .0) .undo .count) 16 (sym (records else) ∙ c .before .if3 .taken))) (c .refuse2 .ensures)
+    (rw (free (c .before .before), eq-eqb (txOf (a .t1) (a .id .0) .undo .ranges .count) 16 (sym (records else) ∙ c .before .if3 .taken))) (c .refuse2 .ensures)
 
 add-if4 : tie.Need-add-if4
 add-if4 c = omega (arith, range (c .before .before .before) .short)
@@ -96,7 +96,7 @@ refuse-requires-3 : tie.Need-refuse-requires-3
 refuse-requires-3 c κs = search needs
 
 -- it has fewer than 16
-few : (c : tie.Else3) → let a = c .before .before .before .before .before .before .before .args in txOf (a .t1) (a .id .0) .undo .count ≡ 16 → ⊥
+few : (c : tie.Else3) → let a = c .before .before .before .before .before .before .before .args in txOf (a .t1) (a .id .0) .undo .ranges .count ≡ 16 → ⊥
 few c e = c .if3 .left (records (c .before .before .before) ∙ e)
 
 returns-4 : tie.Need-returns-4
@@ -106,7 +106,7 @@ returns-4 c =
     let start = else .before .before .before .before in
     let a = start .args in
     let full : 16384 < a .admitted .room + (7 + a .len) = omega (arith, found else .room, c .before .if4 .taken) in
-    found else .refuses (last start) 13 refl (rw (free (third .before), ne-eqb (txOf (a .t1) (a .id .0) .undo .count) 16 (few third), lt-ltb _ _ full))
+    found else .refuses (last start) 13 refl (rw (free (third .before), ne-eqb (txOf (a .t1) (a .id .0) .undo .ranges .count) 16 (few third), lt-ltb _ _ full))
     (c .refuse3 .ensures)
 
 returns-5 : tie.Need-returns-5
@@ -116,7 +116,7 @@ returns-5 c =
     let start = else .before .before .before .before in
     let a = start .args in
     let enough : a .admitted .room + (7 + a .len) ≤ 16384 = omega (arith, found else .room, c .if4 .left) in
-    found else .goes (last start) (rw (free (third .before), ne-eqb (txOf (a .t1) (a .id .0) .undo .count) 16 (few third), le-ltb _ _ enough))
+    found else .goes (last start) (rw (free (third .before), ne-eqb (txOf (a .t1) (a .id .0) .undo .ranges .count) 16 (few third), le-ltb _ _ enough))
 
 pub choose-write-spec : {M : Type 1} → statement M
 choose-write-spec =

@@ -20,6 +20,10 @@ Inv-loop slot self₀ n i₀ self i = (slot ≤ i) × (i < n) × (self ≡ withS
 abbrev μ-loop : tie.MeasureT-loop
 μ-loop slot self₀ n i₀ self i = n - i
 
+-- the length of the array of slots
+slots : (c : tie.Start Inv-loop μ-loop) → length (c .args .t1 .txs) ≡ 8
+slots c = search (needs, length-mapped)
+
 cast-n : tie.Need-cast-n Inv-loop μ-loop
 cast-n c = search needs
 
@@ -54,7 +58,7 @@ loop-again : tie.Need-loop-again Inv-loop μ-loop
 loop-again c =
     let s = c .before .before .before .args .t1 in
     let i = c .before .before .loop .i in
-    let l : length (s .txs) ≡ 8 = search (needs, length-mapped) in (
+    let l = slots (c .before .before .before) in (
       omega arith,
       omega arith,
       ap (λ (u : State). withSlots u (set (u .txs) i (getD (u .txs) (i + 1) noTx))) (c .before .before .loop .inv .2)
@@ -82,7 +86,7 @@ unfolding droppedState without
 returns c =
     let s = c .before .before .before .args .t1 in
     let i = c .before .before .loop .i in
-    let l : length (s .txs) ≡ 8 = search (needs, length-mapped) in
+    let l = slots (c .before .before .before) in
     let e : i ≡ s .count - 1 = omega (arith, c .before .loop-test .left, c .before .before .loop .inv .1) in
     let f : i + 1 ≡ s .count = omega (arith, c .before .loop-test .left, c .before .before .loop .inv .1) in
     ap (λ (u : State). withTxs u (u .assigned) (u .lastid) (u .count - 1) (set (u .txs) i (c .empty .result))) (c .before .before .loop .inv .2)

@@ -7,7 +7,7 @@ use Rattle.recovery.specs.Lists.{any}
 use Rattle.transaction.specs.Lists.{upFrom}
 use Rattle.transaction.specs.Rules.{heldAgainst}
 use Rattle.transaction.proofs.Lists.{up-done, any-hit, any-miss}
-use Rattle.transaction.proofs.Ranges.{counted}
+use Rattle.transaction.proofs.RangeLaws.{counted}
 use Rattle.image.proofs.Rules.{image-count, undo-at}
 use Rattle.store.specs.State.{txAt, txsOf, imageOf}
 use Rattle.store.proofs.State.held.Statement.{statement}
@@ -35,7 +35,7 @@ element-copy-out-t c = let h = image-count (imageOf (c .before .before .args .t1
 holds-against-requires : tie.Need-holds-against-requires Inv-loop μ-loop
 holds-against-requires c κs =
     let args = c .before .before .before .args in (
-      counted (txAt (args .t1) (c .before .before .loop .i) .undo)
+      counted (txAt (args .t1) (c .before .before .loop .i) .undo .ranges)
           (undo-at (imageOf (args .t1)) (c .before .before .before .pre .0) (c .before .before .loop .i)
           (c .before .loop-test .taken)),
       c .before .before .before .pre .1,

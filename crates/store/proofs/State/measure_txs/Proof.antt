@@ -9,15 +9,15 @@ use Rattle.recovery.specs.Lists.{any}
 use Rattle.log.proofs.Basics.{and-right}
 use Rattle.transaction.specs.Lists.{upFrom, every, sumOf}
 use Rattle.transaction.specs.View.{rangesOf}
-use Rattle.transaction.specs.Rules.{recordsOk, headOk, outlineOk, alike, redoOk, roomOf}
+use Rattle.transaction.specs.Rules.{recordsOk, headOk, outlineOk, alike, stateOk, roomOf}
 use Rattle.transaction.proofs.Lists.{up-done, every-bad, every-good, sum-turn}
-use Rattle.transaction.proofs.Ranges.{counted}
+use Rattle.transaction.proofs.RangeLaws.{counted}
 use Rattle.image.specs.Rules.{distinct}
 use Rattle.image.proofs.KeyLaws.{by-keys}
 use Rattle.image.proofs.Rules.{distinct-hit, distinct-miss}
 use Rattle.store.specs.declared.State.{State}
 use Rattle.store.specs.State.{txAt, txsOf, outlineAt, outlinesOf}
-use Rattle.store.proofs.Admitting.{bad-outline, bad-alike, bad-redo, good-txs, redo-records, room-bound}
+use Rattle.store.proofs.Admitting.{bad-outline, bad-alike, bad-states, good-txs, redo-records, room-bound}
 use Rattle.store.proofs.State.measure_txs.Statement.{statement}
 use Rattle.store.proofs.State.measure_txs.Tie as tie
 
@@ -28,7 +28,7 @@ Inv-loop self n last assigned keys room₀ i₀ room i =
     × (every (outlineOk (self .lastid .0) (self .assigned .0)) (outlinesOf self)
     ≡ every (outlineOk (self .lastid .0) (self .assigned .0)) (upFrom (outlineAt self) (n - i) i))
     × (distinct (outlinesOf self) ≡ distinct (upFrom (outlineAt self) (n - i) i))
-    × (every redoOk (txsOf self) ≡ every redoOk (upFrom (txAt self) (n - i) i))
+    × (every stateOk (txsOf self) ≡ every stateOk (upFrom (txAt self) (n - i) i))
     × (sumOf roomOf (txsOf self) ≡ room + sumOf roomOf (upFrom (txAt self) (n - i) i))
 
 abbrev μ-loop : tie.MeasureT-loop
@@ -86,14 +86,14 @@ good-outline : (c : tie.Else1 Inv-loop μ-loop)
     → let s = whole (c .before .before) in outlineOk (s .lastid .0) (s .assigned .0) (outlineAt s (at (c .before .before))) ≡ true
 good-outline c = sym (c .before .image-ok .ensures) ∙ not-false _ (c .if1 .left)
 
-good-undo : (c : tie.Else1 Inv-loop μ-loop) → recordsOk (rangesOf (txAt (whole (c .before .before)) (at (c .before .before)) .undo)) ≡ true
+good-undo : (c : tie.Else1 Inv-loop μ-loop) → recordsOk (rangesOf (txAt (whole (c .before .before)) (at (c .before .before)) .undo .ranges)) ≡ true
 good-undo c =
     let s = whole (c .before .before) in
     let t = txAt s (at (c .before .before)) in
     and-right (headOk (s .lastid .0) (s .assigned .0) (t .id .0) (t .status) (t .csn .0)) _ (good-outline c)
 
-redo-ok-requires : tie.Need-redo-ok-requires Inv-loop μ-loop
-redo-ok-requires c κs = counted (txAt (whole (c .before .before)) (at (c .before .before)) .undo) (good-undo c)
+state-ok-requires : tie.Need-state-ok-requires Inv-loop μ-loop
+state-ok-requires c κs = counted (txAt (whole (c .before .before)) (at (c .before .before)) .undo .ranges) (good-undo c)
 
 rule-broken-requires-2 : tie.Need-rule-broken-requires-2 Inv-loop μ-loop
 rule-broken-requires-2 c κs = search needs
@@ -101,9 +101,9 @@ rule-broken-requires-2 c κs = search needs
 returns-2 : tie.Need-returns-2 Inv-loop μ-loop
 returns-2 c =
     let t = c .before .before .before .before .before in
-    let bad = sym (c .before .before .redo-ok .ensures) ∙ not-true _ (c .before .if2 .taken) in
+    let bad = sym (c .before .before .state-ok .ensures) ∙ not-true _ (c .before .if2 .taken) in
     c .rule-broken2 .ensures
-    ∙ sym (bad-redo (whole t) (t .before .before .loop .inv .4 ∙ every-bad (txAt (whole t)) _ _ (t .before .loop-test .taken) redoOk bad))
+    ∙ sym (bad-states (whole t) (t .before .before .loop .inv .4 ∙ every-bad (txAt (whole t)) _ _ (t .before .loop-test .taken) stateOk bad))
 
 add-alike-from : tie.Need-add-alike-from Inv-loop μ-loop
 add-alike-from c = search needs
@@ -111,8 +111,8 @@ add-alike-from c = search needs
 alike-from-requires : tie.Need-alike-from-requires Inv-loop μ-loop
 alike-from-requires c κs = search needs
 
-good-redo : (c : tie.Else2 Inv-loop μ-loop) → let t = c .before .before .before .before in redoOk (txAt (whole t) (at t)) ≡ true
-good-redo c = sym (c .before .redo-ok .ensures) ∙ not-false _ (c .if2 .left)
+good-state : (c : tie.Else2 Inv-loop μ-loop) → let t = c .before .before .before .before in stateOk (txAt (whole t) (at t)) ≡ true
+good-state c = sym (c .before .state-ok .ensures) ∙ not-false _ (c .if2 .left)
 
 -- what the keys tell of the later transactions
 compared : (c : tie.After-alike-from Inv-loop μ-loop)
@@ -140,7 +140,7 @@ returns-3 c =
 room-requires : tie.Need-room-requires Inv-loop μ-loop
 room-requires c κs =
     let t = c .before .before .before .before .before .before in redo-records (txAt (whole t) (at t)) (good-undo (c .before .before .before .before))
-    (good-redo (c .before .before))
+    (good-state (c .before .before))
 
 small : (c : tie.After-room Inv-loop μ-loop) → c .room .result ≤ 632
 small c =
@@ -148,7 +148,7 @@ small c =
       arith,
       c .room .ensures,
       room-bound (txAt (whole t) (at t))
-          (good-undo (c .before .before .before .before .before)) (good-redo (c .before .before .before)),
+          (good-undo (c .before .before .before .before .before)) (good-state (c .before .before .before)),
     )
 
 add-room : tie.Need-add-room Inv-loop μ-loop
@@ -171,7 +171,7 @@ loop-again c =
       omega (arith, small c),
       v .2 ∙ every-good (outlineAt s) _ _ h (outlineOk (s .lastid .0) (s .assigned .0)) (good-outline (c .before .before .before .before .before)),
       v .3 ∙ distinct-miss (s .txs) _ _ h (sym (compared (c .before .before)) ∙ c .before .if3 .left),
-      v .4 ∙ every-good (txAt s) _ _ h redoOk (good-redo (c .before .before .before)),
+      v .4 ∙ every-good (txAt s) _ _ h stateOk (good-state (c .before .before .before)),
       omega (arith, sum-turn (txAt s) (s .count) (at t) h roomOf, v .5, c .room .ensures),
     )
 
@@ -186,7 +186,7 @@ returns-4 c =
     ap (λ (n : ℕ). record { ok = true; room = n }) (omega (arith, z, c .before .loop .inv .5))
     ∙ sym
     (good-txs s (c .before .loop .inv .2 ∙ ap (every (outlineOk (s .lastid .0) (s .assigned .0))) o) (c .before .loop .inv .3 ∙ ap distinct o)
-    (c .before .loop .inv .4 ∙ ap (every redoOk) t))
+    (c .before .loop .inv .4 ∙ ap (every stateOk) t))
 
 pub measure-txs-spec : {M : Type 1} → statement M
 measure-txs-spec =
@@ -202,7 +202,7 @@ measure-txs-spec =
     image-ok-requires
     rule-broken-requires
     returns
-    redo-ok-requires
+    state-ok-requires
     rule-broken-requires-2
     returns-2
     add-alike-from

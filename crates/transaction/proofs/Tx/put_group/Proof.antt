@@ -3,7 +3,7 @@ use Prim.Native.Nat.{ℕ, _≤_, _<_}
 use native.Mathlib.Omega.{arith}
 use mathlib.Core.Path.{_≡_}
 use lib.ListN.{length, getD}
-use Rattle.transaction.proofs.Ranges.{counted, ranged}
+use Rattle.transaction.proofs.RangeLaws.{counted, ranged}
 use Rattle.transaction.proofs.Writes.{sized}
 use Rattle.transaction.proofs.Tx.put_group.Statement.{statement}
 use Rattle.transaction.proofs.Tx.put_group.Tie as tie
@@ -19,7 +19,7 @@ cast-n c = search needs
 -- the lengths of the arrays
 lengths : (c : tie.After-struct-known)
     → let r = c .before .before .before .args .self .redo in
-    (length (r .addr) ≡ 16) × (length (r .len) ≡ 16) × (length (r .bytes) ≡ 512)
+    (length (r .ranges .addr) ≡ 16) × (length (r .ranges .len) ≡ 16) × (length (r .bytes) ≡ 512)
 lengths c = (search needs, search needs, search needs)
 
 slice-aggregate-put-group : tie.Need-slice-aggregate-put-group
@@ -36,8 +36,8 @@ put-group-requires c κs =
     let s = entryFromBytes2 c in
     let r = s .args .self .redo in
     let l = lengths (c .before .before .before .before .before .before .before) in
-    let n = counted r (s .pre .0) in
-    let h : (j : ℕ) → j < r .count → getD (r .len) j 0 ≤ 32 = λ j b. ranged r (s .pre .0) j b .1 in
+    let n = counted (r .ranges) (s .pre .0) in
+    let h : (j : ℕ) → j < r .ranges .count → getD (r .ranges .len) j 0 ≤ 32 = λ j b. ranged (r .ranges) (s .pre .0) j b .1 in
     ((omega (arith, l .0), omega (arith, l .1), omega (arith, l .2)), (h, omega (arith, sized r (l .2) n h, s .pre .1)))
 
 same-length : tie.Need-same-length

@@ -1,7 +1,7 @@
 use native.Mathlib.Omega.{arith}
 use borrow.Author.Tests.{eq-eqb, ne-eqb}
 use Rattle.transaction.specs.View.{rangesOf}
-use Rattle.transaction.proofs.Ranges.{size-bound}
+use Rattle.transaction.proofs.RangeLaws.{size-bound}
 use Rattle.transaction.proofs.Tx.room.Statement.{statement}
 use Rattle.transaction.proofs.Tx.room.Tie as tie
 
@@ -14,7 +14,7 @@ size-requires c κs = c .before .before .before .pre (c .before .if1 .left)
 add-result : tie.Need-add-result
 add-result c =
     let t = c .before .before .before .before .args .self in
-    let h = size-bound (rangesOf (t .redo)) (c .before .before .before .before .pre (c .before .before .if1 .left)) in
+    let h = size-bound (rangesOf (t .redo .ranges)) (c .before .before .before .before .pre (c .before .before .if1 .left)) in
     omega (arith, c .size .ensures)
 
 returns-2 : tie.Need-returns-2

@@ -1,11 +1,14 @@
-use mathlib.Core.Path.{refl}
+use borrow.Author.Needs.{needs}
 use Rattle.transaction.specs.Flat.{emptyRecords}
 use Rattle.transaction.proofs.records.Records.empty.Statement.{statement}
 use Rattle.transaction.proofs.records.Records.empty.Tie as tie
 
+empty-requires : tie.Need-empty-requires
+empty-requires c κs = search needs
+
 returns : tie.Need-returns
 unfolding emptyRecords
-returns c = refl
+returns c = rw (c .empty .ensures)
 
 pub empty-spec : {M : Type 1} → statement M
-empty-spec = tie.close (tie.spec returns)
+empty-spec = tie.close (tie.spec empty-requires returns)

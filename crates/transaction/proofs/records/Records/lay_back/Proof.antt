@@ -8,19 +8,20 @@ use borrow.Author.Needs.{needs}
 use Rattle.recovery.specs.Replay.{undoAll, layBytes}
 use Rattle.log.specs.Flat.{writeAt, writesFrom}
 use Rattle.transaction.specs.View.{writesOf}
-use Rattle.transaction.proofs.Ranges.{counted, ranged}
+use Rattle.transaction.proofs.RangeLaws.{counted, ranged}
 use Rattle.transaction.proofs.Writes.{undo-turn}
 use Rattle.transaction.proofs.records.Records.lay_back.Statement.{statement}
 use Rattle.transaction.proofs.records.Records.lay_back.Tie as tie
 
 abbrev Inv-loop : tie.InvT-loop
-Inv-loop memory₀ self bytes n i₀ memory i =
+Inv-loop memory₀ bytes ranges n i₀ memory i =
     (i ≤ n)
     × (length memory ≡ 4096)
-    × (undoAll layBytes (writesOf self) memory₀ ≡ undoAll layBytes (writesFrom (self .addr) (self .len) bytes (n - i) 0) memory)
+    × (undoAll layBytes (writesOf (record { ranges = ranges; bytes = bytes })) memory₀
+    ≡ undoAll layBytes (writesFrom (ranges .addr) (ranges .len) bytes (n - i) 0) memory)
 
 abbrev μ-loop : tie.MeasureT-loop
-μ-loop memory₀ self bytes n i₀ memory i = n - i
+μ-loop memory₀ bytes ranges n i₀ memory i = n - i
 
 -- places of the code by name
 
@@ -28,18 +29,18 @@ abbrev testedFromSliceKnown2 : tie.After-slice-known2 Inv-loop μ-loop → tie.I
 testedFromSliceKnown2 c = c .before .before .before .before .before .before .before .before
 
 abbrev entryFromCopy : tie.After-copy Inv-loop μ-loop → tie.Start Inv-loop μ-loop
-entryFromCopy c = c .before .before .before .before .before .before .before .before .before .before
+entryFromCopy c = c .before .before .before .before .before .before .before .before .before .before .before
 
 cast-n : tie.Need-cast-n Inv-loop μ-loop
 cast-n c = search needs
 
 loop-holds : tie.Need-loop-holds Inv-loop μ-loop
 loop-holds c =
-    let r = c .before .before .args .t1 in
-    let z : r .count ≡ r .count - 0 = omega arith in (
+    let r = c .before .before .before .args .self in
+    let z : r .ranges .count ≡ r .ranges .count - 0 = omega arith in (
       omega arith,
-      c .before .before .pre .1,
-      ap (λ (k : ℕ). undoAll layBytes (writesFrom (r .addr) (r .len) (r .bytes) k 0) (c .before .before .args .memory .now)) z,
+      c .before .before .before .pre .1,
+      ap (λ (k : ℕ). undoAll layBytes (writesFrom (r .ranges .addr) (r .ranges .len) (r .bytes) k 0) (c .before .before .before .args .memory .now)) z,
     )
 
 add-i : tie.Need-add-i Inv-loop μ-loop
@@ -53,26 +54,26 @@ mul-at c = search needs
 
 -- the record at hand in a turn: the newest of those left
 abbrev hand : tie.In-loop Inv-loop μ-loop → ℕ
-hand c = c .before .before .before .before .args .t1 .count - (c .before .loop .i + 1)
+hand c = c .before .before .before .before .before .args .self .ranges .count - (c .before .loop .i + 1)
 
 -- it is what the turn lays
 laid : (c : tie.After-copy Inv-loop μ-loop)
-    → let r = entryFromCopy c .args .t1 in
+    → let r = entryFromCopy c .args .self in
     let k = hand (c .before .before .before .before .before .before) in
-    undoAll layBytes (writesFrom (r .addr) (r .len) (r .bytes) k 0)
-    (layBytes (writeAt (r .addr) (r .len) (r .bytes) k) (c .before .before .before .before .before .before .before .loop .memory))
-    ≡ undoAll layBytes (writesFrom (r .addr) (r .len) (r .bytes) k 0) (c .copy .last .0)
+    undoAll layBytes (writesFrom (r .ranges .addr) (r .ranges .len) (r .bytes) k 0)
+    (layBytes (writeAt (r .ranges .addr) (r .ranges .len) (r .bytes) k) (c .before .before .before .before .before .before .before .loop .memory))
+    ≡ undoAll layBytes (writesFrom (r .ranges .addr) (r .ranges .len) (r .bytes) k 0) (c .copy .last .0)
 laid c =
-    let r = entryFromCopy c .args .t1 in
+    let r = entryFromCopy c .args .self in
     let k = hand (c .before .before .before .before .before .before) in
     let m = c .before .before .before .before .before .before .before .loop .memory in
-    let e : k * 32 + getD (r .len) k 0 - k * 32 ≡ getD (r .len) k 0 = omega arith in
-    ap (undoAll layBytes (writesFrom (r .addr) (r .len) (r .bytes) k 0))
-    (sym (c .copy .ensures ∙ ap (λ (j : ℕ). sets m (getD (r .addr) k 0) (take j (drop (k * 32) (r .bytes)))) e))
+    let e : k * 32 + getD (r .ranges .len) k 0 - k * 32 ≡ getD (r .ranges .len) k 0 = omega arith in
+    ap (undoAll layBytes (writesFrom (r .ranges .addr) (r .ranges .len) (r .bytes) k 0))
+    (sym (c .copy .ensures ∙ ap (λ (j : ℕ). sets m (getD (r .ranges .addr) k 0) (take j (drop (k * 32) (r .bytes)))) e))
 
 -- it is one of 16 at most, and keeps the range rule
 few-enough : (c : tie.In-loop Inv-loop μ-loop) → hand c < 16
-few-enough c = omega (arith, counted (c .before .before .before .before .args .t1) (c .before .before .before .before .pre .0))
+few-enough c = omega (arith, counted (c .before .before .before .before .before .args .self .ranges) (c .before .before .before .before .before .pre .0))
 
 pub record Placed (at n i : ℕ) (bytes : List ℕ) : Type 0 where
   pub short : n ≤ 32
@@ -80,13 +81,13 @@ pub record Placed (at n i : ℕ) (bytes : List ℕ) : Type 0 where
   pub aside : i * 32 + n ≤ length bytes
 
 placed : (c : tie.In-loop Inv-loop μ-loop)
-    → let r = c .before .before .before .before .args .t1 in
-    Placed (getD (r .addr) (hand c) 0) (getD (r .len) (hand c) 0) (hand c) (r .bytes)
+    → let r = c .before .before .before .before .before .args .self in
+    Placed (getD (r .ranges .addr) (hand c) 0) (getD (r .ranges .len) (hand c) 0) (hand c) (r .bytes)
 placed c =
-    let r = c .before .before .before .before .args .t1 in
+    let r = c .before .before .before .before .before .args .self in
     let h = few-enough c in
     let l : length (r .bytes) ≡ 512 = search needs in
-    let g = ranged r (c .before .before .before .before .pre .0) (hand c) (omega arith) in
+    let g = ranged (r .ranges) (c .before .before .before .before .before .pre .0) (hand c) (omega arith) in
     record { short = g .1; within = g .2; aside = omega (arith, l, h, g .1) }
 
 element-copy-out-at : tie.Need-element-copy-out-at Inv-loop μ-loop
@@ -129,15 +130,15 @@ loop-again : tie.Need-loop-again Inv-loop μ-loop
 loop-again c =
     let t = testedFromSliceKnown2 c in
     let v = t .before .loop .inv in
-    let h : t .before .before .before .before .args .t1 .count - t .before .loop .i ≡ suc (hand t) = omega (arith, t .loop-test .taken) in
+    let h : t .before .before .before .before .before .args .self .ranges .count - t .before .loop .i ≡ suc (hand t) = omega (arith, t .loop-test .taken) in
     (omega (arith, t .loop-test .taken), c .before .before .copy .kept .0 ∙ v .1, v .2 ∙ undo-turn _ _ _ _ _ _ h ∙ laid (c .before .before))
 
 same-length : tie.Need-same-length Inv-loop μ-loop
-same-length c = c .before .loop .inv .1 ∙ sym (c .before .before .before .before .pre .1)
+same-length c = c .before .loop .inv .1 ∙ sym (c .before .before .before .before .before .pre .1)
 
 returns : tie.Need-returns Inv-loop μ-loop
 returns c =
-    let z : c .before .before .before .before .args .t1 .count - c .before .loop .i ≡ 0 = omega (arith, c .loop-test .left) in
+    let z : c .before .before .before .before .before .args .self .ranges .count - c .before .loop .i ≡ 0 = omega (arith, c .loop-test .left) in
     sym (c .before .loop .inv .2 ∙ rw z)
 
 pub lay-back-spec : {M : Type 1} → statement M

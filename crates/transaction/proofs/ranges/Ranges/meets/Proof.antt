@@ -14,8 +14,8 @@ use Rattle.transaction.specs.Lists.{upFrom}
 use Rattle.transaction.specs.View.{rangeAt, rangesOf}
 use Rattle.transaction.specs.Rules.{meets}
 use Rattle.transaction.proofs.Lists.{up-done, any-hit, any-miss}
-use Rattle.transaction.proofs.records.Records.meets.Statement.{statement}
-use Rattle.transaction.proofs.records.Records.meets.Tie as tie
+use Rattle.transaction.proofs.ranges.Ranges.meets.Statement.{statement}
+use Rattle.transaction.proofs.ranges.Ranges.meets.Tie as tie
 
 abbrev Inv-loop : tie.InvT-loop
 Inv-loop addr len self n i₀ i =

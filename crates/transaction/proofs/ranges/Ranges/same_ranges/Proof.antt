@@ -9,9 +9,9 @@ use Rattle.transaction.specs.Lists.{upFrom}
 use Rattle.transaction.specs.View.{Range, rangeAt, rangesOf}
 use Rattle.transaction.specs.Rules.{sameRanges}
 use Rattle.transaction.proofs.Lists.{length-up, up-done}
-use Rattle.transaction.proofs.Ranges.{unequal, same-bad, same-good}
-use Rattle.transaction.proofs.records.Records.same_ranges.Statement.{statement}
-use Rattle.transaction.proofs.records.Records.same_ranges.Tie as tie
+use Rattle.transaction.proofs.RangeLaws.{unequal, same-bad, same-good}
+use Rattle.transaction.proofs.ranges.Ranges.same_ranges.Statement.{statement}
+use Rattle.transaction.proofs.ranges.Ranges.same_ranges.Tie as tie
 
 abbrev Inv-loop : tie.InvT-loop
 Inv-loop self other n i₀ i =

@@ -9,7 +9,7 @@ use lib.Dec.{leb, eqb}
 use borrow.Author.Tests.{leb-true, le-leb, lt-leb, eqb-true}
 use Rattle.log.specs.Record.{inRange}
 use Rattle.log.proofs.Basics.{and-left, and-right}
-use Rattle.transaction.specs.declared.records.Records.{Records}
+use Rattle.transaction.specs.declared.ranges.Ranges.{Ranges}
 use Rattle.transaction.specs.Lists.{upFrom, every}
 use Rattle.transaction.specs.View.{Range, range, rangeAt, rangesOf}
 use Rattle.transaction.specs.Rules.{rangeOk, recordsOk, rangesSize, sameRange, sameRanges}
@@ -25,7 +25,7 @@ in-range a n e =
           (and-right (leb 1 n && leb n 32) _ e),
     )
 
-module _ (r : Records) where
+module _ (r : Ranges) where
   pub few : r .count ≤ 16 → recordsOk (rangesOf r) ≡ every rangeOk (rangesOf r)
   few h = rw (length-up (rangeAt r) (r .count) 0, le-leb _ _ h)
 
@@ -79,7 +79,7 @@ equal-ranges (range a n ∷ rs) (range b m ∷ qs) e =
     let k : rs ≡ qs = equal-ranges rs qs (and-right (sameRange (range a n) (range b m)) (sameRanges rs qs) e) in
     cc
 
-module _ (r q : Records) (n i : ℕ) (h : i < n) where
+module _ (r q : Ranges) (n i : ℕ) (h : i < n) where
   turn : sameRanges (upFrom (rangeAt r) (n - i) i) (upFrom (rangeAt q) (n - i) i)
       ≡ sameRange (rangeAt r i) (rangeAt q i) && sameRanges (upFrom (rangeAt r) (n - (i + 1)) (i + 1)) (upFrom (rangeAt q) (n - (i + 1)) (i + 1))
   turn = ap₂ (λ (x y : List Range). sameRanges x y) (up-turn (rangeAt r) n i h) (up-turn (rangeAt q) n i h)

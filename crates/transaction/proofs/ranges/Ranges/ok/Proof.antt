@@ -8,9 +8,9 @@ use Rattle.transaction.specs.Lists.{upFrom, every}
 use Rattle.transaction.specs.View.{rangeAt, rangesOf}
 use Rattle.transaction.specs.Rules.{rangeOk}
 use Rattle.transaction.proofs.Lists.{up-done, every-bad, every-good}
-use Rattle.transaction.proofs.Ranges.{few, many}
-use Rattle.transaction.proofs.records.Records.ok.Statement.{statement}
-use Rattle.transaction.proofs.records.Records.ok.Tie as tie
+use Rattle.transaction.proofs.RangeLaws.{few, many}
+use Rattle.transaction.proofs.ranges.Ranges.ok.Statement.{statement}
+use Rattle.transaction.proofs.ranges.Ranges.ok.Tie as tie
 
 abbrev Inv-loop : tie.InvT-loop
 Inv-loop self n i₀ i =

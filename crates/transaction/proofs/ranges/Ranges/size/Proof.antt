@@ -8,9 +8,9 @@ use Rattle.transaction.specs.Lists.{upFrom}
 use Rattle.transaction.specs.View.{rangeAt, rangesOf}
 use Rattle.transaction.specs.Rules.{rangeSize, rangesSize}
 use Rattle.transaction.proofs.Lists.{up-done, sum-turn}
-use Rattle.transaction.proofs.Ranges.{counted, ranged}
-use Rattle.transaction.proofs.records.Records.size.Statement.{statement}
-use Rattle.transaction.proofs.records.Records.size.Tie as tie
+use Rattle.transaction.proofs.RangeLaws.{counted, ranged}
+use Rattle.transaction.proofs.ranges.Ranges.size.Statement.{statement}
+use Rattle.transaction.proofs.ranges.Ranges.size.Tie as tie
 
 abbrev Inv-loop : tie.InvT-loop
 Inv-loop self n sum₀ i₀ sum i =
