@@ -1,124 +1,109 @@
 -- Clearing changes nothing that restart reads: a disk means the same after any number of step 6's stores.
-use Prim.Native.Nat.{ℕ, _+_, _*_, _-_, _≤_, _<_}
+use Prim.Native.Nat.{ℕ, _+_, _-_, _≤_}
 use native.Mathlib.Decide.{decLe}
 use native.Mathlib.Omega.{arith}
 use mathlib.Core.Bool.{Bool, true, false, cond}
 use mathlib.Core.List.{List, [], _++_, append-nil}
 use mathlib.Core.Path.{_≡_, refl, sym, ap, _∙_, subst}
-use lib.ListN.{length, take, drop, replicate, length-drop, List·getD-append, drop-of-length-le}
-use lib.Seq.{take-take, take-append-le, drop-append-le, length-take-le, getD-take}
+use lib.ListN.{length, take, drop, replicate, drop-of-length-le}
 use lib.Dec.{eqb, ltb}
 use borrow.Author.Tests.{eqb-true, eqb-false}
+use Rattle.layout.specs.Parts.{logPart}
 use Rattle.recovery.specs.Group.{Group, groupsSize}
 use Rattle.recovery.proofs.Groups.{fitting-all}
-use Rattle.log.specs.Stores.{Store, apply}
+use Rattle.log.specs.Stores.{Store, apply, clears}
 use Rattle.log.specs.Log.{readLog}
-use Rattle.log.proofs.RoundTrip.{drop-take}
 use Rattle.log.proofs.StoreLaws.{first-clears, apply-clears, length-apply}
-use Rattle.log.proofs.Torn.{log-torn}
+use Rattle.log.proofs.PartLaws.{clears-moved, part-first}
+use Rattle.log.proofs.Torn.{torn-rest, log-torn}
 use Rattle.image.specs.declared.Image.{Image}
 use Rattle.restart.specs.Forward.{startOf, groupsOf, goOver, forwardOf}
 use Rattle.restart.specs.Restart.{AfterSteps, afterSteps, recoverOf}
 use Rattle.restart.proofs.Recovery.{end-is}
 use Rattle.store.specs.Stored.{DiskOutcome, carriedOut}
-use Rattle.disk.specs.Layout.{pointerOf, imageAt, logFrom}
-use Rattle.disk.specs.Examine.{Loaded, loadOf, Meaning, stepsOf, meant, examineOf}
+use Rattle.disk.specs.Layout.{logFrom}
+use Rattle.disk.specs.Open.{openOf}
+use Rattle.disk.specs.Examine.{Meaning, refusedBy, stepsOf, ifFits, examineOf}
 use Rattle.disk.specs.Restart.{clearing, refusedWith, ofMeaning}
 use Rattle.disk.specs.Restart as restarts
-use Rattle.disk.proofs.Loading.{slot-within}
-use Rattle.disk.proofs.Examining.{roomy, means}
-use Rattle.disk.proofs.Accepted.{imageIn, memoryIn, logIn, stepsIn, Accepted, accepted-is}
+use Rattle.disk.proofs.Opening.{log-length, opened-log, OpenAlike, log-stores-alike}
+use Rattle.disk.proofs.Examining.{roomy}
+use Rattle.disk.proofs.Accepted.{imageIn, memoryIn, logIn, Accepted, accepted-is}
 use Rattle.disk.proofs.Restarting.{cutFrom, doneFrom, restart-meant, restart-refused, restart-cut, restart-done}
 
--- what the first n stores of a clearing leave: the front as it was, and zeros
+-- what the first n stores of a clearing leave of the log: the front as it was, and zeros
 pub cleared : (n end : ℕ) (disk : List ℕ) → length disk ≡ 33691 → end ≤ 16384
-    → apply (take n (clearing end)) disk ≡ take (17307 + end + (16384 - end - n)) disk ++ replicate (16384 - end - (16384 - end - n)) 0
+    → logPart (apply (take n (clearing end)) disk) ≡ take (end + (16384 - end - n)) (logPart disk) ++ replicate (16384 - end - (16384 - end - n)) 0
 cleared n end disk d h =
-    let low = 17307 + end + (16384 - end - n) in
+    let low = end + (16384 - end - n) in
     let k = 16384 - end - (16384 - end - n) in
-    let r : drop (low + k) disk ≡ [] = drop-of-length-le disk {i = low + k} (omega arith) in
-    ap (λ (ss : List Store). apply ss disk) (first-clears n (17307 + end) (16384 - end))
-    ∙ apply-clears low k disk (omega arith)
-    ∙ ap (λ (l : List ℕ). take low disk ++ (replicate k 0 ++ l)) r
-    ∙ ap (λ (l : List ℕ). take low disk ++ l) (append-nil (replicate k 0))
+    let l = log-length disk d in
+    let r : drop (low + k) (logPart disk) ≡ [] = drop-of-length-le (logPart disk) {i = low + k} (omega arith) in
+    ap (λ (ss : List Store). logPart (apply (take n ss) disk)) (clears-moved 17307 end (16384 - end))
+    ∙ part-first 17307 16384 n (clears end (16384 - end)) disk
+    ∙ ap (λ (ss : List Store). apply ss (logPart disk)) (first-clears n end (16384 - end))
+    ∙ apply-clears low k (logPart disk) (omega arith)
+    ∙ ap (λ (x : List ℕ). take low (logPart disk) ++ (replicate k 0 ++ x)) r
+    ∙ ap (λ (x : List ℕ). take low (logPart disk) ++ x) (append-nil (replicate k 0))
 
--- ---- a disk whose first p bytes are as they were, with zeros after them
-
-module _ (p k : ℕ) (disk : List ℕ) (h : p ≤ length disk) where
-  abbrev front : List ℕ
-  front = take p disk ++ replicate k 0
-
-  front-from : (at : ℕ) → at ≤ p → drop at front ≡ take (p - at) (drop at disk) ++ replicate k 0
-  front-from at l =
-      let e : p ≡ at + (p - at) = omega arith in
-      drop-append-le at (take p disk) (replicate k 0) (omega (arith, length-take-le p disk h))
-      ∙ ap (λ (t : List ℕ). t ++ replicate k 0) (ap (λ (x : ℕ). drop at (take x disk)) e ∙ drop-take at (p - at) disk)
-
-  front-part : (at n : ℕ) → at + n ≤ p → take n (drop at front) ≡ take n (drop at disk)
-  front-part at n l =
-      let d = length-drop at disk in
-      ap (take n) (front-from at (omega arith))
-      ∙ take-append-le n (take (p - at) (drop at disk)) (replicate k 0) (omega (arith, length-take-le (p - at) (drop at disk) (omega arith)))
-      ∙ take-take n (p - at) (drop at disk) (omega arith)
-
-  front-pointer : 0 < p → pointerOf front ≡ pointerOf disk
-  front-pointer l = List·getD-append (take p disk) (replicate k 0) 0 0 (omega (arith, length-take-le p disk h)) ∙ getD-take p disk 0 0 l
-
-  front-load : (pointer : ℕ) → 17307 ≤ p → loadOf pointer front ≡ loadOf pointer disk
-  unfolding loadOf
-  front-load pointer l =
-      let s = slot-within pointer in
-      rw (front-part (imageAt pointer) 8653 (omega arith))
-
-  front-log : (prev at : ℕ) → 17307 + at + groupsSize (readLog prev (logFrom at disk)) ≤ p → readLog prev (logFrom at front) ≡ readLog prev (logFrom at disk)
-  front-log prev at l =
-      ap (readLog prev) (front-from (17307 + at) (omega arith))
-      ∙ log-torn prev (readLog prev (logFrom at disk)) (logFrom at disk) (p - (17307 + at)) k refl
-      ∙ fitting-all (p - (17307 + at)) (readLog prev (logFrom at disk)) (omega arith)
+-- and the rest of the disk opens as before
+pub cleared-alike : (n end : ℕ) (disk : List ℕ) → OpenAlike (apply (take n (clearing end)) disk) disk
+cleared-alike n end disk =
+    subst (λ (ss : List Store). OpenAlike (apply (take n ss) disk) disk) (sym (clears-moved 17307 end (16384 - end)))
+    (log-stores-alike n (clears end (16384 - end)) disk)
 
 -- steps 2 to 5 look at the log's groups alone
 steps-same : (i : Image) (log log' m t : List ℕ) → groupsOf i log' ≡ groupsOf i log → recoverOf i log' m t ≡ recoverOf i log m t
 unfolding recoverOf forwardOf
 steps-same i log log' m t e = ap (λ (gs : List Group). afterSteps i (goOver i gs (startOf i m)) t) e
 
+-- and so disks that open alike, and have the same groups after the image, mean the same
+same-meaning : (x y : List ℕ) → OpenAlike x y → groupsOf (imageIn y) (logIn x) ≡ groupsOf (imageIn y) (logIn y) → examineOf x ≡ examineOf y
+unfolding examineOf stepsOf
+same-meaning x y a g =
+    let z : List ℕ = replicate 16384 0 in
+    let meaning : ℕ → Image → AfterSteps → Meaning = λ n i o. cond (eqb n 0) (ifFits (i .logend) o) (refusedBy n) in
+    ap (λ (n : ℕ). meaning n (imageIn x) (recoverOf (imageIn x) (logIn x) (memoryIn x) z)) (a .number)
+    ∙ ap (λ (i : Image). meaning (openOf y .number) i (recoverOf i (logIn x) (memoryIn x) z)) (a .image)
+    ∙ ap (λ (m : List ℕ). meaning (openOf y .number) (imageIn y) (recoverOf (imageIn y) (logIn x) m z)) (a .memory)
+    ∙ ap (meaning (openOf y .number) (imageIn y)) (steps-same (imageIn y) (logIn y) (logIn x) (memoryIn y) z g)
+
 module _ (disk : List ℕ) (d : length disk ≡ 33691) (a : Accepted disk) where
-  groups-size : imageIn disk .logend + groupsSize (groupsOf (imageIn disk) (logIn disk)) ≡ examineOf disk .result .end
+  abbrev end : ℕ
+  end = examineOf disk .result .end
+
+  groups-size : imageIn disk .logend + groupsSize (groupsOf (imageIn disk) (logIn disk)) ≡ end
   unfolding stepsOf
   groups-size =
       let e = ap (λ (m : Meaning). m .result .end) (a .is) in
       omega (arith, e, end-is (imageIn disk) (a .rules) (logIn disk) (memoryIn disk) (replicate 16384 0))
 
-  module _ (p k : ℕ) (h : p ≤ 33691) (l : 17307 + examineOf disk .result .end ≤ p) where
-    within : p ≤ length disk
-    within = omega arith
+  -- the groups after the image stand before the log's end
+  groups-again : (n : ℕ) → let left = apply (take n (clearing end)) disk in
+      groupsOf (imageIn disk) (logIn left) ≡ groupsOf (imageIn disk) (logIn disk)
+  groups-again n =
+      let left = apply (take n (clearing end)) disk in
+      let alike = cleared-alike n end disk in
+      let i = imageIn disk .logend in
+      let csn = imageIn disk .ondisk .0 in
+      let p = end + (16384 - end - n) in
+      let k = 16384 - end - (16384 - end - n) in
+      let room = roomy disk in
+      let size = groups-size in
+      let l = log-length disk d in
+      let gs = groupsOf (imageIn disk) (logIn disk) in
+      let log : logIn disk ≡ drop i (logPart disk) = opened-log disk (a .opened) in
+      let torn : logIn left ≡ take (p - i) (drop i (logPart disk)) ++ replicate k 0 =
+      opened-log left (alike .number ∙ a .opened)
+      ∙ ap (λ (x : Image). logFrom (x .logend) left) (alike .image)
+      ∙ ap (drop i) (cleared n end disk d (omega arith))
+      ∙ torn-rest csn (logPart disk) p k i (omega arith) (omega arith) in
+      ap (readLog csn) torn
+      ∙ log-torn csn gs (drop i (logPart disk)) (p - i) k (ap (readLog csn) (sym log))
+      ∙ fitting-all (p - i) gs (omega arith)
 
-    steps-front : stepsOf (imageIn disk) (memoryIn disk) (front p k disk within) ≡ stepsIn disk
-    unfolding stepsOf
-    steps-front =
-        steps-same (imageIn disk) (logIn disk) (logFrom (imageIn disk .logend) (front p k disk within)) (memoryIn disk) (replicate 16384 0)
-        (front-log p k disk within (imageIn disk .ondisk .0) (imageIn disk .logend) (omega (arith, groups-size)))
-
-    means-front : examineOf (front p k disk within) ≡ examineOf disk
-    means-front =
-        let b = front p k disk within in
-        let q : pointerOf b ≡ pointerOf disk = front-pointer p k disk within (omega arith) in
-        let f : loadOf (pointerOf b) b ≡ loadOf (pointerOf disk) disk = ap (λ (x : ℕ). loadOf x b) q
-        ∙ front-load p k disk within (pointerOf disk) (omega arith) in
-        let s = steps-front in
-        let fits = a .fits in
-        let low = a .low in
-        means b (omega arith) (loadOf (pointerOf disk) disk .decoded) (memoryIn disk) (sym (ap (λ (x : Loaded). x .decoded) f))
-        (sym (ap (λ (x : Loaded). x .memory) f)) (a .ok)
-        (subst (λ (o : AfterSteps). imageIn disk .logend + o .answer .end + 4 * o .answer .undone ≤ 16384) (sym s) fits)
-        ∙ ap (meant (imageIn disk .logend)) s
-        ∙ sym (a .is)
-
-  pub means-again : (n : ℕ) → examineOf (apply (take n (clearing (examineOf disk .result .end))) disk) ≡ examineOf disk
-  means-again n =
-      let end = examineOf disk .result .end in
-      let r = roomy disk in
-      ap examineOf (cleared n end disk d (omega arith))
-      ∙ means-front (17307 + end + (16384 - end - n)) (16384 - end - (16384 - end - n)) (omega arith) (omega arith)
+  pub means-again : (n : ℕ) → examineOf (apply (take n (clearing end)) disk) ≡ examineOf disk
+  means-again n = same-meaning (apply (take n (clearing end)) disk) disk (cleared-alike n end disk) (groups-again n)
 
 -- ---- restart after restart
 

@@ -1,4 +1,4 @@
--- Step 1 by cases, and the bytes that it takes from the disk.
+-- The image that a pointer byte names, and the bytes that are taken of it.
 use Prim.Native.Nat.{ℕ, _+_, _-_, _≤_}
 use native.Mathlib.Omega.{arith}
 use mathlib.Core.Bool.{Bool, true, false, cond}
@@ -9,6 +9,7 @@ use lib.ListN.{length, take, drop, length-drop}
 use lib.Seq.{sets, take-take, drop-drop, length-take-le}
 use lib.Dec.{eqb}
 use borrow.Author.Tests.{ne-eqb}
+use Rattle.layout.specs.Parts.{imageAt, imagePart}
 use Rattle.log.proofs.RoundTrip.{drop-take}
 use Rattle.log.proofs.StoreLaws.{sets-all}
 use Rattle.log.proofs.Basics.{clash}
@@ -18,8 +19,7 @@ use Rattle.image.specs.Reading.{memoryOf, readImage}
 use Rattle.image.specs.Decode.{Decoded, notDecoded, decodedOf}
 use Rattle.image.specs.Heads.{blankHeads, headsIn, headsIf, headsOf, imageBy, HeadsFit}
 use Rattle.image.proofs.HeadLaws.{read-shows, read-image, blank-shows, blank-image}
-use Rattle.disk.specs.Layout.{imageAt, imagePart}
-use Rattle.disk.specs.Examine.{noImage, imageNamed, loadOf}
+use Rattle.disk.specs.Open.{noImage, imageNamed, loadOf}
 use Rattle.disk.specs.Heads.{headsNamed}
 
 pub slot-within : (pointer : ℕ) → imageAt pointer ≤ 8654

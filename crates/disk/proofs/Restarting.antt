@@ -4,41 +4,37 @@ use native.Mathlib.Omega.{arith}
 use mathlib.Core.Bool.{Bool, true, false, cond, _&&_}
 use mathlib.Core.List.{List, _++_}
 use mathlib.Core.Path.{_≡_, refl, sym, ap, _∙_}
-use lib.ListN.{length, take, drop, length-drop}
+use lib.ListN.{length, take, drop}
 use lib.Dec.{eqb, ltb}
 use borrow.Author.Tests.{eq-eqb, ne-eqb, eqb-true, ltb-false}
+use Rattle.layout.specs.Parts.{logPart}
 use Rattle.log.specs.Stores.{Store, apply, clears}
-use Rattle.log.proofs.Basics.{clash, from}
+use Rattle.log.proofs.Basics.{clash}
+use Rattle.log.proofs.PartLaws.{clears-moved, within-clears, part-lent}
 use Rattle.log.proofs.StoreLaws.{length-clears}
 use Rattle.store.specs.Answer.{done}
 use Rattle.store.specs.Stored.{DiskOutcome, cutShort, madeWhole, carriedOut}
-use Rattle.store.proofs.Storing.{clears-moved, part-stored, carried-cut, carried-done}
+use Rattle.store.proofs.Storing.{carried-cut, carried-done}
 use Rattle.disk.specs.Layout.{lengthsOk}
 use Rattle.disk.specs.Examine.{Meaning, examineOf}
 use Rattle.disk.specs.Restart.{clearing, restartPlan, refusedRestart, refusedWith, ofMeaning, restartOf}
+use Rattle.disk.proofs.Opening.{log-length}
 
 pub clearing-length : (end : ℕ) → length (clearing end) ≡ 16384 - end
 clearing-length end = length-clears (17307 + end) (16384 - end)
 
--- the length of the log as it is lent, `&mut disk[17307..]`
-abbrev lent : List ℕ → ℕ
-lent d = length (take (length d - 17307) (drop 17307 d))
-
-lent-log : (d : List ℕ) → length d ≡ 33691 → lent d ≡ 16384
-lent-log d l = ap length (from d 17307) ∙ length-drop 17307 d ∙ omega arith
-
--- what clearing the lent log leaves on the disk, and how many stores that takes
-pub log-cleared : (n end : ℕ) (d ys : List ℕ) → length d ≡ 33691
-    → ys ≡ apply (take n (clears end (length (take (length d - 17307) (drop 17307 d)) - end))) (take (length d - 17307) (drop 17307 d))
-    → take 17307 d ++ (ys ++ drop (length d - 17307) (drop 17307 d)) ≡ apply (take n (clearing end)) d
-log-cleared n end d ys l e =
-    part-stored 17307 n (clears end (lent d - end)) d ys e
+-- what clearing the log leaves on the disk that it is lent of, and how many stores that takes
+pub log-cleared : (n end : ℕ) (d ys : List ℕ) → length d ≡ 33691 → end ≤ 16384 → ys ≡ apply (take n (clears end (length (logPart d) - end))) (logPart d)
+    → take 17307 d ++ (ys ++ drop 16384 (drop 17307 d)) ≡ apply (take n (clearing end)) d
+log-cleared n end d ys l h e =
+    let k = length (logPart d) - end in
+    part-lent 17307 16384 n (clears end k) d ys (within-clears 16384 end k (omega (arith, log-length d l, h))) e
     ∙ ap (λ (ss : List Store). apply (take n ss) d)
-    (sym (clears-moved 17307 end (lent d - end)) ∙ ap (λ (k : ℕ). clears (17307 + end) (k - end)) (lent-log d l))
+    (sym (clears-moved 17307 end k) ∙ ap (λ (j : ℕ). clears (17307 + end) (j - end)) (log-length d l))
 
-pub log-count : (end : ℕ) (d : List ℕ) → length d ≡ 33691 → length (clears end (length (take (length d - 17307) (drop 17307 d)) - end)) ≡ length (clearing end)
+pub log-count : (end : ℕ) (d : List ℕ) → length d ≡ 33691 → length (clears end (length (logPart d) - end)) ≡ length (clearing end)
 log-count end d l =
-    length-clears end (lent d - end) ∙ ap (λ (k : ℕ). k - end) (lent-log d l) ∙ sym (clearing-length end)
+    length-clears end (length (logPart d) - end) ∙ ap (λ (k : ℕ). k - end) (log-length d l) ∙ sym (clearing-length end)
 
 -- a disk that is accepted, with n stores allowed: cut or done
 abbrev pub cutFrom : Meaning → List ℕ → ℕ → DiskOutcome

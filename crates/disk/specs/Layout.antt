@@ -1,25 +1,15 @@
--- The disk (document 01, "Disk, memory, tail"): 33,691 bytes. "Place 0 is the pointer byte (0 no image, 1 image A, 2 image B). A is at 1 to
--- 8,653, B at 8,654 to 17,306, the log at 17,307 to 33,690."
-use Prim.Native.Nat.{ℕ, _+_}
-use mathlib.Core.Bool.{Bool, cond, _&&_}
+-- The log from a place of it on (the disk's parts: layout, specs/Parts.antt), and the lengths of what is lent.
+use Prim.Native.Nat.{ℕ}
+use mathlib.Core.Bool.{Bool, _&&_}
 use mathlib.Core.List.{List}
-use lib.ListN.{length, getD, take, drop}
+use lib.ListN.{length, drop}
 use lib.Dec.{eqb}
-use Rattle.layout.specs.{memoryLen, tailLen, diskLen, imageA, imageB, imageLen, logStart, namesA}
-
-abbrev pub pointerOf : List ℕ → ℕ
-pointerOf disk = getD disk 0 0
-
--- where the image stands that a pointer byte names
-abbrev pub imageAt : ℕ → ℕ
-imageAt pointer = cond (eqb pointer namesA) imageA imageB
-
-abbrev pub imagePart : ℕ → List ℕ → List ℕ
-imagePart pointer disk = take imageLen (drop (imageAt pointer) disk)
+use Rattle.layout.specs.{memoryLen, tailLen, diskLen}
+use Rattle.layout.specs.Parts.{logPart}
 
 -- the log from a place of it on
 abbrev pub logFrom : ℕ → List ℕ → List ℕ
-logFrom at disk = drop (logStart + at) disk
+logFrom at disk = drop at (logPart disk)
 
 -- each lent buffer has its length
 abbrev pub lengthsOk : List ℕ → List ℕ → List ℕ → Bool

@@ -1,5 +1,6 @@
--- The disk's layout, what a disk means, restart, the stores it needs, and equal in meaning.
+-- The log on the disk, a disk opened, what a disk means, restart, the stores it needs, and equal in meaning.
 pub mod Layout
+pub mod Open
 pub mod Examine
 pub mod Heads
 pub mod Restart

@@ -72,7 +72,7 @@ pub fn restart(disk: &mut [u8], memory: &mut [u8], tail: &mut [u8], allowed: usi
         return refused(found.number);
     }
     let end = found.end;
-    let made = clear_down(&mut disk[LOG_START..], end, allowed);
+    let made = clear_down(&mut disk[LOG_START..LOG_START + LOG_LEN], end, allowed);
     if made < LOG_LEN - end {
         let off = cut_off(memory, tail, made);
         let state = off.state;

@@ -23,7 +23,8 @@ use Rattle.store.specs.State.{unrecovered}
 use Rattle.store.specs.Rules.{unfit}
 use Rattle.store.specs.Stored.{carriedOut}
 use Rattle.store.specs.Steps.{begunState, writtenState, precommittedState, without, droppedState}
-use Rattle.disk.specs.Examine.{loadOf, refusedBy, stepsOf, examineOf}
+use Rattle.disk.specs.Open.{loadOf, notOpened, openOf}
+use Rattle.disk.specs.Examine.{refusedBy, stepsOf, examineOf}
 use Rattle.disk.specs.Restart.{recoveredState, restartOf}
 use Rattle.text.specs.{decimal}
 use Rattle.listing.specs.Lines.{line, foundText}
@@ -46,7 +47,7 @@ quickShown r = quickShowing (r .look) (quickRun (r .calls) start)
 computed : map quickShown rows ≡ map (λ r. some (r .expected)) rows
 unfolding undoOrder readRecord readRedo readCommit readAbort run all readBody readGroup readLog emptyRecords emptyTx headOk stateOk heldAgainst pushed freshTx
     written precommitted loaded packedTxs packed emptyImage undoHere readTx readContent memoryOf past forwardOf isRunning isLost runningOf lostOf
-    recoverOf unrecovered unfit begunState writtenState precommittedState without droppedState loadOf refusedBy stepsOf examineOf recoveredState
+    recoverOf unrecovered unfit begunState writtenState precommittedState without droppedState loadOf notOpened openOf refusedBy stepsOf examineOf recoveredState
     restartOf carriedOut decimal line foundText listingOf
 computed = refl
 

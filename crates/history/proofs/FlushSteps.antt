@@ -12,11 +12,12 @@ use Rattle.recovery.specs.Machine.{Disk, standingIn, Live, down, up, flushes, f
 use Rattle.recovery.proofs.Groups.{groupsSize-append, fitting-all}
 use Rattle.recovery.proofs.Log.{stored-before, stored-stands}
 use Rattle.log.specs.Log.{readLog, encodeLog}
-use Rattle.log.specs.Stores.{apply, shifted}
+use Rattle.log.specs.Stores.{Store, apply, copies, shifted}
 use Rattle.log.proofs.Parts.{encode-append, formed-first}
-use Rattle.log.proofs.RoundTrip.{drop-take, length-log, log-same}
+use Rattle.log.proofs.PartLaws.{copies-moved, part-copied}
+use Rattle.log.proofs.RoundTrip.{length-log, log-same}
 use Rattle.log.proofs.Soundness.{log-formed}
-use Rattle.log.proofs.StoreLaws.{drop-zeros, length-apply, copies-cut, length-shifted}
+use Rattle.log.proofs.StoreLaws.{drop-zeros, length-apply, length-shifted}
 use Rattle.log.proofs.Torn.{log-cut}
 use Rattle.store.specs.declared.State.{State}
 use Rattle.store.specs.Flush.{firstGroups, firstSize, flushedState, flushedTail, flushStores, flushPlan, flushOf}
@@ -24,11 +25,12 @@ use Rattle.store.specs.View.{live}
 use Rattle.store.proofs.Fits.{Fit, fit, unfit-no}
 use Rattle.store.proofs.Storing.{diskNumber, stored-cut, stored-done}
 use Rattle.store.proofs.Flushing.{flush-length, flush-room, flush-tail, flush-keeps}
-use Rattle.store.proofs.Checkpointing.{sets-before}
 use Rattle.store.proofs.Stepping.{same-or-other}
+use Rattle.disk.specs.Layout.{logFrom}
+use Rattle.disk.proofs.Opening.{log-length, OpenAlike, log-stores-alike}
 use Rattle.history.specs.Calls.{flush, stored, World, stepOf}
 use Rattle.history.proofs.Padded.{padded, padded-front, padded-shifted}
-use Rattle.history.proofs.OnDisk.{Start, OnDisk, same-front}
+use Rattle.history.proofs.OnDisk.{Start, OnDisk, same-opened}
 use Rattle.history.proofs.Shows.{Neat, LiveOn, awake, rests, cut-rests, FollowsBy, refused-follows, flush-refuses}
 
 module _ {from : Start} (w : World) (d : Disk) (l : Live) (o : OnDisk from (w .disk) d) (v : LiveOn w d l)
@@ -49,8 +51,9 @@ module _ {from : Start} (w : World) (d : Disk) (l : Live) (o : OnDisk from (w .d
   abbrev size : ℕ
   size = firstSize s t k
 
-  abbrev at : ℕ
-  at = 17307 + s .logend
+  -- the log before
+  abbrev log : List ℕ
+  log = logFrom 0 (w .disk)
 
   fits : Fit s t
   fits = fit s t (v .fits)
@@ -92,49 +95,58 @@ module _ {from : Start} (w : World) (d : Disk) (l : Live) (o : OnDisk from (w .d
     abbrev new : List ℕ
     new = take n (encodeLog firsts)
 
-    room : at + size ≤ 33691
+    room : s .logend + size ≤ 16384
     room = omega (arith, flush-room s t k fits)
 
     new-length : length new ≤ size
     new-length = omega (arith, length-take n (encodeLog firsts), length-log firsts)
 
-    left-is : left ≡ sets (w .disk) at new
-    left-is = copies-cut n at (take size t) (w .disk) ∙ ap (λ (x : List ℕ). sets (w .disk) at (take n x)) bytes
+    left-is : logFrom 0 left ≡ sets log (s .logend) new
+    left-is = part-copied 17307 16384 n (s .logend) (take size t) (w .disk) ∙ ap (λ (x : List ℕ). sets log (s .logend) (take n x)) bytes
 
     left-length : length left ≡ 33691
     left-length = length-apply (take n (flushStores s t k)) (w .disk) ∙ o .long
 
-    kept : (j : ℕ) → j ≤ at → take j left ≡ take j (w .disk)
-    kept j h = ap (take j) left-is ∙ sets-before new (w .disk) at j h
+    -- in three parts
+    parts : logFrom 0 left ≡ take (s .logend) log ++ (new ++ drop (s .logend + length new) log)
+    parts =
+        let l = log-length (w .disk) (o .long) in
+        left-is ∙ sets-eq new log (s .logend) (omega (arith, l, new-length, room))
+        ∙ append-assoc (take (s .logend) log) new (drop (s .logend + length new) log)
+
+    front-length : length (take (s .logend) log) ≡ s .logend
+    front-length = let l = log-length (w .disk) (o .long) in length-take-le (s .logend) log (omega (arith, l, room))
 
     -- what stands from the log's old end on
-    behind : drop at left ≡ new ++ replicate (16384 - s .logend - length new) 0
+    behind : logFrom (s .logend) left ≡ new ++ replicate (16384 - s .logend - length new) 0
     behind =
-        ap (drop at)
-        (left-is ∙ sets-eq new (w .disk) at (omega (arith, o .long, new-length, room))
-        ∙ append-assoc (take at (w .disk)) new (drop (at + length new) (w .disk)))
-        ∙ drop-at (take at (w .disk)) (new ++ drop (at + length new) (w .disk)) at (length-take-le at (w .disk) (omega (arith, o .long, room)))
+        ap (drop (s .logend)) parts
+        ∙ drop-at (take (s .logend) log) (new ++ drop (s .logend + length new) log) (s .logend) front-length
         ∙ ap (λ (x : List ℕ). new ++ x)
-        (sym (drop-drop (length new) at (w .disk)) ∙ ap (drop (length new)) (v .zeros) ∙ drop-zeros (length new) (16384 - s .logend))
+        (sym (drop-drop (length new) (s .logend) log) ∙ ap (drop (length new)) (v .zeros) ∙ drop-zeros (length new) (16384 - s .logend))
 
     -- the groups that were stored whole are read after those that stood there
-    log-left : readLog (from .csn) (drop 17307 left) ≡ standingIn d ++ fitting n firsts
+    log-left : readLog (from .csn) (logFrom 0 left) ≡ standingIn d ++ fitting n firsts
     log-left =
         let gs = standingIn d in
-        let same : take (groupsSize gs) (drop 17307 left) ≡ take (groupsSize gs) (drop 17307 (w .disk)) =
-        ap (λ (j : ℕ). take j (drop 17307 left)) (sym (v .end))
-        ∙ sym (drop-take 17307 (s .logend) left)
-        ∙ ap (drop 17307) (kept at (omega arith))
-        ∙ drop-take 17307 (s .logend) (w .disk)
-        ∙ ap (λ (j : ℕ). take j (drop 17307 (w .disk))) (v .end) in
-        log-same (from .csn) gs (drop 17307 (w .disk)) (drop 17307 left) (o .log) same
+        let same : take (groupsSize gs) (logFrom 0 left) ≡ take (groupsSize gs) log =
+        ap (λ (j : ℕ). take j (logFrom 0 left)) (sym (v .end))
+        ∙ ap (take (s .logend)) parts
+        ∙ take-at (take (s .logend) log) (new ++ drop (s .logend + length new) log) (s .logend) front-length
+        ∙ ap (λ (j : ℕ). take j log) (v .end) in
+        log-same (from .csn) gs log (logFrom 0 left) (o .log) same
         ∙ ap (λ (hs : List Group). gs ++ hs)
-        (ap₂ readLog number (drop-drop (groupsSize gs) 17307 left ∙ ap (λ (j : ℕ). drop (17307 + j) left) (sym (v .end)) ∙ behind)
+        (ap₂ readLog number (ap (λ (j : ℕ). logFrom j left) (sym (v .end)) ∙ behind)
         ∙ log-cut (s .ondisk .0) firsts n (16384 - s .logend - length new) (formed-first k (s .ondisk .0) groups (log-formed (s .ondisk .0) groups t refl)))
+
+    left-alike : OpenAlike left (w .disk)
+    left-alike =
+        subst (λ (ss : List Store). OpenAlike (apply (take n ss) (w .disk)) (w .disk)) (sym (copies-moved 17307 (s .logend) (take size t)))
+        (log-stores-alike n (copies (s .logend) (take size t)) (w .disk))
 
     shows-left : (gs : List Group) → fitting n firsts ≡ gs → OnDisk from left (storing gs d)
     shows-left gs e =
-        same-front (w .disk) left d (storing gs d) o left-length (kept 17307 (omega arith)) refl (stored-before gs d)
+        same-opened (w .disk) left d (storing gs d) o left-length left-alike refl (stored-before gs d)
         (log-left ∙ ap (λ (hs : List Group). standingIn d ++ hs) e ∙ sym (stored-stands gs d))
 
   -- ---- the call
@@ -165,11 +177,9 @@ module _ {from : Start} (w : World) (d : Disk) (l : Live) (o : OnDisk from (w .d
       let enough : groupsSize gs ≤ a = omega (arith, h, ap groupsSize firsts-same) in
       let whole : new a ≡ encodeLog firsts = take-all a (encodeLog firsts) (omega (arith, length-log firsts, h)) in
       let n : length (new a) ≡ size = ap length whole ∙ length-log firsts in
-      let place : 17307 + (s .logend + size) ≡ at + size = omega arith in
       let rest : 16384 - s .logend - length (new a) ≡ 16384 - (s .logend + size) = omega (arith, n) in
-      let zeros : drop (17307 + (s .logend + size)) (left a) ≡ replicate (16384 - (s .logend + size)) 0 =
-      ap (λ (j : ℕ). drop j (left a)) place
-      ∙ sym (drop-drop size at (left a))
+      let zeros : logFrom (s .logend + size) (left a) ≡ replicate (16384 - (s .logend + size)) 0 =
+      sym (drop-drop size (s .logend) (logFrom 0 (left a)))
       ∙ ap (drop size) (behind a)
       ∙ drop-at (new a) (replicate (16384 - s .logend - length (new a)) 0) size n
       ∙ ap (λ (j : ℕ). replicate j 0) rest in

@@ -34,6 +34,7 @@ use Rattle.store.proofs.Views.{listed-view, tail-csn, commitOf, commit-appends,
 use Rattle.store.proofs.Views.{abort-live, settle-live}
 use Rattle.store.proofs.Premises.{held-view, room-view}
 use Rattle.store.proofs.Keeping.{Kept, begin-keeps, write-keeps, precommit-keeps, abort-keeps, settle-keeps}
+use Rattle.disk.specs.Layout.{logFrom}
 use Rattle.history.specs.Calls.{Call, begin, write, precommit, abort, settle, World, Stepped, returned, changed, stepOf}
 use Rattle.history.specs.Demand.{eventOf}
 use Rattle.history.proofs.OnDisk.{Start, opens, OnDisk}
@@ -83,7 +84,7 @@ module _ {from : Start} (w : World) (d : Disk) (l : Live) (o : OnDisk from (w .d
     sizes = k .sizes;
     view = view;
     end = same .0 ∙ v .end;
-    zeros = subst (λ (n : ℕ). drop (17307 + n) (w .disk) ≡ replicate (16384 - n) 0) (sym (same .0)) (v .zeros);
+    zeros = subst (λ (n : ℕ). logFrom n (w .disk) ≡ replicate (16384 - n) 0) (sym (same .0)) (v .zeros);
     neat = subst (λ (n : ℕ). Neat n t') (sym (same .1)) neat;
   }
 

@@ -1,15 +1,15 @@
 -- Restart, the quick way, is right.
 use Prim.Native.Nat.{ℕ, _+_, _-_, _*_, _≤_, _<_}
 use native.Mathlib.Omega.{arith}
-use mathlib.Core.List.{List, _++_}
+use mathlib.Core.List.{List, [], _++_, append-nil}
 use mathlib.Core.Path.{_≡_, sym, ap, _∙_}
-use lib.ListN.{length, take, replicate}
+use lib.ListN.{length, take, drop, replicate, drop-of-length-le}
 use lib.Dec.{eqb}
 use borrow.Author.Tests.{eqb-true}
 use Rattle.recovery.specs.Restart.{aborts}
 use Rattle.log.specs.Log.{encodeLog}
-use Rattle.log.specs.Stores.{apply}
-use Rattle.log.proofs.StoreLaws.{length-apply, length-clears}
+use Rattle.log.specs.Stores.{Store, apply}
+use Rattle.log.proofs.StoreLaws.{first-clears, apply-clears, length-apply, length-clears}
 use Rattle.image.proofs.Rules.{image-count}
 use Rattle.restart.proofs.Undos.{aborts-length}
 use Rattle.restart.proofs.Recovery.{undoneBy, undone-few, tail-is}
@@ -20,7 +20,6 @@ use Rattle.disk.specs.Restart.{recoveredState, clearing, restartOf}
 use Rattle.disk.proofs.Examining.{roomy}
 use Rattle.disk.proofs.Accepted.{imageIn, memoryIn, logIn, Accepted, accepted-is, memory-length}
 use Rattle.disk.proofs.Restarting.{restart-cut, restart-done}
-use Rattle.disk.proofs.Again.{cleared}
 use Rattle.history.specs.Calls.{restart, stored, World, stepOf}
 use Rattle.history.proofs.Padded.{padded, padded-length}
 use Rattle.history.proofs.Quick.{widened, Lengths, telling, cutting, here, restartQuick}
@@ -66,8 +65,18 @@ module _ (d m bs : List ℕ) (s : State) (l : Lengths d m bs) where
     abbrev left : List ℕ
     left = take (17307 + meaning .result .end + (need - a)) d ++ replicate (need - (need - a)) 0
 
+    -- the disk ends with the log
     left-is : apply (take a (clearing (meaning .result .end))) d ≡ left
-    left-is = let fits = roomy d in cleared a (meaning .result .end) d (l .disk) (omega arith)
+    left-is =
+        let fits = roomy d in
+        let long = l .disk in
+        let low = 17307 + meaning .result .end + (need - a) in
+        let k = need - (need - a) in
+        let none : drop (low + k) d ≡ [] = drop-of-length-le d {i = low + k} (omega arith) in
+        ap (λ (ss : List Store). apply ss d) (first-clears a (17307 + meaning .result .end) need)
+        ∙ apply-clears low k d (omega arith)
+        ∙ ap (λ (x : List ℕ). take low d ++ (replicate k 0 ++ x)) none
+        ∙ ap (λ (x : List ℕ). take low d ++ x) (append-nil (replicate k 0))
 
     left-length : length left ≡ 33691
     left-length = ap length (sym left-is) ∙ length-apply (take a (clearing (meaning .result .end))) d ∙ l .disk

@@ -5,7 +5,7 @@ use native.Mathlib.Omega.{arith}
 use mathlib.Core.List.{List, [], _++_}
 use mathlib.Core.Path.{_≡_, refl, sym, ap, ap₂, _∙_, subst}
 use lib.ListN.{length, take, drop, replicate, length-replicate}
-use lib.Seq.{length-take-le, take-append-le, drop-append-le, take-take, drop-at}
+use lib.Seq.{length-take-le, drop-at}
 use Rattle.recovery.specs.Group.{Group, groupsSize, lastCsn}
 use Rattle.recovery.specs.Lists.{All}
 use Rattle.recovery.specs.Transaction.{Tx}
@@ -15,7 +15,6 @@ use Rattle.recovery.specs.Machine.{Disk, standingBefore, standingIn, System, do
 use Rattle.recovery.proofs.Groups.{fitting-all}
 use Rattle.log.specs.Log.{readLog, encodeLog}
 use Rattle.log.specs.Stores.{apply}
-use Rattle.log.proofs.RoundTrip.{drop-take}
 use Rattle.log.proofs.StoreLaws.{length-apply}
 use Rattle.log.proofs.Torn.{log-torn}
 use Rattle.transaction.specs.declared.Tx.{Tx as Slot}
@@ -26,15 +25,17 @@ use Rattle.restart.proofs.Recovery.{last-above-image, last-above-groups}
 use Rattle.store.specs.declared.State.{State}
 use Rattle.store.specs.View.{live}
 use Rattle.store.proofs.Stepping.{SizedState}
+use Rattle.disk.specs.Layout.{logFrom}
 use Rattle.disk.specs.Examine.{Meaning, stepsOf, examineOf}
 use Rattle.disk.specs.Restart.{recoveredState, clearing, restartOf}
+use Rattle.disk.proofs.Opening.{log-length}
 use Rattle.disk.proofs.Accepted.{imageIn, memoryIn, logIn, stepsIn, Accepted, memory-length, tail-length}
 use Rattle.disk.proofs.Restarting.{cutFrom, doneFrom, restart-cut, restart-done}
 use Rattle.disk.proofs.Usable.{tail-reads, usable}
-use Rattle.disk.proofs.Again.{cleared}
+use Rattle.disk.proofs.Again.{cleared, cleared-alike}
 use Rattle.history.specs.Calls.{restart, stored, World, stepOf}
 use Rattle.history.proofs.Padded.{padded}
-use Rattle.history.proofs.OnDisk.{Start, opens, OnDisk, same-front, groups-after, undone-shown, accepts, number-none, end-shown, count-shown, csn-shown}
+use Rattle.history.proofs.OnDisk.{Start, opens, OnDisk, same-opened, groups-after, undone-shown, accepts, number-none, end-shown, count-shown, csn-shown}
 use Rattle.history.proofs.OnDisk.{memory-shown, tail-shown}
 use Rattle.history.proofs.Shows.{Neat, LiveOn, awake, rests, cut-rests, FollowsBy}
 
@@ -60,35 +61,22 @@ module _ {from : Start} (disk : List ℕ) (d : Disk) (o : OnDisk from disk d) (n
     left = apply (take k (clearing end)) disk
 
     abbrev front : ℕ
-    front = 17307 + end + (16384 - end - k)
+    front = end + (16384 - end - k)
 
-    abbrev zeros : List ℕ
-    zeros = replicate (16384 - end - (16384 - end - k)) 0
+    abbrev zeros : ℕ
+    zeros = 16384 - end - (16384 - end - k)
 
-    left-is : left ≡ take front disk ++ zeros
+    left-is : logFrom 0 left ≡ take front (logFrom 0 disk) ++ replicate zeros 0
     left-is = cleared k end disk (o .long) (omega (arith, ends, room))
 
-    front-length : length (take front disk) ≡ front
-    front-length = length-take-le front disk (omega (arith, o .long, ends, room))
-
-    same : take 17307 left ≡ take 17307 disk
-    same =
-        ap (take 17307) left-is
-        ∙ take-append-le 17307 (take front disk) zeros (omega (arith, front-length))
-        ∙ take-take 17307 front disk (omega arith)
-
-    pub log-left : readLog (from .csn) (drop 17307 left) ≡ standingIn d
+    pub log-left : readLog (from .csn) (logFrom 0 left) ≡ standingIn d
     log-left =
-        let j = end + (16384 - end - k) in
-        let e : front ≡ 17307 + j = omega arith in
-        ap (λ (x : List ℕ). readLog (from .csn) (drop 17307 x)) left-is
-        ∙ ap (readLog (from .csn)) (drop-append-le 17307 (take front disk) zeros (omega (arith, front-length)))
-        ∙ ap (λ (x : List ℕ). readLog (from .csn) (x ++ zeros)) (ap (λ (i : ℕ). drop 17307 (take i disk)) e ∙ drop-take 17307 j disk)
-        ∙ log-torn (from .csn) (standingIn d) (drop 17307 disk) j (16384 - end - (16384 - end - k)) (o .log)
-        ∙ fitting-all j (standingIn d) (omega (arith, ends))
+        ap (readLog (from .csn)) left-is
+        ∙ log-torn (from .csn) (standingIn d) (logFrom 0 disk) front zeros (o .log)
+        ∙ fitting-all front (standingIn d) (omega (arith, ends))
 
     shows-left : OnDisk from left d
-    shows-left = same-front disk left d d o (length-apply (take k (clearing end)) disk ∙ o .long) same refl refl log-left
+    shows-left = same-opened disk left d d o (length-apply (take k (clearing end)) disk ∙ o .long) (cleared-alike k end disk) refl refl log-left
 
   -- ---- the state, memory and tail of a restart that is done
 
@@ -133,7 +121,7 @@ module _ {from : Start} (disk : List ℕ) (d : Disk) (o : OnDisk from disk d) (n
       → LiveOn (record { disk = left k; memory = examineOf disk .memory; tail = examineOf disk .tail; state = state }) d (afterRestart d last)
   unfolding recoveredState
   lives k h =
-      let e : 17307 + end + (16384 - end - k) ≡ 17307 + end = omega arith in
+      let e : front k ≡ end = omega arith in
       let z : 16384 - end - (16384 - end - k) ≡ 16384 - end = omega arith in
       record {
         memory = memory-length disk (o .long) ok;
@@ -143,7 +131,10 @@ module _ {from : Start} (disk : List ℕ) (d : Disk) (o : OnDisk from disk d) (n
         view = view;
         end = ends;
         zeros =
-            ap (drop (17307 + end)) (left-is k) ∙ drop-at (take (front k) disk) (zeros k) (17307 + end) (front-length k ∙ e) ∙ ap (λ (j : ℕ). replicate j 0) z;
+            ap (drop end) (left-is k)
+            ∙ drop-at (take (front k) (logFrom 0 disk)) (replicate (zeros k) 0) end
+            (length-take-le (front k) (logFrom 0 disk) (omega (arith, log-length disk (o .long), ends, room)) ∙ e)
+            ∙ ap (λ (j : ℕ). replicate j 0) z;
         neat = neat (examineOf disk .result .csn .0);
       }
 

@@ -30,6 +30,7 @@ use Rattle.store.proofs.Appending.{appended-log}
 use Rattle.store.proofs.Stepping.{SizedState, same-or-other}
 use Rattle.store.proofs.Fits.{Fit}
 use Rattle.store.proofs.Views.{Appends, tail-zeros}
+use Rattle.disk.specs.Layout.{logFrom}
 use Rattle.history.specs.Calls.{Call, begin, write, read, readAnswer, precommit, abort, flush, settle, checkpoint, World, Stepped, returned, changed}
 use Rattle.history.specs.Calls.{stored, stepOf}
 use Rattle.history.specs.Demand.{eventOf}
@@ -47,7 +48,7 @@ pub record LiveOn (w : World) (d : Disk) (l : Live) : Type 0 where
   pub sizes : SizedState (w .state)
   pub view : live (w .state) (w .memory) (w .tail) ≡ l
   pub end : w .state .logend ≡ groupsSize (standingIn d)
-  pub zeros : drop (17307 + w .state .logend) (w .disk) ≡ replicate (16384 - w .state .logend) 0
+  pub zeros : logFrom (w .state .logend) (w .disk) ≡ replicate (16384 - w .state .logend) 0
   pub neat : Neat (w .state .ondisk .0) (w .tail)
 
 -- nothing but a restart goes on

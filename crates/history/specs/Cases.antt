@@ -3,14 +3,14 @@
 use Prim.Native.Nat.{ℕ, zero, suc}
 use mathlib.Core.List.{List, [], _∷_, _++_, map, reverse}
 use mathlib.Core.Path.{_≡_}
-use lib.ListN.{getD, take, drop, replicate}
+use lib.ListN.{getD, take, replicate}
 use Rattle.recovery.specs.Transaction.{Tx}
 use Rattle.recovery.specs.Replay.{undoAll, undoEach, layBytes}
 use Rattle.recovery.specs.Restart.{undoOf, undoOrder}
 use Rattle.image.specs.Content.{transactionsIn}
 use Rattle.store.specs.Answer.{done, cut, refused}
-use Rattle.disk.specs.Layout.{pointerOf}
-use Rattle.disk.specs.Examine.{Loaded, loadOf}
+use Rattle.disk.specs.Layout.{logFrom}
+use Rattle.disk.specs.Open.{openOf}
 use Rattle.text.specs.{ascii}
 use Rattle.listing.specs.Listing.{listingOf}
 use Rattle.history.specs.Calls.{Call, begin, write, read, readAnswer, precommit, abort, flush, settle, checkpoint, restart}
@@ -33,7 +33,7 @@ abbrev pub nowhere : World → List ℕ
 nowhere w = []
 
 abbrev pub logFront : ℕ → World → List ℕ
-logFront n w = take n (drop 17307 (w .disk))
+logFront n w = take n (logFrom 0 (w .disk))
 
 abbrev pub endOfLog : World → List ℕ
 endOfLog w = w .state .logend ∷ []
@@ -58,11 +58,8 @@ both f g w = f w ++ g w
 
 -- ---- what a wrong restart would leave of the image on the disk
 
-abbrev pub imageInUse : World → Loaded
-imageInUse w = loadOf (pointerOf (w .disk)) (w .disk)
-
 abbrev pub imageTxs : World → List Tx
-imageTxs w = transactionsIn (imageInUse w .decoded .image)
+imageTxs w = transactionsIn (openOf (w .disk) .image)
 
 -- memory as restart left it, and the transaction undone once more
 abbrev pub undoneAgain : ℕ → World → List ℕ
@@ -70,7 +67,7 @@ undoneAgain id w = undoAll layBytes (undoOf id (imageTxs w)) (w .memory)
 
 -- the image's memory, and what step 4 undoes where no commit was found, in the reverse of its order
 abbrev pub undoneOtherWay : World → List ℕ
-undoneOtherWay w = undoEach layBytes (reverse (undoOrder (imageTxs w) 0)) (imageInUse w .memory)
+undoneOtherWay w = undoEach layBytes (reverse (undoOrder (imageTxs w) 0)) (openOf (w .disk) .memory)
 
 -- ---- calls and replies that recur
 

@@ -1,5 +1,6 @@
--- Sizes, offsets, counts and statuses of document 01, each said once.
+-- Sizes, offsets, counts and statuses of document 01, each said once; the parts of a disk in Parts.
 use Prim.Native.Nat.{ℕ}
+pub mod Parts
 
 -- "Memory: 4,096 bytes", "Tail: 16,384 bytes", "Disk: 33,691 bytes"
 abbrev pub memoryLen : ℕ

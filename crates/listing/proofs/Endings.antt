@@ -11,6 +11,7 @@ use lib.Dec.{eqb, ltb}
 use borrow.Author.Tests.{eqb-true, eqb-false, ne-eqb, ltb-true, ltb-false}
 use types.Run.{OneOf}
 use denote.Enum.Declared.{tagOf}
+use Rattle.layout.specs.Parts.{pointerOf}
 use Rattle.log.proofs.Basics.{clash}
 use Rattle.store.proofs.Answer.{the-type}
 use Rattle.store.specs.declared.Answer.{Answer}
@@ -19,7 +20,6 @@ use Rattle.store.specs.Answer.{cut, word, Told}
 use Rattle.store.specs.Answer as words
 use Rattle.store.specs.Stored.{DiskOutcome}
 use Rattle.disk.specs.declared.call.Restarted.{Restarted}
-use Rattle.disk.specs.Layout.{pointerOf}
 use Rattle.disk.specs.Examine.{examineOf}
 use Rattle.disk.specs.Restart.{ofRestarted, refusedRestart, restartOf}
 use Rattle.disk.proofs.Examining.{roomy}

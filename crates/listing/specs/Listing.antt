@@ -4,9 +4,9 @@ use mathlib.Core.List.{List, [], _++_}
 use mathlib.Core.Path.{_≡_}
 use lib.ListN.{length, take, replicate}
 use Rattle.layout.specs.{memoryLen, tailLen, logLen}
+use Rattle.layout.specs.Parts.{pointerOf}
 use Rattle.store.specs.Answer.{Word, done, cut, refused, Told}
 use Rattle.store.specs.Stored.{DiskOutcome}
-use Rattle.disk.specs.Layout.{pointerOf}
 use Rattle.disk.specs.Restart.{restartOf}
 use Rattle.listing.specs.Lines.{foundText, refusedText}
 

@@ -13,7 +13,7 @@ use store::Answer;
 ghost use mathlib.Core.List.{_++_};
 ghost use mathlib.Core.Path.{_≡_};
 ghost use lib.ListN.{take, drop};
-ghost use Rattle.disk.specs.Layout.{pointerOf};
+ghost use Rattle.layout.specs.Parts.{pointerOf};
 ghost use Rattle.listing.specs.Listing.{restartWhole, listingOf, Printed, PrintedWhole};
 
 // 0 of no bytes at all, which restart refuses.

@@ -1,6 +1,6 @@
 -- The laws of the log's format, by what they say: reading (Reader, RecordLaws, GroupLaws, LogLaws), what the code's answers say (Inversions),
 -- round trip and prefix (RoundTrip), soundness (Soundness), cut and zeroed lists (Torn), parts of a log (Parts), stores (StoreLaws,
--- FlatLaws); worked cases (Cases).
+-- FlatLaws), stores into a part of a disk and beside it (PartLaws); worked cases (Cases).
 pub mod Basics
 pub mod Reader
 pub mod RecordLaws
@@ -13,4 +13,5 @@ pub mod Torn
 pub mod Parts
 pub mod StoreLaws
 pub mod FlatLaws
+pub mod PartLaws
 pub mod Cases

@@ -105,7 +105,7 @@ module _ (prev : ℕ) (s : List ℕ) (j m : ℕ) where
       group-same prev s (take j s ++ replicate m 0) g e
       (take-append-le (groupSize g) (take j s) (replicate m 0) (omega arith) ∙ take-take (groupSize g) j s h)
 
-  torn-rest : (n : ℕ) → n ≤ j → n ≤ length s → drop n (take j s ++ replicate m 0) ≡ take (j - n) (drop n s) ++ replicate m 0
+  pub torn-rest : (n : ℕ) → n ≤ j → n ≤ length s → drop n (take j s ++ replicate m 0) ≡ take (j - n) (drop n s) ++ replicate m 0
   torn-rest n h l =
       let d = length-take j s in
       let e : j ≡ n + (j - n) = omega arith in

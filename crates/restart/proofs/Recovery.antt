@@ -29,8 +29,9 @@ use Rattle.restart.specs.Slots.{transactionAt, filterBelow}
 use Rattle.restart.specs.Forward.{startOf, groupsOf, forwardOf}
 use Rattle.restart.specs.Undo.{isRunning, isLost, runningAt, lostAt, lostBy, runningOf, lostOf, undoneOf}
 use Rattle.restart.specs.Restart.{recoverOf}
+use Rattle.restart.specs.Turns.{undoneList, undoneIds, abortsLaid}
 use Rattle.restart.proofs.SlotLaws.{filter-up, txs-up}
-use Rattle.restart.proofs.Undos.{aborts-length}
+use Rattle.restart.proofs.Undos.{aborts-length, laid-all}
 use Rattle.restart.proofs.Passed.{highestId, ids-below, counted, firstCode, codes-from, unused-codes, Marks, Seen, seen}
 
 abbrev pub zeros : ℕ → List ℕ
@@ -194,6 +195,14 @@ module _ (image : Image) (ok : keepsRules image ≡ true) where
       pub code-unused : (i : ℕ) → image .count ≤ i → getD (recoverOf image log m tail .answer .found) i 0 ≡ 0
       unfolding recoverOf forwardOf
       code-unused i h = unused-codes image (groupsOf image log) (startOf image m) i h ∙ zero-at 8 i
+
+      -- the abort records of the ids handed on make the tail
+      pub laid-tail : abortsLaid (undoneIds image log m) (recoverOf image log m tail .answer .undone) tail ≡ recoverOf image log m tail .tail
+      unfolding recoverOf undoneIds undoneList
+      laid-tail =
+          let few = undone-few image log in
+          let most = image-count image ok in
+          laid-all (undoneOf image (forwardOf image log m .pass)) tail (omega (arith, ap length undone-is))
 
     -- ---- the tail
 

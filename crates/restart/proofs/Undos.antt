@@ -2,7 +2,7 @@
 use Prim.Native.Nat.{ℕ, suc, _+_, _*_, _≤_, _<_}
 use native.Mathlib.Omega.{arith}
 use native.Mathlib.Numerals.{add-one}
-use mathlib.Core.List.{List, [], _∷_, _++_, append-assoc, map}
+use mathlib.Core.List.{List, [], _∷_, _++_, map}
 use mathlib.Core.Path.{_≡_, refl, sym, ap, ap₂, _∙_}
 use lib.ListN.{length, getD, set, take, replicate, length-append, length-map}
 use lib.Seq.{sets, sets-eq, take-suc, take-append-le, take-all, length-take-le}
@@ -13,8 +13,8 @@ use Rattle.recovery.specs.Restart.{aborts}
 use Rattle.recovery.proofs.Groups.{undoEach-append}
 use Rattle.log.specs.declared.TxId.{TxId}
 use Rattle.log.specs.Record.{encode, abort}
-use Rattle.log.specs.Group.{encodeGroup}
 use Rattle.log.specs.Log.{encodeLog}
+use Rattle.log.proofs.Parts.{encode-append}
 use Rattle.log.proofs.StoreLaws.{sets-append}
 use Rattle.image.specs.declared.Image.{Image}
 use Rattle.restart.specs.declared.forward.Pass.{Pass}
@@ -22,7 +22,7 @@ use Rattle.restart.specs.declared.undo.Undone.{Undone}
 use Rattle.restart.specs.Forward.{Went, wentBy, forwardOf}
 use Rattle.restart.specs.Undo.{undoneOf}
 use Rattle.restart.specs.Restart.{AfterSteps, afterSteps, recoverOf}
-use Rattle.restart.specs.Turns.{txIdOf, undoneList, abortOf, abortsLaid}
+use Rattle.restart.specs.Turns.{txIdOf, undoneList, undoneIds, abortOf, abortsLaid}
 
 pub aborts-length : (ts : List Tx) → length (encodeLog (aborts ts)) ≡ length ts * 4
 aborts-length [] = refl
@@ -67,11 +67,6 @@ undid-all ts m m₁ ids k a = ap₂ (λ (n : ℕ) (l : List TxId). record { coun
 
 -- ---- their abort records
 
-encode-append : (xs ys : List Group) → encodeLog (xs ++ ys) ≡ encodeLog xs ++ encodeLog ys
-encode-append [] ys = refl
-encode-append (g ∷ xs) ys =
-    ap (λ (l : List ℕ). encodeGroup g ++ l) (encode-append xs ys) ∙ sym (append-assoc (encodeGroup g) (encodeLog xs) (encodeLog ys))
-
 ids-length : (ids : List TxId) → length (encodeLog (map abortOf ids)) ≡ length ids * 4
 ids-length [] = refl
 ids-length (i ∷ ids) = let h = ids-length ids in omega arith
@@ -104,7 +99,7 @@ aborts-of : (ts : List Tx) → map abortOf (map txIdOf ts) ≡ aborts ts
 aborts-of [] = refl
 aborts-of (t ∷ ts) = ap (λ (gs : List Group). abortOf (txIdOf t) ∷ gs) (aborts-of ts)
 
-laid-all : (ts : List Tx) (tail : List ℕ) → length ts ≤ 8 → abortsLaid (undoneList ts .ids) (undoneList ts .count) tail ≡ sets tail 0 (encodeLog (aborts ts))
+pub laid-all : (ts : List Tx) (tail : List ℕ) → length ts ≤ 8 → abortsLaid (undoneList ts .ids) (undoneList ts .count) tail ≡ sets tail 0 (encodeLog (aborts ts))
 unfolding undoneList abortsLaid
 laid-all ts tail h =
     let l = length-map ts txIdOf in
@@ -118,18 +113,17 @@ laid-all ts tail h =
 
 module _ (image : Image) (log m tail : List ℕ) (p : Pass) (m₁ : List ℕ) (passed : p ≡ forwardOf image log m .pass)
     (forwarded : m₁ ≡ forwardOf image log m .memory) where
-  pub restart-case : (u : Undone) (m₂ : List ℕ) → u ≡ undoneList (undoneOf image p) → length (undoneOf image p) ≤ 8
-      → m₂ ≡ undoEach layBytes (undoneOf image p) m₁
+  pub restart-case : (u : Undone) (m₂ : List ℕ) → u ≡ undoneList (undoneOf image p) → m₂ ≡ undoEach layBytes (undoneOf image p) m₁
       → (record { end = p .end; csn = p .csn; last = p .last; undone = u .count; found = p .found } ≡ recoverOf image log m tail .answer)
-      × ((m₂ ≡ recoverOf image log m tail .memory) × (abortsLaid (u .ids) (u .count) tail ≡ recoverOf image log m tail .tail))
-  unfolding recoverOf undoneList
-  restart-case u m₂ undone few memory =
+      × ((m₂ ≡ recoverOf image log m tail .memory) × (u .ids ≡ undoneIds image log m))
+  unfolding recoverOf undoneList undoneIds
+  restart-case u m₂ undone memory =
       let e : afterSteps image (wentBy m₁ p) tail ≡ afterSteps image (forwardOf image log m) tail =
       ap (λ (w : Went). afterSteps image w tail) (ap₂ wentBy forwarded passed) in (
         ap (λ (x : Undone). record { end = p .end; csn = p .csn; last = p .last; undone = x .count; found = p .found }) undone
             ∙ ap (λ (o : AfterSteps). o .answer) e,
         (
           memory ∙ ap (λ (o : AfterSteps). o .memory) e,
-          ap (λ (x : Undone). abortsLaid (x .ids) (x .count) tail) undone ∙ laid-all (undoneOf image p) tail few ∙ ap (λ (o : AfterSteps). o .tail) e,
+          ap (λ (x : Undone). x .ids) undone ∙ ap (λ (q : Pass). undoneList (undoneOf image q) .ids) passed,
         ),
       )

@@ -28,7 +28,8 @@ use Rattle.restart.specs.declared.forward.Slot.the-variants.{At, Nowhere
 use Rattle.restart.specs.declared.undo.Best.{Best}
 use Rattle.restart.specs.declared.undo.Undone.{Undone}
 use Rattle.restart.specs.Slots.{firstBelow}
-use Rattle.restart.specs.Forward.{Went, codeOf, past}
+use Rattle.restart.specs.Forward.{Went, codeOf, past, forwardOf}
+use Rattle.restart.specs.Undo.{undoneOf}
 
 -- of the image rules, what step 4 rests on: a running transaction has no number, a committing one has
 pub record StatusByCsn (image : Image) : Type 0 where
@@ -148,6 +149,10 @@ txIdOf t = record { 0 = t .id }
 
 unfoldable pub undoneList : List Transaction → Undone
 undoneList ts = record { count = length ts; ids = sets (replicate maxTxs (record { 0 = 0 })) 0 (map txIdOf ts) }
+
+-- the ids of those that step 4 undoes
+unfoldable pub undoneIds : Image → List ℕ → List ℕ → List TxId
+undoneIds image log m = undoneList (undoneOf image (forwardOf image log m .pass)) .ids
 
 -- the abort records of the first n of these ids, at the front of a tail
 abbrev pub abortOf : TxId → Group

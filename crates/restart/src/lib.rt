@@ -15,7 +15,7 @@ ghost use Rattle.layout.specs.{memoryLen, tailLen};
 ghost use Rattle.image.specs.Rules.{keepsRules};
 ghost use Rattle.image.specs.Heads.{imageBy, HeadsFit};
 ghost use Rattle.restart.specs.Restart.{recoverOf};
-ghost use Rattle.restart.specs.Turns.{abortsLaid};
+ghost use Rattle.restart.specs.Turns.{undoneIds};
 
 // Where the log ends, counted from the front of the part handed in, the last commit number found, the last id given, how many transactions
 // step 4 undid, and for each transaction of the image a code: 0 no group of its id found, 1 a commit first, 2 an abort first.
@@ -39,8 +39,7 @@ pub fn recover(h: Heads, s: &[u8], log: &[u8], memory: &mut [u8]) -> Replayed
     requires { ⌜ length (now memory) ≡ memoryLen ⌝ }
     ensures { λ r. ⌜ r .answer ≡ recoverOf (imageBy h (now (s .entry))) (now (log .entry)) (now (memory .entry)) (replicate tailLen 0) .answer ⌝ }
     ensures { λ _. ⌜ now (memory .exit) ≡ recoverOf (imageBy h (now (s .entry))) (now (log .entry)) (now (memory .entry)) (replicate tailLen 0) .memory ⌝ }
-    ensures { λ r. ⌜ abortsLaid (r .ids) (r .answer .undone) (replicate tailLen 0)
-        ≡ recoverOf (imageBy h (now (s .entry))) (now (log .entry)) (now (memory .entry)) (replicate tailLen 0) .tail ⌝ }
+    ensures { λ r. ⌜ r .ids ≡ undoneIds (imageBy h (now (s .entry))) (now (log .entry)) (now (memory .entry)) ⌝ }
 {
     let p = forward(h, s, log, memory);
     let left = undo_left(h, s, p, memory);

@@ -1,14 +1,16 @@
 -- Checkpoint: the image rules, its stores as the code makes them, what they leave on the disk, and its cases.
-use Prim.Native.Nat.{ℕ, suc, _+_, _≤_, _<_, min}
+use Prim.Native.Nat.{ℕ, zero, suc, _+_, _≤_, _<_, min}
 use native.Mathlib.Omega.{arith}
 use mathlib.Core.Bool.{Bool, true, false, cond}
-use mathlib.Core.List.{List, [], _∷_, _++_, append-assoc}
+use mathlib.Core.List.{List, [], _∷_, _++_}
 use mathlib.Core.Path.{_≡_, refl, sym, ap, ap₂, _∙_}
-use lib.ListN.{length, take, drop, getD, set, length-append, length-take}
-use lib.Seq.{sets, sets-eq, length-sets, take-all, take-append-le, take-set-le, drop-set-lt, drop-at, length-take-le, getD-take, getD-set-same}
+use lib.ListN.{length, take, drop, getD, set, length-append, length-drop}
+use lib.Seq.{sets, sets-eq, length-sets, take-all, take-length, take-append-le, length-take-le, getD-set-same}
 use borrow.Author.Tests.{eq-eqb, ne-eqb}
+use Rattle.layout.specs.Parts.{part, pointerOf, imageAt, imagePart, logPart}
 use Rattle.log.specs.Stores.{Store, store, apply, copies}
 use Rattle.log.proofs.StoreLaws.{length-copies, copies-cut}
+use Rattle.log.proofs.PartLaws.{part-copied, outside-take, outside-append, outside-copies, part-outside, byte-same}
 use Rattle.image.specs.declared.Image.{Image}
 use Rattle.image.specs.Rules.{keepsRules}
 use Rattle.image.specs.Content.{contentOf}
@@ -71,7 +73,7 @@ module _ (pointer : ℕ) (bytes : List ℕ) where
 -- "only its used bytes", and the pointer byte
 pub checkpoint-length : (s : State) (d m : List ℕ) → length m ≡ 4096 → length (checkpointStores s d m) ≡ imageSize (imageOf s) + 1
 checkpoint-length s d m l =
-    length-slot (targetAt (getD d 0 0)) (targetName (getD d 0 0)) (encodeImage (imageOf s) m)
+    length-slot (targetAt (pointerOf d)) (targetName (pointerOf d)) (encodeImage (imageOf s) m)
     ∙ ap (λ (n : ℕ). n + 1) (length-content (contentOf (imageOf s)) m l)
 
 -- ---- what stands on the disk after n stores
@@ -81,9 +83,9 @@ module _ (s : State) (d m : List ℕ) (n : ℕ) (l : length m ≡ 4096) where
   bytes = encodeImage (imageOf s) m
 
   -- cut: the pointer byte is old, and of the slot that it doesn't name the first n bytes are new
-  pub checkpoint-part : n ≤ imageSize (imageOf s) → apply (take n (checkpointStores s d m)) d ≡ sets d (targetAt (getD d 0 0)) (take n bytes)
+  pub checkpoint-part : n ≤ imageSize (imageOf s) → apply (take n (checkpointStores s d m)) d ≡ sets d (targetAt (pointerOf d)) (take n bytes)
   checkpoint-part h =
-      let p = getD d 0 0 in
+      let p = pointerOf d in
       let c = length-copies (targetAt p) bytes in
       let k = length-content (contentOf (imageOf s)) m l in
       ap (λ (ss : List Store). apply ss d) (take-append-le n (copies (targetAt p) bytes) (store 0 (targetName p) ∷ []) (omega (arith, c, k, h)))
@@ -91,9 +93,9 @@ module _ (s : State) (d m : List ℕ) (n : ℕ) (l : length m ≡ 4096) where
 
   -- done: the whole image, and the pointer byte names it
   pub checkpoint-whole : imageSize (imageOf s) < n
-      → apply (take n (checkpointStores s d m)) d ≡ set (sets d (targetAt (getD d 0 0)) bytes) 0 (targetName (getD d 0 0))
+      → apply (take n (checkpointStores s d m)) d ≡ set (sets d (targetAt (pointerOf d)) bytes) 0 (targetName (pointerOf d))
   checkpoint-whole h =
-      let p = getD d 0 0 in
+      let p = pointerOf d in
       let c = length-copies (targetAt p) bytes in
       let k = length-content (contentOf (imageOf s)) m l in
       ap (λ (ss : List Store). apply ss d)
@@ -104,14 +106,12 @@ module _ (s : State) (d m : List ℕ) (n : ℕ) (l : length m ≡ 4096) where
       ∙ copies-cut n (targetAt p) bytes d
       ∙ ap (sets d (targetAt p)) (take-all n bytes (omega (arith, k, h))))
 
--- what stands before and behind a run of stores stays
-pub sets-before : (vs d : List ℕ) (a j : ℕ) → j ≤ a → take j (sets d a vs) ≡ take j d
-sets-before [] d a j h = refl
-sets-before (v ∷ vs) d a j h = sets-before vs (set d a v) (suc a) j (omega arith) ∙ take-set-le j d a v h
-
-pub sets-behind : (vs d : List ℕ) (a j : ℕ) → a + length vs ≤ j → drop j (sets d a vs) ≡ drop j d
-sets-behind [] d a j h = refl
-sets-behind (v ∷ vs) d a j h = sets-behind vs (set d a v) (suc a) j (omega arith) ∙ drop-set-lt j d a v (omega arith)
+-- the image that a pointer byte names stands beside the place where the next one goes
+slots-apart : (pointer n : ℕ) → pointer ≤ 2 → n ≤ 8653 → imageAt pointer < targetAt pointer + n → imageAt pointer + 8653 ≤ targetAt pointer
+slots-apart zero n l h g = absurd (omega (arith, h, g))
+slots-apart (suc zero) n l h g = omega arith
+slots-apart (suc (suc zero)) n l h g = absurd (omega (arith, h, g))
+slots-apart (suc (suc (suc p))) n l h g = absurd (omega (arith, l))
 
 module _ (s : State) (d m t : List ℕ) (n : ℕ) (z : diskNumber s d m t ≡ 0) where
   abbrev left : List ℕ
@@ -121,12 +121,12 @@ module _ (s : State) (d m t : List ℕ) (n : ℕ) (z : diskNumber s d m t ≡ 0)
   image = encodeImage (imageOf s) m
 
   abbrev slot : ℕ
-  slot = targetAt (getD d 0 0)
+  slot = targetAt (pointerOf d)
 
   slot-range : (1 ≤ slot) × (slot ≤ 8654)
-  slot-range = go (intoA (getD d 0 0))
+  slot-range = go (intoA (pointerOf d))
     where
-      go : (b : Bool) → (1 ≤ cond b 1 8654) × (cond b 1 8654 ≤ 8654)
+      go : (b : Bool) → (1 ≤ imageAt (cond b 1 2)) × (imageAt (cond b 1 2) ≤ 8654)
       go true = (omega arith, omega arith)
       go false = (omega arith, omega arith)
 
@@ -135,54 +135,55 @@ module _ (s : State) (d m t : List ℕ) (n : ℕ) (z : diskNumber s d m t ≡ 0)
       let a = disk-admitted s d m t z in
       omega (arith, length-content (contentOf (imageOf s)) m (a .memory), image-small (imageOf s) (a .fits .image))
 
-  -- the log, the pointer byte and the image that it names are not touched before the pointer byte is
+  -- the log is not touched
+  pub kept-log : logPart left ≡ logPart d
+  kept-log =
+      let images = outside-copies 17307 16384 slot image (λ h. omega (arith, h, slot-range .1, image-length)) in
+      part-outside 17307 16384 (take n (checkpointStores s d m)) d
+      (outside-take 17307 16384 n (checkpointStores s d m)
+      (outside-append 17307 16384 (copies slot image) (store 0 (targetName (pointerOf d)) ∷ []) images ((λ h. absurd (omega (arith, h))), tt)))
+
+  -- nor are the pointer byte and the image that it names, before the pointer byte is stored
   module _ (h : n ≤ imageSize (imageOf s)) where
-    part-size : length (take n image) ≤ 8653
-    part-size = omega (arith, length-take n image, image-length)
+    kept-part : (at k : ℕ) → (at < slot + length image → at + k ≤ slot) → part at k left ≡ part at k d
+    kept-part at k g =
+        let c = length-copies slot image in
+        let l = length-content (contentOf (imageOf s)) m (disk-admitted s d m t z .memory) in
+        ap (λ (ss : List Store). part at k (apply ss d)) (take-append-le n (copies slot image) (store 0 (targetName (pointerOf d)) ∷ []) (omega (arith, c, l, h)))
+        ∙ part-outside at k (take n (copies slot image)) d (outside-take at k n (copies slot image) (outside-copies at k slot image g))
 
-    part-left : left ≡ sets d slot (take n image)
-    part-left = checkpoint-part s d m n (disk-admitted s d m t z .memory) h
+    pub kept-pointer : pointerOf left ≡ pointerOf d
+    kept-pointer = byte-same 0 1 left d (omega arith) (kept-part 0 1 (λ l. slot-range .0))
 
-    pub kept-pointer : getD left 0 0 ≡ getD d 0 0
-    kept-pointer =
-        let e : take 1 left ≡ take 1 d = ap (take 1) part-left ∙ sets-before (take n image) d slot 1 (slot-range .0) in
-        sym (getD-take 1 left 0 0 (omega arith)) ∙ ap (λ (x : List ℕ). getD x 0 0) e ∙ getD-take 1 d 0 0 (omega arith)
+    pub kept-image : pointerOf d ≤ 2 → imagePart (pointerOf d) left ≡ imagePart (pointerOf d) d
+    kept-image l = kept-part (imageAt (pointerOf d)) 8653 (slots-apart (pointerOf d) (length image) l image-length)
 
-    pub kept-log : drop 17307 left ≡ drop 17307 d
-    kept-log = ap (drop 17307) part-left ∙ sets-behind (take n image) d slot 17307 (omega (arith, part-size, slot-range .1))
-
-    -- A, and the pointer byte, which names it
-    pub kept-a : getD d 0 0 ≡ 1 → take 8654 left ≡ take 8654 d
-    kept-a e = ap (take 8654) part-left ∙ sets-before (take n image) d slot 8654 (omega (arith, ap targetAt e))
-
-    -- B, and the log behind it
-    pub kept-b : getD d 0 0 ≡ 2 → drop 8654 left ≡ drop 8654 d
-    kept-b e = ap (drop 8654) part-left ∙ sets-behind (take n image) d slot 8654 (omega (arith, part-size, ap targetAt e))
-
-  -- then the pointer byte names the slot that holds the image, and the log is the same
+  -- then it names the slot that holds the image
   module _ (h : imageSize (imageOf s) < n) where
-    whole-left : left ≡ set (sets d slot image) 0 (targetName (getD d 0 0))
+    whole-left : left ≡ set (sets d slot image) 0 (targetName (pointerOf d))
     whole-left = checkpoint-whole s d m n (disk-admitted s d m t z .memory) h
 
-    pub new-pointer : getD left 0 0 ≡ targetName (getD d 0 0)
+    pub new-pointer : pointerOf left ≡ targetName (pointerOf d)
     new-pointer =
         ap (λ (x : List ℕ). getD x 0 0) whole-left
-        ∙ getD-set-same (sets d slot image) 0 (targetName (getD d 0 0)) 0 (omega (arith, length-sets d slot image, disk-admitted s d m t z .disk))
+        ∙ getD-set-same (sets d slot image) 0 (targetName (pointerOf d)) 0 (omega (arith, length-sets d slot image, disk-admitted s d m t z .disk))
 
-    pub new-image : drop slot left ≡ image ++ drop (slot + length image) d
+    pub new-image : part slot 8653 left ≡ image ++ drop (length image) (part slot 8653 d)
     new-image =
         let l = disk-admitted s d m t z .disk in
-        ap (drop slot) whole-left
-        ∙ drop-set-lt slot (sets d slot image) 0 (targetName (getD d 0 0)) (omega (arith, slot-range .0))
-        ∙ ap (drop slot) (sets-eq image d slot (omega (arith, slot-range .1, image-length, l))
-        ∙ append-assoc (take slot d) image (drop (slot + length image) d))
-        ∙ drop-at (take slot d) (image ++ drop (slot + length image) d) slot (length-take-le slot d (omega (arith, slot-range .1, l)))
-
-    pub new-log : drop 17307 left ≡ drop 17307 d
-    new-log =
-        ap (drop 17307) whole-left
-        ∙ drop-set-lt 17307 (sets d slot image) 0 (targetName (getD d 0 0)) (omega arith)
-        ∙ sets-behind image d slot 17307 (omega (arith, slot-range .1, image-length))
+        let e : slot + 0 ≡ slot = omega arith in
+        let f : 0 + length image ≡ length image = omega arith in
+        let k : length (part slot 8653 d) ≡ 8653 = length-take-le 8653 (drop slot d) (rw (length-drop slot d) (omega (arith, slot-range .1, l))) in
+        let whole : take (length image) image ≡ image = take-length image in
+        ap (part slot 8653) whole-left
+        ∙ part-outside slot 8653 (store 0 (targetName (pointerOf d)) ∷ []) (sets d slot image) ((λ g. absurd (omega (arith, g, slot-range .0))), tt)
+        ∙ ap (λ (vs : List ℕ). part slot 8653 (sets d slot vs)) (sym whole)
+        ∙ ap (part slot 8653) (sym (copies-cut (length image) slot image d))
+        ∙ ap (λ (i : ℕ). part slot 8653 (apply (take (length image) (copies i image)) d)) (sym e)
+        ∙ part-copied slot 8653 (length image) 0 image d
+        ∙ ap (sets (part slot 8653 d) 0) whole
+        ∙ sets-eq image (part slot 8653 d) 0 (omega (arith, k, image-length))
+        ∙ ap (λ (j : ℕ). image ++ drop j (part slot 8653 d)) f
 
 -- ---- the cases, as the code comes to them
 
@@ -219,18 +220,18 @@ module _ (s : State) (d m t : List ℕ) (allowed : ℕ) where
         }
 
     -- made is the number of stores made, y the disk that they left
-    module _ (n made : ℕ) (x y : List ℕ) (e : Encoded s d m x n) (f : made ≡ min allowed (length (imageStores (getD d 0 0) (take n x))))
-        (g : y ≡ apply (take allowed (imageStores (getD d 0 0) (take n x))) d) where
+    module _ (n made : ℕ) (x y : List ℕ) (e : Encoded s d m x n) (f : made ≡ min allowed (length (imageStores (pointerOf d) (take n x))))
+        (g : y ≡ apply (take allowed (imageStores (pointerOf d) (take n x))) d) where
       count : made ≡ min allowed (length (checkpointStores s d m))
-      count = f ∙ ap (λ (bs : List ℕ). min allowed (length (imageStores (getD d 0 0) bs))) (e .bytes)
+      count = f ∙ ap (λ (bs : List ℕ). min allowed (length (imageStores (pointerOf d) bs))) (e .bytes)
 
       needed : length (checkpointStores s d m) ≡ n + 1
       needed =
-          length-slot (targetAt (getD d 0 0)) (targetName (getD d 0 0)) (encodeImage (imageOf s) m)
+          length-slot (targetAt (pointerOf d)) (targetName (pointerOf d)) (encodeImage (imageOf s) m)
           ∙ ap (λ (k : ℕ). k + 1) (ap length (sym (e .bytes)) ∙ e .counted)
 
       on-disk : y ≡ apply (take allowed (checkpointStores s d m)) d
-      on-disk = g ∙ ap (λ (bs : List ℕ). apply (take allowed (imageStores (getD d 0 0) bs)) d) (e .bytes)
+      on-disk = g ∙ ap (λ (bs : List ℕ). apply (take allowed (imageStores (pointerOf d) bs)) d) (e .bytes)
 
       pub checkpoint-cut : made ≤ n → checkpointOf s d m t allowed
           ≡ record { result = tells cut 0 made unrecovered; disk = y; memory = zeroed m; tail = zeroed t }

@@ -2,9 +2,9 @@
 use Prim.Native.Nat.{ℕ}
 use mathlib.Core.Bool.{Bool, cond, _||_}
 use mathlib.Core.List.{List, [], _∷_, _++_}
-use lib.ListN.{getD}
 use lib.Dec.{eqb}
-use Rattle.layout.specs.{imageA, imageB, namesA, namesB}
+use Rattle.layout.specs.{namesA, namesB}
+use Rattle.layout.specs.Parts.{pointerOf, imageAt}
 use Rattle.log.specs.Stores.{Store, store, copies}
 use Rattle.image.specs.Format.{encodeImage}
 use Rattle.store.specs.declared.State.{State}
@@ -19,18 +19,18 @@ storesAt at name bytes = copies at bytes ++ (store 0 name ∷ [])
 abbrev pub intoA : ℕ → Bool
 intoA pointer = eqb pointer 0 || eqb pointer namesB
 
-abbrev pub targetAt : ℕ → ℕ
-targetAt pointer = cond (intoA pointer) imageA imageB
-
 abbrev pub targetName : ℕ → ℕ
 targetName pointer = cond (intoA pointer) namesA namesB
+
+abbrev pub targetAt : ℕ → ℕ
+targetAt pointer = imageAt (targetName pointer)
 
 abbrev pub imageStores : ℕ → List ℕ → List Store
 imageStores pointer bytes = storesAt (targetAt pointer) (targetName pointer) bytes
 
 -- "only its used bytes": those of the encoding
 abbrev pub checkpointStores : State → List ℕ → List ℕ → List Store
-checkpointStores s d m = imageStores (getD d 0 0) (encodeImage (imageOf s) m)
+checkpointStores s d m = imageStores (pointerOf d) (encodeImage (imageOf s) m)
 
 abbrev pub checkpointPlan : State → List ℕ → List ℕ → List ℕ → Plan
 checkpointPlan s d m t = record { stores = checkpointStores s d m; value = 0; state = s; memory = m; tail = t }

@@ -1,15 +1,12 @@
-use Prim.Native.Nat.{_≤_}
 use native.Mathlib.Omega.{arith}
-use mathlib.Core.Path.{ap, _∙_}
-use lib.ListN.{length, replicate}
+use mathlib.Core.Path.{_∙_}
+use lib.ListN.{replicate}
 use borrow.Author.Needs.{needs}
 use Rattle.image.specs.declared.Image.{Image}
 use Rattle.image.specs.Heads.{imageBy}
 use Rattle.image.proofs.Rules.{image-count}
 use Rattle.image.proofs.HeadLaws.{shown-count}
-use Rattle.restart.specs.Undo.{undoneOf}
 use Rattle.restart.proofs.Rules.{status-by-csn}
-use Rattle.restart.proofs.Select.{left-is, left-few}
 use Rattle.restart.proofs.Undos.{restart-case}
 use Rattle.restart.proofs.recover.Statement.{statement}
 use Rattle.restart.proofs.recover.Tie as tie
@@ -39,14 +36,7 @@ returns c =
     let a = s .args in
     let f = passed .forward in
     let u = left .undo-left in
-    let few : length (undoneOf (imageAt s) (f .result)) ≤ 8 =
-    omega (
-      arith,
-      ap length (left-is (imageAt s) (f .result)),
-      left-few (imageAt s) (f .result .found) (f .result .csn .0),
-      image-count (imageAt s) (s .pre .0 .1),
-    ) in
-    restart-case (imageAt s) (a .log .now) (a .memory .now) (replicate 16384 0) (f .result) _ (f .ensures .0) (f .ensures .1) (u .result) _ (u .ensures .0) few
+    restart-case (imageAt s) (a .log .now) (a .memory .now) (replicate 16384 0) (f .result) _ (f .ensures .0) (f .ensures .1) (u .result) _ (u .ensures .0)
     (u .ensures .1)
 
 pub recover-spec : {M : Type 1} → statement M

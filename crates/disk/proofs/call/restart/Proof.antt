@@ -93,6 +93,9 @@ returns-4 c =
     (λ z. c .before .if4 .taken (n ∙ z)))
     (c .refused4 .ensures ∙ ap refusedRestart n) refl (x .examine .ensures .1 .0) (x .examine .ensures .1 .1)
 
+add-clear-down : tie.Need-add-clear-down
+add-clear-down c = search needs
+
 sub-clear-down : tie.Need-sub-clear-down
 sub-clear-down c = search needs
 
@@ -133,12 +136,12 @@ made k =
 
 -- what they leave on the disk
 emptied : (k : tie.After-clear-down) → let a = start (examined k) .args in
-    putMid 17307 (length (a .disk .now) - 17307) (a .disk .now) (k .clear-down .last .0)
+    putMid 17307 16384 (a .disk .now) (k .clear-down .last .0)
     ≡ apply (take (a .allowed) (clearing (examineOf (a .disk .now) .result .end))) (a .disk .now)
 emptied k =
     let x = examined k in
     let a = start x .args in
-    log-cleared (a .allowed) (x .examine .result .end) (a .disk .now) (k .clear-down .last .0) (lent x .before .before .if1 .left) (k .clear-down .ensures .1)
+    log-cleared (a .allowed) (x .examine .result .end) (a .disk .now) (k .clear-down .last .0) (lent x .before .before .if1 .left) (within x) (k .clear-down .ensures .1)
     ∙ ap (λ (e : ℕ). apply (take (a .allowed) (clearing e)) (a .disk .now)) (found-end x)
 
 sub-if5 : tie.Need-sub-if5
@@ -219,6 +222,7 @@ restart-spec =
     same-length-2
     same-length-3
     returns-4
+    add-clear-down
     sub-clear-down
     part-clear-down-start
     part-clear-down-end

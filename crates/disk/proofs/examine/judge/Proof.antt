@@ -5,26 +5,29 @@ use mathlib.Core.Bool.{true}
 use mathlib.Core.List.{List}
 use mathlib.Core.Path.{_≡_, refl, sym, ap, ap₂, _∙_, subst}
 use lib.ListN.{length, take, drop, replicate}
-use borrow.Author.Tests.{not-true, not-false}
+use Rattle.layout.specs.Parts.{part}
+use Rattle.log.specs.declared.TxId.{TxId}
 use Rattle.image.specs.declared.Image.{Image}
-use Rattle.image.specs.declared.read.Heads.{Heads}
 use Rattle.image.specs.Rules.{keepsRules}
-use Rattle.image.specs.Decode.{Decoded}
 use Rattle.image.specs.Heads.{imageBy, HeadsFit}
-use Rattle.image.proofs.Rules.{image-logend}
-use Rattle.image.proofs.HeadLaws.{shown-logend}
 use Rattle.restart.specs.declared.Recovered.{Recovered}
 use Rattle.restart.specs.Restart.{AfterSteps, recoverOf}
+use Rattle.restart.specs.Turns.{abortsLaid}
+use Rattle.restart.proofs.Recovery.{laid-tail}
 use Rattle.disk.specs.declared.examine.Examined.{Examined}
-use Rattle.disk.specs.Layout.{pointerOf}
-use Rattle.disk.specs.Examine.{loadOf, stepsOf}
-use Rattle.disk.proofs.Loading.{slot-within, lent, txsPart, Named, named, not-named}
-use Rattle.disk.proofs.Examining.{keeps, steps-are, end-within, undone-within, answered, means-3, means-4, means-5, means}
+use Rattle.disk.specs.declared.examine.Judged.{Judged}
+use Rattle.disk.specs.declared.open.Opened.{Opened}
+use Rattle.disk.specs.Open.{openOf}
+use Rattle.disk.specs.Examine.{refusedBy, stepsOf}
+use Rattle.disk.specs.Heads.{JudgedAs}
+use Rattle.disk.proofs.Loading.{lent}
+use Rattle.disk.proofs.Opening.{opened-rules, shut-memory, same-number, Handed, handed}
+use Rattle.disk.proofs.Examining.{answered, means-shut, refused-memory, end-within, undone-within, means-5, means}
 use Rattle.disk.proofs.examine.judge.Statement.{statement}
 use Rattle.disk.proofs.examine.judge.Tie as tie
 
-shared-slice-read-pointer : tie.Need-shared-slice-read-pointer
-shared-slice-read-pointer c = search needs
+open-requires : tie.Need-open-requires
+open-requires c κs = search needs
 
 refuse-requires : tie.Need-refuse-requires
 refuse-requires c κs = search needs
@@ -32,95 +35,67 @@ refuse-requires c κs = search needs
 same-length : tie.Need-same-length
 same-length c = search needs
 
+-- ---- once the disk is opened
+
+abbrev entry : tie.After-open → tie.Start
+entry o = o .before .before .before .before
+
+abbrev diskAt : tie.After-open → List ℕ
+diskAt o = entry o .args .disk .now
+
+number : (o : tie.After-open) → o .«open» .result .number ≡ openOf (diskAt o) .number
+number o = ap (λ (x : Opened). x .number) (o .«open» .ensures .0) ∙ same-number (diskAt o)
+
 returns : tie.Need-returns
 returns c =
-    let r = c .before .before .refuse .ensures in
-    answered (means-3 (c .before .before .before .before .before .before .before .before .args .disk .now) (c .before .before .before .before .if1 .taken)) (r .0) (r .1)
-
-load-requires : tie.Need-load-requires
-load-requires c κs = search needs
-
-refuse-requires-2 : tie.Need-refuse-requires-2
-refuse-requires-2 c κs = search needs
-
-same-length-2 : tie.Need-same-length-2
-same-length-2 c = search needs
-
--- ---- once an image is loaded, and what was lent before
-
-abbrev entry : tie.After-load → tie.Start
-entry l = l .before .before .before .before .before .before
-
-abbrev diskAt : tie.After-load → List ℕ
-diskAt l = entry l .args .disk .now
-
-abbrev decodedAt : tie.After-load → Decoded
-decodedAt l = loadOf (pointerOf (diskAt l)) (diskAt l) .decoded
-
-abbrev memoryAt : tie.After-load → List ℕ
-memoryAt l = l .load .last .1 .1 .0
-
-small : (l : tie.After-load) → pointerOf (diskAt l) ≤ 2
-small l = l .before .before .if1 .left
-
-returns-2 : tie.Need-returns-2
-returns-2 c =
-    let l = c .before .before .before .before .before .before .before .before in
-    let r = c .before .before .refuse2 .ensures in
-    let n = not-named (pointerOf (diskAt l)) (diskAt l) (sym (ap (λ (h : Heads). h .ok) (l .load .ensures .0)) ∙ not-true _ (c .before .before .before .before .if2 .taken)) in
-    answered (means-4 (diskAt l) (small l) (decodedAt l) (memoryAt l) refl (l .load .ensures .1) n) (r .0) (r .1)
-
-image-at-requires : tie.Need-image-at-requires
-image-at-requires c κs = search needs
+    let o = c .before .before .before .before in
+    let n : openOf (diskAt o) .number ≡ 0 → ⊥ = λ z. c .before .if1 .taken (number o ∙ z) in
+    answered (means-shut (diskAt o) n) (subst (λ (k : ℕ). JudgedAs (c .refuse .result) (refusedBy k)) (number o) (c .refuse .ensures))
+    (o .«open» .ensures .1 ∙ shut-memory (diskAt o) n ∙ sym (refused-memory (openOf (diskAt o) .number)))
 
 cast-logend : tie.Need-cast-logend
 cast-logend c = search needs
 
-add-start : tie.Need-add-start
-add-start c = search needs
+-- ---- once it is not refused
 
--- ---- the image that was loaded, by its heads
+abbrev opened : tie.Else1 → tie.After-open
+opened x = x .before .before .before
 
-abbrev loaded : tie.After-image-at → tie.After-load
-loaded c = c .before .before .before .before .before
+abbrev memoryAt : tie.Else1 → List ℕ
+memoryAt x = opened x .«open» .last .1 .0
 
-abbrev imageIn : tie.After-image-at → Image
-imageIn c = decodedAt (loaded c) .image
+zero : (x : tie.Else1) → openOf (diskAt (opened x)) .number ≡ 0
+zero x = sym (number (opened x)) ∙ x .if1 .left
 
-shown : (c : tie.After-image-at) → let l = loaded c in Named (l .load .result) (txsPart (pointerOf (diskAt l)) (diskAt l)) (decodedAt l)
-shown c =
-    let l = loaded c in
-    let e = l .load .ensures .0 in
-    subst (λ (h : Heads). Named h (txsPart (pointerOf (diskAt l)) (diskAt l)) (decodedAt l)) (sym e)
-    (named (pointerOf (diskAt l)) (diskAt l) (sym (ap (λ (h : Heads). h .ok) e) ∙ not-false _ (c .before .if2 .left)))
+shown : (x : tie.Else1) → Handed (opened x .«open» .result) (diskAt (opened x))
+shown x =
+    let o = opened x in
+    subst (λ (r : Opened). Handed r (diskAt o)) (sym (o .«open» .ensures .0)) (handed (diskAt o) (zero x))
 
-kept : (c : tie.After-image-at) → keepsRules (imageIn c) ≡ true
-kept c = let l = loaded c in keeps (diskAt l) (small l) (decodedAt l) (memoryAt l) refl (l .load .ensures .1) (shown c .ok)
+-- the part with the image's transactions, and the log, as they are lent
+abbrev txsAt : tie.Else1 → List ℕ
+txsAt x = let f = opened x .«open» .result .image in take (f + 8653 - (f + 4109)) (drop (f + 4109) (diskAt (opened x)))
 
-logend : (c : tie.After-image-at) → loaded c .load .result .logend ≡ imageIn c .logend
-logend c = let l = loaded c in sym (shown-logend (l .load .result) (txsPart (pointerOf (diskAt l)) (diskAt l))) ∙ ap (λ (i : Image). i .logend) (shown c .image)
+abbrev logAt : tie.Else1 → List ℕ
+logAt x = let r = opened x .«open» .result in part (r .from) (r .to - r .from) (diskAt (opened x))
 
-start : (c : tie.After-image-at) → loaded c .load .result .logend ≤ 16384
-start c = omega (arith, logend c, image-logend (imageIn c) (kept c))
+abbrev imageAt : tie.Else1 → Image
+imageAt x = imageBy (opened x .«open» .result .heads) (txsAt x)
 
--- where it stands
-slot : (c : tie.After-image-at) → c .image-at .result ≤ 8654
-slot c = subst (λ (n : ℕ). n ≤ 8654) (sym (c .image-at .ensures)) (slot-within (pointerOf (diskAt (loaded c))))
+txs : (x : tie.Else1) → txsAt x ≡ part (opened x .«open» .result .image + 4109) 4544 (diskAt (opened x))
+txs x = lent (opened x .«open» .result .image) 4109 8653 (diskAt (opened x)) (omega arith)
 
--- the part with its transactions, as it is lent
-part : (c : tie.After-image-at)
-    → let l = loaded c in
-    let f = c .image-at .result in
-    take (f + 8653 - (f + 4109)) (drop (f + 4109) (diskAt l)) ≡ txsPart (pointerOf (diskAt l)) (diskAt l)
-part c =
-    let l = loaded c in
-    lent (c .image-at .result) 4109 8653 (diskAt l) (omega arith) ∙ ap (λ (n : ℕ). take 4544 (drop (n + 4109) (diskAt l))) (c .image-at .ensures)
+image : (x : tie.Else1) → imageAt x ≡ openOf (diskAt (opened x)) .image
+image x = ap (imageBy (opened x .«open» .result .heads)) (txs x) ∙ shown x .image
+
+rules : (x : tie.Else1) → keepsRules (imageAt x) ≡ true
+rules x = ap keepsRules (image x) ∙ opened-rules (diskAt (opened x)) (zero x)
 
 add-recover : tie.Need-add-recover
-add-recover c = omega (arith, slot (c .before))
+add-recover c = omega (arith, shown (c .before .before) .slot)
 
 add-recover-2 : tie.Need-add-recover-2
-add-recover-2 c = omega (arith, slot (c .before))
+add-recover-2 c = omega (arith, shown (c .before .before) .slot)
 
 sub-recover : tie.Need-sub-recover
 sub-recover c = search needs
@@ -129,125 +104,102 @@ part-recover-start : tie.Need-part-recover-start
 part-recover-start c = search needs
 
 part-recover-end : tie.Need-part-recover-end
-part-recover-end c = omega (arith, slot (c .before), entry (loaded (c .before)) .pre .0)
+part-recover-end c = let x = c .before .before in omega (arith, shown x .slot, entry (opened x) .pre .0)
 
 sub-recover-2 : tie.Need-sub-recover-2
-sub-recover-2 c = omega (arith, start (c .before .before), entry (loaded (c .before .before)) .pre .0)
+sub-recover-2 c = shown (c .before .before .before) .start
 
 part-recover-start-2 : tie.Need-part-recover-start-2
-part-recover-start-2 c = omega (arith, start (c .before .before), entry (loaded (c .before .before)) .pre .0)
+part-recover-start-2 c = shown (c .before .before .before) .start
 
 part-recover-end-2 : tie.Need-part-recover-end-2
-part-recover-end-2 c = search needs
+part-recover-end-2 c = let x = c .before .before .before in omega (arith, shown x .end, entry (opened x) .pre .0)
 
 recover-requires : tie.Need-recover-requires
 recover-requires c κs =
-    let x = c .before .before .before .before in
-    let l = loaded x in
-    let p = sym (part x) in (
-      (
-        subst (HeadsFit (l .load .result)) p (shown x .shows),
-        subst (λ (s : List ℕ). keepsRules (imageBy (l .load .result) s) ≡ true) p (ap keepsRules (shown x .image) ∙ kept x),
-      ),
-      l .load .kept .1 .1 .0 ∙ entry l .pre .1,
-    )
+    let x = c .before .before .before .before .before in
+    let o = opened x in
+    ((subst (HeadsFit (o .«open» .result .heads)) (sym (txs x)) (shown x .shows), rules x), o .«open» .kept .1 .0 ∙ entry o .pre .1)
 
--- ---- the steps of the image that was loaded
+-- ---- steps 2 to 5
 
-abbrev at : tie.After-recover → tie.After-image-at
-at c = c .before .before .before .before .before
+abbrev at : tie.After-recover → tie.Else1
+at c = c .before .before .before .before .before .before
 
 abbrev stepsAt : tie.After-recover → AfterSteps
-stepsAt c = let l = loaded (at c) in stepsOf (imageIn (at c)) (memoryAt l) (diskAt l)
+stepsAt c = stepsOf (openOf (diskAt (opened (at c))))
 
-steps : (c : tie.After-recover)
-    → let l = loaded (at c) in
-    let h = l .load .result in
-    let f = at c .image-at .result in
-    recoverOf (imageBy h (take (f + 8653 - (f + 4109)) (drop (f + 4109) (diskAt l))))
-    (take (length (diskAt l) - (17307 + h .logend)) (drop (17307 + h .logend) (diskAt l))) (memoryAt l) (replicate 16384 0)
-    ≡ stepsAt c
+steps : (c : tie.After-recover) → recoverOf (imageAt (at c)) (logAt (at c)) (memoryAt (at c)) (replicate 16384 0) ≡ stepsAt c
+unfolding stepsOf
 steps c =
-    let l = loaded (at c) in
-    let h = l .load .result in
-    let log = take (length (diskAt l) - (17307 + h .logend)) (drop (17307 + h .logend) (diskAt l)) in
-    ap (λ (s : List ℕ). recoverOf (imageBy h s) log (memoryAt l) (replicate 16384 0)) (part (at c))
-    ∙ ap (λ (i : Image). recoverOf i log (memoryAt l) (replicate 16384 0)) (shown (at c) .image)
-    ∙ ap (λ (n : ℕ). recoverOf (imageIn (at c)) (take (length (diskAt l) - (17307 + n)) (drop (17307 + n) (diskAt l))) (memoryAt l) (replicate 16384 0))
-    (logend (at c))
-    ∙ steps-are (imageIn (at c)) (diskAt l) (memoryAt l) (replicate 16384 0) refl
+    let x = at c in
+    let o = openOf (diskAt (opened x)) in
+    ap (λ (i : Image). recoverOf i (logAt x) (memoryAt x) (replicate 16384 0)) (image x)
+    ∙ ap₂ (λ (l m : List ℕ). recoverOf (o .image) l m (replicate 16384 0)) (shown x .log) (opened x .«open» .ensures .1)
 
 found : (c : tie.After-recover) → c .recover .result .answer ≡ stepsAt c .answer
 found c = c .recover .ensures .0 ∙ ap (λ (o : AfterSteps). o .answer) (steps c)
 
-remembered : (c : tie.After-recover) → c .recover .last .1 .1 .1 .0 ≡ stepsAt c .memory
-remembered c = c .recover .ensures .1 .0 ∙ ap (λ (o : AfterSteps). o .memory) (steps c)
+laid : (c : tie.After-recover) → abortsLaid (c .recover .result .ids) (c .recover .result .answer .undone) (replicate 16384 0) ≡ stepsAt c .tail
+laid c =
+    let x = at c in
+    ap₂ (λ (ids : List TxId) (r : Recovered). abortsLaid ids (r .undone) (replicate 16384 0)) (c .recover .ensures .1 .1) (c .recover .ensures .0)
+    ∙ laid-tail (imageAt x) (rules x) (logAt x) (memoryAt x) (replicate 16384 0)
+    ∙ ap (λ (o : AfterSteps). o .tail) (steps c)
 
-ends : (c : tie.After-recover) → loaded (at c) .load .result .logend + c .recover .result .answer .end ≤ 16384
+ends : (c : tie.After-recover) → opened (at c) .«open» .result .heads .logend + c .recover .result .answer .end ≤ 16384
 ends c =
-    let l = loaded (at c) in
-    omega (
-      arith,
-      logend (at c),
-      end-within (imageIn (at c)) (kept (at c)) (memoryAt l) (diskAt l) (entry l .pre .0),
-      ap (λ (r : Recovered). r .end) (found c),
-    )
+    let x = at c in
+    omega (arith, shown x .logend, end-within (diskAt (opened x)) (zero x), ap (λ (r : Recovered). r .end) (found c))
 
 few : (c : tie.After-recover) → c .recover .result .answer .undone ≤ 8
-few c =
-    let l = loaded (at c) in
-    omega (arith, undone-within (imageIn (at c)) (kept (at c)) (memoryAt l) (diskAt l), ap (λ (r : Recovered). r .undone) (found c))
+few c = let x = at c in omega (arith, undone-within (diskAt (opened x)) (zero x), ap (λ (r : Recovered). r .undone) (found c))
 
 -- number 5, as the code sees it
 total : (c : tie.After-recover)
-    → loaded (at c) .load .result .logend + c .recover .result .answer .end + 4 * c .recover .result .answer .undone
-    ≡ imageIn (at c) .logend + stepsAt c .answer .end + 4 * stepsAt c .answer .undone
-total c = ap₂ (λ (n : ℕ) (r : Recovered). n + r .end + 4 * r .undone) (logend (at c)) (found c)
+    → opened (at c) .«open» .result .heads .logend + c .recover .result .answer .end + 4 * c .recover .result .answer .undone
+    ≡ openOf (diskAt (opened (at c))) .image .logend + stepsAt c .answer .end + 4 * stepsAt c .answer .undone
+total c = ap₂ (λ (n : ℕ) (r : Recovered). n + r .end + 4 * r .undone) (shown (at c) .logend) (found c)
+
+kept : (c : tie.After-recover) → length (c .recover .last .1 .1 .1 .0) ≡ length (entry (opened (at c)) .args .memory .now)
+kept c = c .recover .kept .1 .1 .1 .0 ∙ opened (at c) .«open» .kept .1 .0
 
 add-end : tie.Need-add-end
 add-end c = omega (arith, ends (c .before .before .before .before))
 
-mul-if3 : tie.Need-mul-if3
-mul-if3 c = omega (arith, few (c .before .before .before .before .before))
+mul-if2 : tie.Need-mul-if2
+mul-if2 c = omega (arith, few (c .before .before .before .before .before))
 
-add-if3 : tie.Need-add-if3
-add-if3 c = omega (arith, ends (c .before .before .before .before .before), few (c .before .before .before .before .before))
+add-if2 : tie.Need-add-if2
+add-if2 c = omega (arith, ends (c .before .before .before .before .before), few (c .before .before .before .before .before))
 
-refuse-requires-3 : tie.Need-refuse-requires-3
-refuse-requires-3 c κs =
-    let x = c .before .before .before .before .before .before .before in
-    let l = loaded (at x) in
-    x .recover .kept .1 .1 .1 .0 ∙ (l .load .kept .1 .1 .0 ∙ entry l .pre .1)
+fill-zero-requires : tie.Need-fill-zero-requires
+fill-zero-requires c κs = search needs
+
+refuse-requires-2 : tie.Need-refuse-requires-2
+refuse-requires-2 c κs = search needs
+
+same-length-2 : tie.Need-same-length-2
+same-length-2 c =
+    let x = c .before .before .before .before .before .before .before .before .before .before .before in
+    c .before .before .before .fill-zero .kept .0 ∙ kept x
+
+returns-2 : tie.Need-returns-2
+returns-2 c =
+    let x = c .before .before .before .before .before .before .before .before .before .before .before in
+    let o = opened (at x) in
+    answered (means-5 (diskAt o) (zero (at x)) (omega (arith, c .before .before .before .before .before .if2 .taken, total x))) (c .refuse2 .ensures)
+    (c .before .before .before .fill-zero .ensures ∙ ap (λ (n : ℕ). replicate n 0) (kept x ∙ entry o .pre .1) ∙ sym (refused-memory 5))
 
 same-length-3 : tie.Need-same-length-3
-same-length-3 c =
-    let x = c .before .before .before .before .before .before .before .before .before .before in
-    c .before .before .refuse3 .kept .1 .0 ∙ (x .recover .kept .1 .1 .1 .0 ∙ loaded (at x) .load .kept .1 .1 .0)
+same-length-3 c = kept (c .before .before .before .before .before .before .before .before .before .before)
 
 returns-3 : tie.Need-returns-3
 returns-3 c =
     let x = c .before .before .before .before .before .before .before .before .before .before in
-    let l = loaded (at x) in
-    let r = c .before .before .refuse3 .ensures in
-    answered
-    (means-5 (diskAt l) (small l) (decodedAt l) (memoryAt l) refl (l .load .ensures .1) (shown (at x) .ok)
-    (omega (arith, c .before .before .before .before .if3 .taken, total x)))
-    (r .0) (r .1)
-
-same-length-4 : tie.Need-same-length-4
-same-length-4 c = let x = c .before .before .before .before .before .before .before .before .before .before in x .recover .kept .1 .1 .1 .0 ∙ loaded (at x) .load .kept .1 .1 .0
-
-returns-4 : tie.Need-returns-4
-returns-4 c =
-    let x = c .before .before .before .before .before .before .before .before .before .before in
-    let l = loaded (at x) in
-    answered
-    (means (diskAt l) (small l) (decodedAt l) (memoryAt l) refl (l .load .ensures .1) (shown (at x) .ok) (omega (arith, c .before .before .before .before .if3 .left, total x)))
-    (record {
-      found = ap₂ (λ (n : ℕ) (r : Recovered). examinedAt n r) (logend (at x)) (found x);
-      tail = x .recover .ensures .1 .1 ∙ ap (λ (o : AfterSteps). o .tail) (steps x);
-    })
-    (remembered x)
+    answered (means (diskAt (opened (at x))) (zero (at x)) (omega (arith, c .before .before .before .before .if2 .left, total x)))
+    (record { found = ap₂ (λ (n : ℕ) (r : Recovered). examinedAt n r) (shown (at x) .logend) (found x); tail = laid x })
+    (x .recover .ensures .1 .0 ∙ ap (λ (o : AfterSteps). o .memory) (steps x))
   where
     examinedAt : ℕ → Recovered → Examined
     examinedAt n r = record { number = 0; end = n + r .end; csn = r .csn; last = r .last; undone = r .undone; found = r .found }
@@ -256,17 +208,11 @@ pub judge-spec : {M : Type 1} → statement M
 judge-spec =
     tie.close
     (tie.spec
-    shared-slice-read-pointer
+    open-requires
     refuse-requires
     same-length
     returns
-    load-requires
-    refuse-requires-2
-    same-length-2
-    returns-2
-    image-at-requires
     cast-logend
-    add-start
     add-recover
     add-recover-2
     sub-recover
@@ -277,10 +223,11 @@ judge-spec =
     part-recover-end-2
     recover-requires
     add-end
-    mul-if3
-    add-if3
-    refuse-requires-3
+    mul-if2
+    add-if2
+    fill-zero-requires
+    refuse-requires-2
+    same-length-2
+    returns-2
     same-length-3
-    returns-3
-    same-length-4
-    returns-4)
+    returns-3)

@@ -5,11 +5,11 @@ use mathlib.Core.Path.{_≡_, sym, ap, ap₂, subst, _∙_}
 use lib.ListN.{take, drop, replicate}
 use Rattle.image.specs.Heads.{headsOf}
 use Rattle.image.specs.Reading.{memoryOf}
-use Rattle.disk.specs.Layout.{imageAt}
-use Rattle.disk.specs.Examine.{Loaded}
+use Rattle.layout.specs.Parts.{imageAt}
+use Rattle.disk.specs.Open.{Loaded}
 use Rattle.disk.proofs.Loading.{slot-within, load-none, load-image, memory-loaded, heads-none, heads-image}
-use Rattle.disk.proofs.examine.load.Statement.{statement}
-use Rattle.disk.proofs.examine.load.Tie as tie
+use Rattle.disk.proofs.open.load.Statement.{statement}
+use Rattle.disk.proofs.open.load.Tie as tie
 
 fill-zero-requires : tie.Need-fill-zero-requires
 fill-zero-requires c κs = search needs

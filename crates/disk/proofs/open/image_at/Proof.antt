@@ -1,6 +1,6 @@
 use borrow.Author.Tests.{ne-eqb}
-use Rattle.disk.proofs.examine.image_at.Statement.{statement}
-use Rattle.disk.proofs.examine.image_at.Tie as tie
+use Rattle.disk.proofs.open.image_at.Statement.{statement}
+use Rattle.disk.proofs.open.image_at.Tie as tie
 
 returns : tie.Need-returns
 returns c = rw (c .if1 .taken)
