@@ -1,5 +1,5 @@
 -- A disk that restart does not refuse: what it means, in full.
-use Prim.Native.Nat.{ℕ, _+_, _*_, _≤_, _<_}
+use Prim.Native.Nat.{ℕ, _+_, _*_, _≤_}
 use native.Mathlib.Omega.{arith}
 use mathlib.Core.Bool.{Bool, true, false}
 use mathlib.Core.List.{List}
@@ -20,7 +20,7 @@ use Rattle.restart.specs.Restart.{AfterSteps, recoverOf}
 use Rattle.restart.proofs.Recovery.{memory-is}
 use Rattle.disk.specs.Open.{openOf}
 use Rattle.disk.specs.Examine.{Meaning, refusedBy, stepsOf, meant, examineOf}
-use Rattle.disk.proofs.Opening.{opened-rules, opened-memory}
+use Rattle.disk.proofs.Opened.{opened-rules, opened-memory}
 use Rattle.disk.proofs.Examining.{means-shut, means-5, means}
 
 -- what step 1 takes from it, and what steps 2 to 5 make of that

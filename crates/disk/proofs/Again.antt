@@ -26,7 +26,7 @@ use Rattle.disk.specs.Open.{openOf}
 use Rattle.disk.specs.Examine.{Meaning, refusedBy, stepsOf, ifFits, examineOf}
 use Rattle.disk.specs.Restart.{clearing, refusedWith, ofMeaning}
 use Rattle.disk.specs.Restart as restarts
-use Rattle.disk.proofs.Opening.{log-length, opened-log, OpenAlike, log-stores-alike}
+use Rattle.disk.proofs.Opened.{log-length, opened-log, OpenAlike, log-stores-alike}
 use Rattle.disk.proofs.Examining.{roomy}
 use Rattle.disk.proofs.Accepted.{imageIn, memoryIn, logIn, Accepted, accepted-is}
 use Rattle.disk.proofs.Restarting.{cutFrom, doneFrom, restart-meant, restart-refused, restart-cut, restart-done}
@@ -46,7 +46,7 @@ cleared n end disk d h =
     ∙ ap (λ (x : List ℕ). take low (logPart disk) ++ (replicate k 0 ++ x)) r
     ∙ ap (λ (x : List ℕ). take low (logPart disk) ++ x) (append-nil (replicate k 0))
 
--- and the rest of the disk opens as before
+-- and the rest of the disk open-is as before
 pub cleared-alike : (n end : ℕ) (disk : List ℕ) → OpenAlike (apply (take n (clearing end)) disk) disk
 cleared-alike n end disk =
     subst (λ (ss : List Store). OpenAlike (apply (take n ss) disk) disk) (sym (clears-moved 17307 end (16384 - end)))

@@ -9,13 +9,13 @@ use lib.Dec.{eqb, ltb}
 use borrow.Author.Tests.{eq-eqb, ne-eqb, eqb-true, lt-ltb, le-ltb, ltb-false}
 use Rattle.log.proofs.LogLaws.{log-within}
 use Rattle.image.proofs.Rules.{image-logend, image-count}
-use Rattle.restart.specs.Restart.{AfterSteps, recoverOf}
+use Rattle.restart.specs.Restart.{AfterSteps}
 use Rattle.restart.proofs.Recovery.{end-is, count-is, undone-few}
 use Rattle.disk.specs.declared.examine.Judged.{Judged}
 use Rattle.disk.specs.Open.{OpenedDisk, openOf}
-use Rattle.disk.specs.Examine.{Meaning, refusedBy, stepsOf, meant, ifFits, ofOpened, examineOf}
+use Rattle.disk.specs.Examine.{Meaning, refusedBy, stepsOf, meant, ifFits, examineOf}
 use Rattle.disk.specs.Heads.{JudgedAs}
-use Rattle.disk.proofs.Opening.{opened-rules, opened-log, log-short}
+use Rattle.disk.proofs.Opened.{opened-rules, opened-log, log-short}
 
 -- what was answered and left is what a meaning has, if it is what an equal one has
 pub answered : {x y : Meaning} {r : Judged} {m : List ℕ} → x ≡ y → JudgedAs r y → m ≡ y .memory → JudgedAs r x × (m ≡ x .memory)

@@ -1,8 +1,8 @@
--- Laws of the disk: loading an image (Loading), a disk opened (Opening), what a disk means by cases (Examining) and in full where it is
+-- Laws of the disk: loading an image (Loading), a disk opened (Opened), what a disk means by cases (Examining) and in full where it is
 -- accepted (Accepted), equal bytes and equal in meaning (Bytes, Equals), restart by cases (Restarting); then what restart leaves: a state fit
 -- for number 2 (Usable), and a disk that means the same (Again).
 pub mod Loading
-pub mod Opening
+pub mod Opened
 pub mod Bytes
 pub mod Examining
 pub mod Restarting

@@ -18,7 +18,7 @@ use Rattle.store.proofs.Storing.{carried-cut, carried-done}
 use Rattle.disk.specs.Layout.{lengthsOk}
 use Rattle.disk.specs.Examine.{Meaning, examineOf}
 use Rattle.disk.specs.Restart.{clearing, restartPlan, refusedRestart, refusedWith, ofMeaning, restartOf}
-use Rattle.disk.proofs.Opening.{log-length}
+use Rattle.disk.proofs.Opened.{log-length}
 
 pub clearing-length : (end : ℕ) → length (clearing end) ≡ 16384 - end
 clearing-length end = length-clears (17307 + end) (16384 - end)

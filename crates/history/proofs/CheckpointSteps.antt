@@ -30,7 +30,7 @@ use Rattle.store.proofs.Checkpointing.{checkpoint-length, kept-log, kept-pointe
 use Rattle.store.proofs.Stepping.{same-or-other}
 use Rattle.disk.specs.Open.{Loaded, imageNamed, loadOf, OpenedDisk, openedBy, openOf}
 use Rattle.disk.proofs.Loading.{load-image}
-use Rattle.disk.proofs.Opening.{opens, opens-inv, open-alike}
+use Rattle.disk.proofs.Opened.{open-is, open-inv, open-alike}
 use Rattle.history.specs.Calls.{checkpoint, stored, World, stepOf}
 use Rattle.history.proofs.OnDisk.{Start, OnDisk, same-opened}
 use Rattle.history.proofs.Shows.{LiveOn, awake, rests, cut-rests, FollowsBy, refused-follows, checkpoint-refuses}
@@ -64,7 +64,7 @@ module _ {from : Start} (w : World) (d : Disk) (l : Live) (o : OnDisk from (w .d
     shows-cut : OnDisk from left d
     shows-cut =
         same-opened (w .disk) left d d o left-length
-        (open-alike left (w .disk) (kept-pointer s (w .disk) m t a z h) (kept-image s (w .disk) m t a z h (opens-inv (w .disk) (o .opened) .low))) refl refl
+        (open-alike left (w .disk) (kept-pointer s (w .disk) m t a z h) (kept-image s (w .disk) m t a z h (open-inv (w .disk) (o .opened) .low))) refl refl
         (ap (readLog (from .csn)) (kept-log s (w .disk) m t a z) ∙ o .log)
 
     cut-follows : FollowsBy from (up d l) (checkpoint a) (stepOf (checkpoint a) w)
@@ -121,7 +121,7 @@ module _ {from : Start} (w : World) (d : Disk) (l : Live) (o : OnDisk from (w .d
 
     opens-new : openOf left ≡ openedBy (imageNamed (pointerOf left) left) left
     opens-new =
-        opens left (subst (λ (q : ℕ). q ≤ 2) (sym pointer) (named (intoA p) .0)) loads-ok
+        open-is left (subst (λ (q : ℕ). q ≤ 2) (sym pointer) (named (intoA p) .0)) loads-ok
         ∙ ap (λ (x : Loaded). openedBy x left) loads
 
     -- what stands in the log stays as it was

@@ -27,7 +27,7 @@ use Rattle.store.proofs.Storing.{diskNumber, stored-cut, stored-done}
 use Rattle.store.proofs.Flushing.{flush-length, flush-room, flush-tail, flush-keeps}
 use Rattle.store.proofs.Stepping.{same-or-other}
 use Rattle.disk.specs.Layout.{logFrom}
-use Rattle.disk.proofs.Opening.{log-length, OpenAlike, log-stores-alike}
+use Rattle.disk.proofs.Opened.{log-length, OpenAlike, log-stores-alike}
 use Rattle.history.specs.Calls.{flush, stored, World, stepOf}
 use Rattle.history.proofs.Padded.{padded, padded-front, padded-shifted}
 use Rattle.history.proofs.OnDisk.{Start, OnDisk, same-opened}

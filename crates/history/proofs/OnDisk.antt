@@ -4,7 +4,7 @@ use Prim.Native.Nat.{ℕ, _+_, _-_, _*_, _≤_}
 use native.Mathlib.Omega.{arith}
 use mathlib.Core.Bool.{true}
 use mathlib.Core.List.{List, [], _++_}
-use mathlib.Core.Path.{_≡_, refl, sym, ap, ap₂, _∙_, subst}
+use mathlib.Core.Path.{_≡_, refl, sym, ap, ap₂, _∙_}
 use lib.ListN.{length, replicate, length-replicate}
 use Rattle.recovery.specs.Group.{Group, groupsSize, lastCsn}
 use Rattle.recovery.specs.Transaction.{Tx}
@@ -28,7 +28,7 @@ use Rattle.restart.proofs.Undos.{aborts-length}
 use Rattle.disk.specs.Layout.{logFrom}
 use Rattle.disk.specs.Open.{loadOf, openOf}
 use Rattle.disk.specs.Examine.{Meaning, stepsOf, examineOf}
-use Rattle.disk.proofs.Opening.{log-last, opened-rules, opened-log, OpenAlike}
+use Rattle.disk.proofs.Opened.{log-last, opened-rules, opened-log, OpenAlike}
 use Rattle.disk.proofs.Accepted as accepted
 use Rattle.disk.proofs.Accepted.{imageIn, memoryIn, logIn, stepsIn, Accepted}
 use Rattle.history.proofs.Padded.{padded}

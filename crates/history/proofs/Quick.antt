@@ -153,7 +153,7 @@ module _ (d m bs : List ℕ) (s : State) where
   restartQuick a =
       let r = examineOf d .result in
       let need = 16384 - r .end in
-      let left = take (17307 + r .end + (need - a)) d ++ replicate (need - (need - a)) 0 in
+      let left = take (17307 + r .end + (need - a)) d ++ (replicate (need - (need - a)) 0 ++ drop 33691 d) in
       cond (eqb (r .number) 0)
       (cond (ltb a need) (cutting a left)
       (telling (r .undone) need left (examineOf d .memory) (encodeLog (aborts (undoneBy (imageIn d) (logIn d)))) (recoveredState (r .end) (r .csn) (r .last))))

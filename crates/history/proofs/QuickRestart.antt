@@ -1,9 +1,9 @@
 -- Restart, the quick way, is right.
 use Prim.Native.Nat.{ℕ, _+_, _-_, _*_, _≤_, _<_}
 use native.Mathlib.Omega.{arith}
-use mathlib.Core.List.{List, [], _++_, append-nil}
+use mathlib.Core.List.{List, _++_}
 use mathlib.Core.Path.{_≡_, sym, ap, _∙_}
-use lib.ListN.{length, take, drop, replicate, drop-of-length-le}
+use lib.ListN.{length, take, drop, replicate}
 use lib.Dec.{eqb}
 use borrow.Author.Tests.{eqb-true}
 use Rattle.recovery.specs.Restart.{aborts}
@@ -63,20 +63,18 @@ module _ (d m bs : List ℕ) (s : State) (l : Lengths d m bs) where
     restarts = restartOf d m t a
 
     abbrev left : List ℕ
-    left = take (17307 + meaning .result .end + (need - a)) d ++ replicate (need - (need - a)) 0
+    left = take (17307 + meaning .result .end + (need - a)) d ++ (replicate (need - (need - a)) 0 ++ drop 33691 d)
 
-    -- the disk ends with the log
     left-is : apply (take a (clearing (meaning .result .end))) d ≡ left
     left-is =
         let fits = roomy d in
         let long = l .disk in
         let low = 17307 + meaning .result .end + (need - a) in
         let k = need - (need - a) in
-        let none : drop (low + k) d ≡ [] = drop-of-length-le d {i = low + k} (omega arith) in
+        let end : low + k ≡ 33691 = omega arith in
         ap (λ (ss : List Store). apply ss d) (first-clears a (17307 + meaning .result .end) need)
         ∙ apply-clears low k d (omega arith)
-        ∙ ap (λ (x : List ℕ). take low d ++ (replicate k 0 ++ x)) none
-        ∙ ap (λ (x : List ℕ). take low d ++ x) (append-nil (replicate k 0))
+        ∙ ap (λ (j : ℕ). take low d ++ (replicate k 0 ++ drop j d)) end
 
     left-length : length left ≡ 33691
     left-length = ap length (sym left-is) ∙ length-apply (take a (clearing (meaning .result .end))) d ∙ l .disk

@@ -28,7 +28,7 @@ use Rattle.store.proofs.Stepping.{SizedState}
 use Rattle.disk.specs.Layout.{logFrom}
 use Rattle.disk.specs.Examine.{Meaning, stepsOf, examineOf}
 use Rattle.disk.specs.Restart.{recoveredState, clearing, restartOf}
-use Rattle.disk.proofs.Opening.{log-length}
+use Rattle.disk.proofs.Opened.{log-length}
 use Rattle.disk.proofs.Accepted.{imageIn, memoryIn, logIn, stepsIn, Accepted, memory-length, tail-length}
 use Rattle.disk.proofs.Restarting.{cutFrom, doneFrom, restart-cut, restart-done}
 use Rattle.disk.proofs.Usable.{tail-reads, usable}

@@ -3,7 +3,7 @@ use borrow.Author.Needs.{needs}
 use native.Mathlib.Omega.{arith}
 use mathlib.Core.Bool.{true}
 use mathlib.Core.List.{List}
-use mathlib.Core.Path.{_≡_, refl, sym, ap, ap₂, _∙_, subst}
+use mathlib.Core.Path.{_≡_, sym, ap, ap₂, _∙_, subst}
 use lib.ListN.{length, take, drop, replicate}
 use Rattle.layout.specs.Parts.{part}
 use Rattle.log.specs.declared.TxId.{TxId}
@@ -15,13 +15,12 @@ use Rattle.restart.specs.Restart.{AfterSteps, recoverOf}
 use Rattle.restart.specs.Turns.{abortsLaid}
 use Rattle.restart.proofs.Recovery.{laid-tail}
 use Rattle.disk.specs.declared.examine.Examined.{Examined}
-use Rattle.disk.specs.declared.examine.Judged.{Judged}
 use Rattle.disk.specs.declared.open.Opened.{Opened}
 use Rattle.disk.specs.Open.{openOf}
 use Rattle.disk.specs.Examine.{refusedBy, stepsOf}
 use Rattle.disk.specs.Heads.{JudgedAs}
 use Rattle.disk.proofs.Loading.{lent}
-use Rattle.disk.proofs.Opening.{opened-rules, shut-memory, same-number, Handed, handed}
+use Rattle.disk.proofs.Opened.{opened-rules, shut-memory, handed-number, Handed, handed}
 use Rattle.disk.proofs.Examining.{answered, means-shut, refused-memory, end-within, undone-within, means-5, means}
 use Rattle.disk.proofs.examine.judge.Statement.{statement}
 use Rattle.disk.proofs.examine.judge.Tie as tie
@@ -44,7 +43,7 @@ abbrev diskAt : tie.After-open → List ℕ
 diskAt o = entry o .args .disk .now
 
 number : (o : tie.After-open) → o .«open» .result .number ≡ openOf (diskAt o) .number
-number o = ap (λ (x : Opened). x .number) (o .«open» .ensures .0) ∙ same-number (diskAt o)
+number o = ap (λ (x : Opened). x .number) (o .«open» .ensures .0) ∙ handed-number (diskAt o)
 
 returns : tie.Need-returns
 returns c =

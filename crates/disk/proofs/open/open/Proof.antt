@@ -1,6 +1,5 @@
 use Prim.Native.Nat.{ℕ, _+_, _≤_, _<_}
 use native.Mathlib.Omega.{arith}
-use mathlib.Core.Bool.{true, false}
 use mathlib.Core.List.{List}
 use mathlib.Core.Path.{_≡_, sym, ap, ap₂, _∙_}
 use borrow.Author.Needs.{needs}
@@ -8,10 +7,10 @@ use borrow.Author.Tests.{not-true, not-false}
 use Rattle.layout.specs.Parts.{pointerOf, imageAt}
 use Rattle.image.specs.declared.read.Heads.{Heads}
 use Rattle.disk.specs.declared.open.Opened.{Opened}
-use Rattle.disk.specs.Open.{OpenedDisk, loadOf, notOpened, openOf}
+use Rattle.disk.specs.Open.{OpenedDisk, notOpened, openOf}
 use Rattle.disk.specs.Heads.{headsNamed, shutBy, openedOf}
 use Rattle.disk.proofs.Loading.{named, not-named}
-use Rattle.disk.proofs.Opening.{opens-3, opens-4, opens, shut-opens, places-opened, handed}
+use Rattle.disk.proofs.Opened.{shut-3, shut-4, open-is, handed-shut, handed-places, handed}
 use Rattle.disk.proofs.open.open.Statement.{statement}
 use Rattle.disk.proofs.open.open.Tie as tie
 
@@ -26,13 +25,13 @@ same-length c = search needs
 
 refused : {r : Opened} {m : List ℕ} (disk : List ℕ) (n : ℕ) → 0 < n → openOf disk ≡ notOpened n → r ≡ shutBy n → m ≡ notOpened n .memory
     → (r ≡ openedOf disk) × (m ≡ openOf disk .memory)
-refused disk n h e p q = (p ∙ sym (shut-opens disk n h e), q ∙ sym (ap (λ (x : OpenedDisk). x .memory) e))
+refused disk n h e p q = (p ∙ sym (handed-shut disk n h e), q ∙ sym (ap (λ (x : OpenedDisk). x .memory) e))
 
 returns : tie.Need-returns
 returns c =
     let disk = c .before .before .before .before .before .before .before .before .args .disk .now in
     let s = c .before .before .shut .ensures in
-    refused disk 3 (omega arith) (opens-3 disk (c .before .before .before .before .if1 .taken)) (s .0) (s .1)
+    refused disk 3 (omega arith) (shut-3 disk (c .before .before .before .before .if1 .taken)) (s .0) (s .1)
 
 load-requires : tie.Need-load-requires
 load-requires c κs = search needs
@@ -57,7 +56,7 @@ returns-2 c =
     let s = c .before .before .shut2 .ensures in
     let n = not-named (pointerOf (diskAt l)) (diskAt l)
     (sym (ap (λ (h : Heads). h .ok) (l .load .ensures .0)) ∙ not-true _ (c .before .before .before .before .if2 .taken)) in
-    refused (diskAt l) 4 (omega arith) (opens-4 (diskAt l) (small l) n) (s .0) (s .1)
+    refused (diskAt l) 4 (omega arith) (shut-4 (diskAt l) (small l) n) (s .0) (s .1)
 
 image-at-requires : tie.Need-image-at-requires
 image-at-requires c κs = search needs
@@ -81,9 +80,9 @@ returns-3 c =
     let q = pointerOf disk in
     let heads = l .load .ensures .0 in
     let named = named q disk (sym (ap (λ (h : Heads). h .ok) heads) ∙ not-false _ (c .before .before .if2 .left)) in
-    let is = opens disk (small l) (named .ok) in
+    let is = open-is disk (small l) (named .ok) in
     let zero : openOf disk .number ≡ 0 = ap (λ (x : OpenedDisk). x .number) is in
-    let places = places-opened disk zero in
+    let places = handed-places disk zero in
     let logend : l .load .result .logend ≡ openOf disk .image .logend =
     ap (λ (h : Heads). h .logend) heads ∙ sym (ap (λ (o : Opened). o .heads .logend) places) ∙ handed disk zero .logend in (
       ap₂ (λ (h : Heads) (i : ℕ). record { number = 0; heads = h; image = i; from = 17307 + l .load .result .logend; to = 33691 }) heads (c .before .image-at .ensures)

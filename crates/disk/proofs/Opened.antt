@@ -26,7 +26,7 @@ use Rattle.disk.specs.declared.open.Opened.{Opened}
 use Rattle.disk.specs.Layout.{logFrom}
 use Rattle.disk.specs.Open.{Loaded, noImage, imageNamed, loadOf, OpenedDisk, notOpened, openedBy, ofLoaded, openOf}
 use Rattle.disk.specs.Heads.{headsNamed, placesIn, shutBy, openedOf}
-use Rattle.disk.proofs.Loading.{slot-within, txsPart, Named, named, not-named}
+use Rattle.disk.proofs.Loading.{slot-within, txsPart, named, not-named}
 
 -- ---- the log
 
@@ -53,48 +53,48 @@ log-short at disk = omega (arith, length-drop at (take 16384 (drop 17307 disk)),
 
 -- ---- by cases
 
-pub opens-3 : (disk : List ℕ) → 2 < pointerOf disk → openOf disk ≡ notOpened 3
+pub shut-3 : (disk : List ℕ) → 2 < pointerOf disk → openOf disk ≡ notOpened 3
 unfolding openOf
-opens-3 disk h = rw (lt-ltb 2 (pointerOf disk) h)
+shut-3 disk h = rw (lt-ltb 2 (pointerOf disk) h)
 
 module _ (disk : List ℕ) (p : pointerOf disk ≤ 2) where
-  pub opens-4 : loadOf (pointerOf disk) disk .decoded .ok ≡ false → openOf disk ≡ notOpened 4
+  pub shut-4 : loadOf (pointerOf disk) disk .decoded .ok ≡ false → openOf disk ≡ notOpened 4
   unfolding openOf
-  opens-4 e = rw (le-ltb 2 (pointerOf disk) p, e)
+  shut-4 e = rw (le-ltb 2 (pointerOf disk) p, e)
 
-  pub opens : loadOf (pointerOf disk) disk .decoded .ok ≡ true → openOf disk ≡ openedBy (loadOf (pointerOf disk) disk) disk
+  pub open-is : loadOf (pointerOf disk) disk .decoded .ok ≡ true → openOf disk ≡ openedBy (loadOf (pointerOf disk) disk) disk
   unfolding openOf
-  opens e = rw (le-ltb 2 (pointerOf disk) p, e)
+  open-is e = rw (le-ltb 2 (pointerOf disk) p, e)
 
 not-opened : (n : ℕ) → notOpened n .number ≡ n
 unfolding notOpened
 not-opened n = refl
 
 -- nothing refuses
-pub record Opens (disk : List ℕ) : Type 0 where
+pub record IsOpen (disk : List ℕ) : Type 0 where
   pub low : pointerOf disk ≤ 2
   pub ok : loadOf (pointerOf disk) disk .decoded .ok ≡ true
   pub is : openOf disk ≡ openedBy (loadOf (pointerOf disk) disk) disk
 
 data Ways (disk : List ℕ) : Type 0 where
   shut : (n : ℕ) → 0 < n → openOf disk ≡ notOpened n → Ways disk
-  opened : Opens disk → Ways disk
+  opened : IsOpen disk → Ways disk
 
 ways : (disk : List ℕ) → Ways disk
 ways disk = first (ltb 2 (pointerOf disk)) refl
   where
     second : pointerOf disk ≤ 2 → (b : Bool) → loadOf (pointerOf disk) disk .decoded .ok ≡ b → Ways disk
-    second p true t = opened (record { low = p; ok = t; is = opens disk p t })
-    second p false t = shut 4 (omega arith) (opens-4 disk p t)
+    second p true t = opened (record { low = p; ok = t; is = open-is disk p t })
+    second p false t = shut 4 (omega arith) (shut-4 disk p t)
 
     first : (b : Bool) → ltb 2 (pointerOf disk) ≡ b → Ways disk
-    first true t = shut 3 (omega arith) (opens-3 disk (ltb-true 2 (pointerOf disk) t))
+    first true t = shut 3 (omega arith) (shut-3 disk (ltb-true 2 (pointerOf disk) t))
     first false t = second (ltb-false 2 (pointerOf disk) t) (loadOf (pointerOf disk) disk .decoded .ok) refl
 
-pub opens-inv : (disk : List ℕ) → openOf disk .number ≡ 0 → Opens disk
-opens-inv disk e = go (ways disk)
+pub open-inv : (disk : List ℕ) → openOf disk .number ≡ 0 → IsOpen disk
+open-inv disk e = go (ways disk)
   where
-    go : Ways disk → Opens disk
+    go : Ways disk → IsOpen disk
     go (shut n h o) = absurd (omega (arith, h, e, ap (λ (x : OpenedDisk). x .number) o, not-opened n))
     go (opened o) = o
 
@@ -132,30 +132,30 @@ loaded-length pointer disk d = go (eqb pointer 0)
 module _ (disk : List ℕ) (e : openOf disk .number ≡ 0) where
   pub opened-rules : keepsRules (openOf disk .image) ≡ true
   opened-rules =
-      let o = opens-inv disk e in
+      let o = open-inv disk e in
       ap (λ (x : OpenedDisk). keepsRules (x .image)) (o .is) ∙ loaded-keeps (pointerOf disk) disk (o .ok)
 
   pub opened-memory : length disk ≡ 33691 → length (openOf disk .memory) ≡ 4096
-  opened-memory d = ap (λ (x : OpenedDisk). length (x .memory)) (opens-inv disk e .is) ∙ loaded-length (pointerOf disk) disk d
+  opened-memory d = ap (λ (x : OpenedDisk). length (x .memory)) (open-inv disk e .is) ∙ loaded-length (pointerOf disk) disk d
 
   pub opened-log : openOf disk .log ≡ logFrom (openOf disk .image .logend) disk
-  opened-log = let is = opens-inv disk e .is in ap (λ (x : OpenedDisk). x .log) is ∙ sym (ap (λ (x : OpenedDisk). logFrom (x .image .logend) disk) is)
+  opened-log = let is = open-inv disk e .is in ap (λ (x : OpenedDisk). x .log) is ∙ sym (ap (λ (x : OpenedDisk). logFrom (x .image .logend) disk) is)
 
 -- ---- what the code hands on
 
-pub shut-opens : (disk : List ℕ) (n : ℕ) → 0 < n → openOf disk ≡ notOpened n → openedOf disk ≡ shutBy n
+pub handed-shut : (disk : List ℕ) (n : ℕ) → 0 < n → openOf disk ≡ notOpened n → openedOf disk ≡ shutBy n
 unfolding openedOf
-shut-opens disk n h e =
+handed-shut disk n h e =
     let k : openOf disk .number ≡ n = ap (λ (x : OpenedDisk). x .number) e ∙ not-opened n in
     rw (k, ne-eqb n 0 (λ z. omega (arith, h, z)))
 
-pub places-opened : (disk : List ℕ) → openOf disk .number ≡ 0 → openedOf disk ≡ placesIn disk
+pub handed-places : (disk : List ℕ) → openOf disk .number ≡ 0 → openedOf disk ≡ placesIn disk
 unfolding openedOf
-places-opened disk e = rw (eq-eqb (openOf disk .number) 0 e)
+handed-places disk e = rw (eq-eqb (openOf disk .number) 0 e)
 
-pub same-number : (disk : List ℕ) → openedOf disk .number ≡ openOf disk .number
+pub handed-number : (disk : List ℕ) → openedOf disk .number ≡ openOf disk .number
 unfolding openedOf shutBy
-same-number disk = go (eqb (openOf disk .number) 0) refl
+handed-number disk = go (eqb (openOf disk .number) 0) refl
   where
     go : (b : Bool) → eqb (openOf disk .number) 0 ≡ b → cond b (placesIn disk) (shutBy (openOf disk .number)) .number ≡ openOf disk .number
     go true e = sym (eqb-true (openOf disk .number) 0 e)
@@ -172,13 +172,13 @@ pub record Handed (o : Opened) (disk : List ℕ) : Type 0 where
   pub log : part (o .from) (o .to - o .from) disk ≡ openOf disk .log
 
 pub handed : (disk : List ℕ) → openOf disk .number ≡ 0 → Handed (openedOf disk) disk
-handed disk e = subst (λ (o : Opened). Handed o disk) (sym (places-opened disk e)) (go (headsNamed p disk .ok) refl)
+handed disk e = subst (λ (o : Opened). Handed o disk) (sym (handed-places disk e)) (go (headsNamed p disk .ok) refl)
   where
     p : ℕ
     p = pointerOf disk
 
-    o : Opens disk
-    o = opens-inv disk e
+    o : IsOpen disk
+    o = open-inv disk e
 
     go : (b : Bool) → headsNamed p disk .ok ≡ b → Handed (placesIn disk) disk
     go false h = let z : false ≡ true = sym (not-named p disk h) ∙ o .ok in clash (cc)
