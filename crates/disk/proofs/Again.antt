@@ -14,7 +14,7 @@ use Rattle.recovery.proofs.Groups.{fitting-all}
 use Rattle.log.specs.Stores.{Store, apply, clears}
 use Rattle.log.specs.Log.{readLog}
 use Rattle.log.proofs.StoreLaws.{first-clears, apply-clears, length-apply}
-use Rattle.log.proofs.PartLaws.{clears-moved, part-first}
+use Rattle.log.proofs.PartLaws.{clears-moved, part-first, within-clears}
 use Rattle.log.proofs.Torn.{torn-rest, log-torn}
 use Rattle.image.specs.declared.Image.{Image}
 use Rattle.restart.specs.Forward.{startOf, groupsOf, goOver, forwardOf}
@@ -47,10 +47,10 @@ cleared n end disk d h =
     ∙ ap (λ (x : List ℕ). take low (logPart disk) ++ x) (append-nil (replicate k 0))
 
 -- and the rest of the disk open-is as before
-pub cleared-alike : (n end : ℕ) (disk : List ℕ) → OpenAlike (apply (take n (clearing end)) disk) disk
-cleared-alike n end disk =
+pub cleared-alike : (n end : ℕ) (disk : List ℕ) → end ≤ 16384 → OpenAlike (apply (take n (clearing end)) disk) disk
+cleared-alike n end disk h =
     subst (λ (ss : List Store). OpenAlike (apply (take n ss) disk) disk) (sym (clears-moved 17307 end (16384 - end)))
-    (log-stores-alike n (clears end (16384 - end)) disk)
+    (log-stores-alike n (clears end (16384 - end)) disk (within-clears 16384 end (16384 - end) (omega (arith, h))))
 
 -- steps 2 to 5 look at the log's groups alone
 steps-same : (i : Image) (log log' m t : List ℕ) → groupsOf i log' ≡ groupsOf i log → recoverOf i log' m t ≡ recoverOf i log m t
@@ -72,6 +72,9 @@ module _ (disk : List ℕ) (d : length disk ≡ 33691) (a : Accepted disk) where
   abbrev end : ℕ
   end = examineOf disk .result .end
 
+  within : end ≤ 16384
+  within = omega (arith, roomy disk)
+
   groups-size : imageIn disk .logend + groupsSize (groupsOf (imageIn disk) (logIn disk)) ≡ end
   unfolding stepsOf
   groups-size =
@@ -83,12 +86,12 @@ module _ (disk : List ℕ) (d : length disk ≡ 33691) (a : Accepted disk) where
       groupsOf (imageIn disk) (logIn left) ≡ groupsOf (imageIn disk) (logIn disk)
   groups-again n =
       let left = apply (take n (clearing end)) disk in
-      let alike = cleared-alike n end disk in
+      let alike = cleared-alike n end disk within in
       let i = imageIn disk .logend in
       let csn = imageIn disk .ondisk .0 in
       let p = end + (16384 - end - n) in
       let k = 16384 - end - (16384 - end - n) in
-      let room = roomy disk in
+      let room = within in
       let size = groups-size in
       let l = log-length disk d in
       let gs = groupsOf (imageIn disk) (logIn disk) in
@@ -96,14 +99,14 @@ module _ (disk : List ℕ) (d : length disk ≡ 33691) (a : Accepted disk) where
       let torn : logIn left ≡ take (p - i) (drop i (logPart disk)) ++ replicate k 0 =
       opened-log left (alike .number ∙ a .opened)
       ∙ ap (λ (x : Image). logFrom (x .logend) left) (alike .image)
-      ∙ ap (drop i) (cleared n end disk d (omega arith))
+      ∙ ap (drop i) (cleared n end disk d within)
       ∙ torn-rest csn (logPart disk) p k i (omega arith) (omega arith) in
       ap (readLog csn) torn
       ∙ log-torn csn gs (drop i (logPart disk)) (p - i) k (ap (readLog csn) (sym log))
       ∙ fitting-all (p - i) gs (omega arith)
 
   pub means-again : (n : ℕ) → examineOf (apply (take n (clearing end)) disk) ≡ examineOf disk
-  means-again n = same-meaning (apply (take n (clearing end)) disk) disk (cleared-alike n end disk) (groups-again n)
+  means-again n = same-meaning (apply (take n (clearing end)) disk) disk (cleared-alike n end disk within) (groups-again n)
 
 -- ---- restart after restart
 

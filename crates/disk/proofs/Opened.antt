@@ -11,7 +11,7 @@ use borrow.Author.Tests.{eq-eqb, ne-eqb, eqb-true, lt-ltb, le-ltb, ltb-true, ltb
 use Rattle.layout.specs.Parts.{part, pointerOf, imageAt, imagePart, logPart}
 use Rattle.log.specs.Stores.{Store, apply}
 use Rattle.log.proofs.Basics.{clash}
-use Rattle.log.proofs.PartLaws.{moved, outside-take, outside-moved, part-outside, byte-same}
+use Rattle.log.proofs.PartLaws.{moved, Within, outside-take, outside-within, part-outside, byte-same}
 use Rattle.log.proofs.RoundTrip.{drop-take}
 use Rattle.image.specs.declared.Image.{Image}
 use Rattle.image.specs.Rules.{keepsRules}
@@ -230,10 +230,10 @@ open-alike x y p e =
     same false false l = (refl, refl, refl)
 
 -- stores into the log
-pub log-stores-alike : (k : ℕ) (ss : List Store) (disk : List ℕ) → OpenAlike (apply (take k (moved 17307 ss)) disk) disk
-log-stores-alike k ss disk =
+pub log-stores-alike : (k : ℕ) (ss : List Store) (disk : List ℕ) → Within 16384 ss → OpenAlike (apply (take k (moved 17307 ss)) disk) disk
+log-stores-alike k ss disk w =
     let left = apply (take k (moved 17307 ss)) disk in
     let kept : (at n : ℕ) → at + n ≤ 17307 → part at n left ≡ part at n disk =
-    λ at n h. part-outside at n (take k (moved 17307 ss)) disk (outside-take at n k (moved 17307 ss) (outside-moved at n 17307 ss h)) in
+    λ at n h. part-outside at n (take k (moved 17307 ss)) disk (outside-take at n k (moved 17307 ss) (outside-within at n 17307 16384 ss w (λ l. h))) in
     open-alike left disk (byte-same 0 1 left disk (omega arith) (kept 0 1 (omega arith)))
     (kept (imageAt (pointerOf disk)) 8653 (omega (arith, slot-within (pointerOf disk))))

@@ -14,7 +14,7 @@ use Rattle.recovery.proofs.Log.{stored-before, stored-stands}
 use Rattle.log.specs.Log.{readLog, encodeLog}
 use Rattle.log.specs.Stores.{Store, apply, copies, shifted}
 use Rattle.log.proofs.Parts.{encode-append, formed-first}
-use Rattle.log.proofs.PartLaws.{copies-moved, part-copied}
+use Rattle.log.proofs.PartLaws.{copies-moved, part-copied, within-copies}
 use Rattle.log.proofs.RoundTrip.{length-log, log-same}
 use Rattle.log.proofs.Soundness.{log-formed}
 use Rattle.log.proofs.StoreLaws.{drop-zeros, length-apply, length-shifted}
@@ -142,7 +142,8 @@ module _ {from : Start} (w : World) (d : Disk) (l : Live) (o : OnDisk from (w .d
     left-alike : OpenAlike left (w .disk)
     left-alike =
         subst (λ (ss : List Store). OpenAlike (apply (take n ss) (w .disk)) (w .disk)) (sym (copies-moved 17307 (s .logend) (take size t)))
-        (log-stores-alike n (copies (s .logend) (take size t)) (w .disk))
+        (log-stores-alike n (copies (s .logend) (take size t)) (w .disk)
+        (within-copies 16384 (s .logend) (take size t) (omega (arith, length-take size t, room))))
 
     shows-left : (gs : List Group) → fitting n firsts ≡ gs → OnDisk from left (storing gs d)
     shows-left gs e =

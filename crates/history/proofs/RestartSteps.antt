@@ -76,7 +76,7 @@ module _ {from : Start} (disk : List ℕ) (d : Disk) (o : OnDisk from disk d) (n
         ∙ fitting-all front (standingIn d) (omega (arith, ends))
 
     shows-left : OnDisk from left d
-    shows-left = same-opened disk left d d o (length-apply (take k (clearing end)) disk ∙ o .long) (cleared-alike k end disk) refl refl log-left
+    shows-left = same-opened disk left d d o (length-apply (take k (clearing end)) disk ∙ o .long) (cleared-alike k end disk (omega (arith, ends, room))) refl refl log-left
 
   -- ---- the state, memory and tail of a restart that is done
 

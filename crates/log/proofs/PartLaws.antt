@@ -118,10 +118,13 @@ outside-copies at n i (v ∷ vs) h = (
   outside-copies at n (suc i) vs (λ l. let g = h (omega (arith, l)) in omega (arith, g)),
 )
 
--- stores from an offset on leave what lies before it
-pub outside-moved : (at n from : ℕ) (ss : List Store) → at + n ≤ from → Outside at n (moved from ss)
-outside-moved at n from [] h = tt
-outside-moved at n from (store i v ∷ ss) h = (λ l. omega (arith, h), outside-moved at n from ss h)
+-- stores inside a part lie outside each other part that it does not meet
+pub outside-within : (at n from k : ℕ) (ss : List Store) → Within k ss → (at < from + k → at + n ≤ from) → Outside at n (moved from ss)
+outside-within at n from k [] w h = tt
+outside-within at n from k (store i v ∷ ss) w h = (
+  λ l. let g = h (omega (arith, l, w .0)) in omega (arith, g),
+  outside-within at n from k ss (w .1) h,
+)
 
 set-outside : (at n : ℕ) (d : List ℕ) (i v : ℕ) → (at ≤ i → at + n ≤ i) → part at n (set d i v) ≡ part at n d
 set-outside at n d i v h =
