@@ -2,7 +2,6 @@
 use layout::MAX_TXS;
 use log::Csn;
 use log::TxId;
-use transaction::Tx;
 use transaction::alike;
 ghost use mathlib.Core.Path.{_≡_};
 ghost use Prim.Native.Nat.{_-_, _≤_};
@@ -11,7 +10,7 @@ ghost use Rattle.recovery.specs.Lists.{any};
 ghost use Rattle.transaction.specs.Lists.{upFrom};
 ghost use Rattle.transaction.specs.Rules.{alike};
 ghost use Rattle.image.specs.Rules.{distinct};
-ghost use Rattle.image.specs.Keys.{noKeys, keysOf, keyAt};
+ghost use Rattle.image.specs.Keys.{noKeys, keyAt};
 
 pub struct Keys {
     pub ids: [TxId; MAX_TXS],
@@ -29,21 +28,8 @@ pub(crate) fn no_keys() -> Keys
     }
 }
 
-pub fn keys_of(txs: [Tx; MAX_TXS]) -> Keys
-    ensures { λ r. ⌜ r ≡ keysOf txs ⌝ }
-{
-    let mut keys = no_keys();
-    let mut i: usize = 0;
-    while i < MAX_TXS {
-        keys.ids[i] = TxId(txs[i].id.0);
-        keys.csns[i] = Csn(txs[i].csn.0);
-        i += 1;
-    }
-    keys
-}
-
 // Whether one of the n transactions from slot i on has this id, or this commit number where that is one.
-pub fn alike_from(keys: Keys, n: usize, i: usize, id: TxId, csn: Csn) -> bool
+pub(crate) fn alike_from(keys: Keys, n: usize, i: usize, id: TxId, csn: Csn) -> bool
     requires { ⌜ (i ≤ n) × (n ≤ maxTxs) ⌝ }
     ensures { λ r. ⌜ r ≡ any (alike (id .0) (csn .0)) (upFrom (keyAt keys) (n - i) i) ⌝ }
 {

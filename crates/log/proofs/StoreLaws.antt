@@ -4,11 +4,11 @@ use native.Mathlib.Nat.{add-zero, suc-add}
 use native.Mathlib.Numerals.{add-one, towards-suc}
 use native.Mathlib.Decide.{decLe}
 use native.Mathlib.Omega.{arith}
-use mathlib.Core.List.{List, [], _∷_, _++_, append-nil}
+use mathlib.Core.List.{List, [], _∷_, _++_, append-nil, append-assoc}
 use mathlib.Core.Path.{_≡_, refl, sym, ap, ap₂, _∙_}
-use lib.ListN.{length, take, drop, getD, set, replicate, length-set, length-append, length-drop, length-replicate, getD-replicate, take-append-drop}
+use lib.ListN.{length, take, drop, getD, set, replicate, length-set, length-append, length-drop, length-replicate, getD-replicate, take-append-drop, replicate-append-replicate}
 use lib.ListN.{drop-of-length-le}
-use lib.Seq.{sets, sets-eq, length-sets, take-suc, take-all, take-length, take-at, length-take-le, take-set-le, drop-set-lt, drop-cons, getD-drop}
+use lib.Seq.{sets, sets-eq, length-sets, take-suc, take-all, take-length, take-at, length-take-le, take-set-le, drop-set-lt, drop-cons, drop-append-le, getD-drop}
 use lib.Seq.{getD-set-same, getD-set-other}
 use Rattle.log.specs.Number.{bytes16}
 use Rattle.log.specs.Record.{redo, encode}
@@ -205,6 +205,27 @@ shift-none b =
 pub length-shifted : (n : ℕ) (b : List ℕ) → length (shifted n b) ≡ length b
 unfolding shifted
 length-shifted n b = simp (length-append, length-drop, length-replicate) (omega arith)
+
+-- where zeros stand from an end on, what comes before it is all that moves
+pub shifted-part : (n end : ℕ) (b : List ℕ) → n ≤ end → end ≤ length b → drop end b ≡ replicate (length b - end) 0
+    → shifted n (take end b) ++ drop end b ≡ shifted n b
+unfolding shifted
+shifted-part n end b h l z =
+    let k = length b - end in
+    let m = min n (length b) in
+    let front = drop n (take end b) in
+    let e : length (take end b) ≡ end = length-take-le end b l in
+    let i : min n (length (take end b)) ≡ n = omega arith in
+    let j : n + k ≡ k + m = omega arith in
+    let swap : _≡_ {A = List ℕ} (replicate n 0 ++ replicate k 0) (replicate k 0 ++ replicate m 0) =
+    replicate-append-replicate n k 0 ∙ ap (λ (x : ℕ). replicate x 0) j ∙ sym (replicate-append-replicate k m 0) in
+    let rest : front ++ replicate k 0 ≡ drop n b =
+    ap (λ (x : List ℕ). front ++ x) (sym z) ∙ sym (drop-append-le n (take end b) (drop end b) (omega arith)) ∙ ap (drop n) (take-append-drop end b) in
+    ap₂ (λ (x : ℕ) (y : List ℕ). (front ++ replicate x 0) ++ y) i z
+    ∙ append-assoc front (replicate n 0) (replicate k 0)
+    ∙ ap (λ (x : List ℕ). front ++ x) swap
+    ∙ sym (append-assoc front (replicate k 0) (replicate m 0))
+    ∙ ap (λ (x : List ℕ). x ++ replicate m 0) rest
 
 -- fewer zeros
 pub drop-zeros : (n k : ℕ) → _≡_ {A = List ℕ} (drop n (replicate k 0)) (replicate (k - n) 0)

@@ -3,10 +3,10 @@
 use Prim.Native.Nat.{ℕ, _+_, _-_, _≤_, _<_, min}
 use native.Mathlib.Omega.{arith}
 use mathlib.Core.Bool.{Bool, true, _&&_}
-use mathlib.Core.List.{List, [], _∷_, _++_}
+use mathlib.Core.List.{List, [], _∷_, _++_, append-nil}
 use mathlib.Core.Path.{_≡_, refl, sym, ap, ap₂, _∙_}
-use lib.ListN.{length, take, drop, replicate, take-append-drop}
-use lib.Seq.{length-take-le, drop-drop, drop-append-le}
+use lib.ListN.{length, take, drop, replicate, length-drop, take-append-drop}
+use lib.Seq.{take-nil, length-take-le, drop-drop, drop-append-le}
 use lib.Dec.{leb, eqb}
 use borrow.Author.Tests.{eq-eqb, eqb-true, le-leb}
 use Rattle.recovery.specs.Group.{Group, committed, aborted, groupsSize, csnAfter, lastCsn}
@@ -19,7 +19,7 @@ use Rattle.log.specs.Stores.{Store, apply, copies, shifted}
 use Rattle.log.proofs.LogLaws.{log-within}
 use Rattle.log.proofs.Parts.{log-split, log-padding}
 use Rattle.log.proofs.Soundness.{log-formed}
-use Rattle.log.proofs.StoreLaws.{length-copies}
+use Rattle.log.proofs.StoreLaws.{length-copies, shifted-part}
 use Rattle.log.proofs.Basics.{and-left, and-right}
 use Rattle.store.specs.declared.State.{State}
 use Rattle.store.specs.State.{unrecovered, outlinesOf}
@@ -27,9 +27,9 @@ use Rattle.store.specs.Answer.{done, cut, tells}
 use Rattle.store.specs.Calls.{refusing}
 use Rattle.image.specs.Rules.{outlinesOk}
 use Rattle.store.specs.Rules.{allZero, tailLength}
-use Rattle.store.specs.Stored.{zeroed}
+use Rattle.store.specs.Stored.{Plan, zeroed, madeWhole}
 use Rattle.store.specs.Flush.{withLog, firstGroups, firstSize, flushedState, flushedTail, flushStores, flushPlan, flushOf}
-use Rattle.store.proofs.Zeros.{zeros-behind}
+use Rattle.store.proofs.Zeros.{zeros-behind, zeros-all}
 use Rattle.store.proofs.Fits.{Fit}
 use Rattle.store.proofs.Storing.{copies-moved, part-stored, diskNumber, disk-admitted, stored-refused, stored-cut, stored-done}
 
@@ -54,6 +54,12 @@ module _ (s : State) (t : List ℕ) (k : ℕ) where
   -- "uses more than 16,384 bytes of log room" is number 2, so the groups fit into the log
   pub flush-room : Fit s t → s .logend + firstSize s t k ≤ 16384
   flush-room f = omega (arith, first-within, f .room)
+
+-- groups that take no bytes are none
+groups-none : (gs : List Group) → groupsSize gs ≡ 0 → gs ≡ []
+groups-none [] e = refl
+groups-none (committed id n ws ∷ gs) e = absurd (omega arith)
+groups-none (aborted id ∷ gs) e = absurd (omega arith)
 
 -- ---- the cases, as the code comes to them
 
@@ -85,6 +91,59 @@ module _ (s : State) (d m t : List ℕ) (k allowed : ℕ) where
           bytes = n ∙ sym size;
           log = omega (arith, size, flush-room s t k (a .fits));
         }
+
+    -- a plan to store these groups
+    abbrev storing : List Group → Plan
+    storing gs =
+        record {
+          stores = copies (17307 + s .logend) (take (groupsSize gs) t);
+          value = 0;
+          state = withLog s (s .logend + groupsSize gs) (record { 0 = lastCsn (s .ondisk .0) gs });
+          memory = m;
+          tail = shifted (groupsSize gs) t;
+        }
+
+    -- without a group nothing changes
+    nothing : madeWhole (storing []) allowed d ≡ record { result = tells done 0 0 s; disk = d; memory = m; tail = t }
+    unfolding shifted
+    nothing =
+        let a : min allowed 0 ≡ 0 = omega arith in
+        let b : s .logend + 0 ≡ s .logend = omega arith in
+        let z : min 0 (length t) ≡ 0 = omega arith in
+        let stored : take allowed (copies (17307 + s .logend) []) ≡ [] = take-nil allowed in
+        let moved : t ++ replicate (min 0 (length t)) 0 ≡ t = ap (λ (n : ℕ). t ++ replicate n 0) z ∙ append-nil t in
+        ap₂ (λ (n k : ℕ).
+        record {
+          result = tells done 0 n (withLog s k (s .ondisk));
+          disk = apply (take allowed (copies (17307 + s .logend) [])) d;
+          memory = m;
+          tail = t ++ replicate (min 0 (length t)) 0;
+        }) a b
+        ∙ ap₂ (λ (ss : List Store) (u : List ℕ). record { result = tells done 0 0 s; disk = apply ss d; memory = m; tail = u }) stored moved
+
+    pub flush-nothing : read .end ≡ 0 → flushOf s d m t k allowed ≡ record { result = tells done 0 0 s; disk = d; memory = m; tail = t }
+    unfolding flushOf
+    flush-nothing h =
+        let none : firstGroups s t k ≡ [] = groups-none (firstGroups s t k) (sym size ∙ h) in
+        stored-done s d m t (flushPlan s m t k) allowed z (omega (arith, flush-length s t k, size, h))
+        ∙ ap (λ (gs : List Group). madeWhole (storing gs) allowed d) none ∙ nothing
+
+    -- what moves in the tail ends where its groups do
+    module _ (end : ℕ) (g : end ≡ tailLength (s .ondisk .0) t) where
+      pub flush-front : read .end ≤ end
+      flush-front = omega (arith, g, size, first-within s t k)
+
+      pub flush-ends : end ≤ length t
+      flush-ends = omega (arith, g, log-within (s .ondisk .0) (readLog (s .ondisk .0) t) t refl)
+
+      pub flush-shift : (ys : List ℕ) → ys ≡ shifted (read .end) (take end t) → ys ++ drop end t ≡ shifted (read .end) t
+      flush-shift ys f =
+          let fits = disk-admitted s d m t z .fits in
+          let zero : allZero (drop end t) ≡ true =
+          ap (λ (n : ℕ). allZero (drop n t)) g
+          ∙ and-right (eqb (lastCsn (s .ondisk .0) (readLog (s .ondisk .0) t)) (s .assigned .0)) (allZero (drop (tailLength (s .ondisk .0) t) t)) (fits .tail) in
+          let zeros : drop end t ≡ replicate (length t - end) 0 = zeros-all (drop end t) zero ∙ ap (λ (n : ℕ). replicate n 0) (length-drop end t) in
+          ap (λ (x : List ℕ). x ++ drop end t) f ∙ shifted-part (read .end) end t flush-front flush-ends zeros
 
     -- made is the number of stores made, ys what they left of the log part
     module _ (made : ℕ) (ys : List ℕ) (f : made ≡ min allowed (length (copies (s .logend) (take (read .end) t))))

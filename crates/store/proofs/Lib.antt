@@ -7,6 +7,9 @@ pub mod Shift
 pub mod Admitting
 pub mod Choosing
 pub mod Calling
+pub mod Sameness
+pub mod SameNumbers
+pub mod Bare
 pub mod Positions
 pub mod Appending
 pub mod Stepping
@@ -22,8 +25,6 @@ pub mod Storing
 pub mod Flushing
 pub mod Checkpointing
 pub mod Premises
-pub mod Sameness
-pub mod SameNumbers
 pub mod SameSteps
 pub mod SameOutcomes
 pub mod SameStored

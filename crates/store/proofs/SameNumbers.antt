@@ -1,4 +1,4 @@
--- States that show the same are refused alike by every call in memory.
+-- States that are alike in what judges a call are refused alike by every call in memory: check by check, then with numbers 1 and 2.
 use Prim.Native.Nat.{ℕ, _+_, _<_}
 use mathlib.Core.Bool.{Bool, true, false, cond, _||_}
 use mathlib.Core.List.{List, [], _∷_}
@@ -11,11 +11,10 @@ use Rattle.store.specs.State.{txAt, txsOf, hasId, slotOf}
 use Rattle.store.specs.Rules.{roomUsed}
 use Rattle.store.specs.Numbers.{Check, firstNumber, numberBy, txOf, check6, check7, check8, check9, check10, check12, check13, check14}
 use Rattle.store.specs.Numbers.{beginChecks, readChecks, writeChecks, precommitChecks, abortChecks, settleChecks}
-use Rattle.store.specs.Same.{SameTx, ShowsSame}
 use Rattle.store.proofs.Slots.{slot-within}
-use Rattle.store.proofs.Sameness.{room-alike, number-alike, ids, slots, helds}
+use Rattle.store.proofs.Sameness.{AlikeTx, Alike, room-alike, number-alike, ids, slots, helds}
 
-module _ (s r : State) (h : ShowsSame s r) where
+module _ (s r : State) (h : Alike s r) where
   -- ---- begin
 
   pub begin-alike : (lent : ℕ) (t : List ℕ)
@@ -27,8 +26,8 @@ module _ (s r : State) (h : ShowsSame s r) where
 
   -- ---- a transaction by its id
 
-  pub named : (id : ℕ) → slotOf s id < s .count → SameTx (txOf s id) (txOf r id)
-  named id l = subst (λ (k : ℕ). SameTx (txAt s (slotOf s id)) (txAt r k)) (slots s r h id) (h .listed (slotOf s id) l)
+  named : (id : ℕ) → slotOf s id < s .count → AlikeTx (txOf s id) (txOf r id)
+  named id l = subst (λ (k : ℕ). AlikeTx (txAt s (slotOf s id)) (txAt r k)) (slots s r h id) (h .listed (slotOf s id) l)
 
   -- number 6 comes first: the slot of an id that isn't listed is not looked at
   listed-alike : (id : ℕ) (cs ds : List Check) → (slotOf s id < s .count → firstNumber cs ≡ firstNumber ds)
@@ -39,47 +38,61 @@ module _ (s r : State) (h : ShowsSame s r) where
       go false e = let f : any (hasId id) (txsOf r) ≡ false = sym (ids s r h id) ∙ e in rw (e, f)
       go true e = let f : any (hasId id) (txsOf r) ≡ true = sym (ids s r h id) ∙ e in rw (e, f) (k (slot-within s id e))
 
-  -- ---- the numbers of the calls about it
+  -- ---- the checks of the calls about it
 
-  module _ (lent : ℕ) (t : List ℕ) (id : ℕ) where
-    pub abort-alike : numberBy s lent t (abortChecks s id) ≡ numberBy r lent t (abortChecks r id)
-    abort-alike =
-        number-alike s r h lent t (abortChecks s id) (abortChecks r id)
-        (listed-alike id (check7 s id ∷ []) (check7 r id ∷ []) (λ e. ap (λ (k : ℕ). cond (eqb k 2) 7 0) (named id e .status)))
+  module _ (id : ℕ) where
+    pub abort-first : firstNumber (abortChecks s id) ≡ firstNumber (abortChecks r id)
+    abort-first = listed-alike id (check7 s id ∷ []) (check7 r id ∷ []) (λ e. ap (λ (k : ℕ). cond (eqb k 2) 7 0) (named id e .status))
 
-    pub precommit-alike : numberBy s lent t (precommitChecks s id) ≡ numberBy r lent t (precommitChecks r id)
-    precommit-alike =
-        number-alike s r h lent t (precommitChecks s id) (precommitChecks r id)
-        (listed-alike id (check7 s id ∷ check12 s ∷ []) (check7 r id ∷ check12 r ∷ [])
-        (λ e. ap₂ (λ (k n : ℕ). cond (eqb k 2) 7 (cond (eqb n 4294967295) 12 0)) (named id e .status) (h .assigned)))
+    pub precommit-first : firstNumber (precommitChecks s id) ≡ firstNumber (precommitChecks r id)
+    precommit-first =
+        listed-alike id (check7 s id ∷ check12 s ∷ []) (check7 r id ∷ check12 r ∷ [])
+        (λ e. ap₂ (λ (k n : ℕ). cond (eqb k 2) 7 (cond (eqb n 4294967295) 12 0)) (named id e .status) (h .assigned))
 
-    pub settle-alike : numberBy s lent t (settleChecks s id) ≡ numberBy r lent t (settleChecks r id)
-    settle-alike =
-        number-alike s r h lent t (settleChecks s id) (settleChecks r id)
-        (listed-alike id (check14 s id ∷ []) (check14 r id ∷ [])
+    pub settle-first : firstNumber (settleChecks s id) ≡ firstNumber (settleChecks r id)
+    settle-first =
+        listed-alike id (check14 s id ∷ []) (check14 r id ∷ [])
         (λ e.
         ap (λ (k : ℕ). cond (eqb k 1 || ltb (s .ondisk .0) (txOf s id .csn .0)) 14 0) (named id e .status)
-        ∙ ap₂ (λ (d c : ℕ). cond (eqb (txOf r id .status) 1 || ltb d c) 14 0) (h .ondisk) (named id e .csn)))
+        ∙ ap₂ (λ (d c : ℕ). cond (eqb (txOf r id .status) 1 || ltb d c) 14 0) (h .ondisk) (named id e .csn))
 
     module _ (a n : ℕ) where
       -- what follows numbers 7, 8 and 9
       abbrev upTo9 : ℕ → Bool → ℕ → ℕ
       upTo9 status held more = cond (eqb status 2) 7 (cond (eqb n 0 || ltb 32 n || ltb 4096 (a + n)) 8 (cond held 9 more))
 
-      pub read-alike : numberBy s lent t (readChecks s id a n) ≡ numberBy r lent t (readChecks r id a n)
-      read-alike =
-          number-alike s r h lent t (readChecks s id a n) (readChecks r id a n)
-          (listed-alike id (check7 s id ∷ check8 a n ∷ check9 s id a n ∷ []) (check7 r id ∷ check8 a n ∷ check9 r id a n ∷ [])
-          (λ e. ap₂ (λ (k : ℕ) (b : Bool). upTo9 k b 0) (named id e .status) (helds s r h id a n)))
+      pub read-first : firstNumber (readChecks s id a n) ≡ firstNumber (readChecks r id a n)
+      read-first =
+          listed-alike id (check7 s id ∷ check8 a n ∷ check9 s id a n ∷ []) (check7 r id ∷ check8 a n ∷ check9 r id a n ∷ [])
+          (λ e. ap₂ (λ (k : ℕ) (b : Bool). upTo9 k b 0) (named id e .status) (helds s r h id a n))
 
       abbrev last : ℕ → ℕ → ℕ
       last records room = cond (eqb records 16) 10 (cond (ltb 16384 (room + (7 + n))) 13 0)
 
-      pub write-alike : numberBy s lent t (writeChecks s (roomUsed s t) id a n) ≡ numberBy r lent t (writeChecks r (roomUsed r t) id a n)
-      write-alike =
-          number-alike s r h lent t (writeChecks s (roomUsed s t) id a n) (writeChecks r (roomUsed r t) id a n)
-          (listed-alike id (check7 s id ∷ check8 a n ∷ check9 s id a n ∷ check10 s id ∷ check13 (roomUsed s t) n ∷ [])
-          (check7 r id ∷ check8 a n ∷ check9 r id a n ∷ check10 r id ∷ check13 (roomUsed r t) n ∷ [])
+      pub write-first : (x y : ℕ) → x ≡ y → firstNumber (writeChecks s x id a n) ≡ firstNumber (writeChecks r y id a n)
+      write-first x y q =
+          listed-alike id (check7 s id ∷ check8 a n ∷ check9 s id a n ∷ check10 s id ∷ check13 x n ∷ [])
+          (check7 r id ∷ check8 a n ∷ check9 r id a n ∷ check10 r id ∷ check13 y n ∷ [])
           (λ e.
-          ap₂ (λ (k : ℕ) (b : Bool). upTo9 k b (last (txOf s id .undo .ranges .count) (roomUsed s t))) (named id e .status) (helds s r h id a n)
-          ∙ ap₂ (λ (c m : ℕ). upTo9 (txOf r id .status) (any (heldAgainst id a n) (txsOf r)) (last c m)) (named id e .undo .count) (room-alike s r h t)))
+          ap₂ (λ (k : ℕ) (b : Bool). upTo9 k b (last (txOf s id .undo .ranges .count) x)) (named id e .status) (helds s r h id a n)
+          ∙ ap₂ (λ (c m : ℕ). upTo9 (txOf r id .status) (any (heldAgainst id a n) (txsOf r)) (last c m)) (named id e .undo .count) q)
+
+  -- ---- the numbers of these calls
+
+  module _ (lent : ℕ) (t : List ℕ) (id : ℕ) where
+    pub abort-alike : numberBy s lent t (abortChecks s id) ≡ numberBy r lent t (abortChecks r id)
+    abort-alike = number-alike s r h lent t (abortChecks s id) (abortChecks r id) (abort-first id)
+
+    pub precommit-alike : numberBy s lent t (precommitChecks s id) ≡ numberBy r lent t (precommitChecks r id)
+    precommit-alike = number-alike s r h lent t (precommitChecks s id) (precommitChecks r id) (precommit-first id)
+
+    pub settle-alike : numberBy s lent t (settleChecks s id) ≡ numberBy r lent t (settleChecks r id)
+    settle-alike = number-alike s r h lent t (settleChecks s id) (settleChecks r id) (settle-first id)
+
+    pub read-alike : (a n : ℕ) → numberBy s lent t (readChecks s id a n) ≡ numberBy r lent t (readChecks r id a n)
+    read-alike a n = number-alike s r h lent t (readChecks s id a n) (readChecks r id a n) (read-first id a n)
+
+    pub write-alike : (a n : ℕ) → numberBy s lent t (writeChecks s (roomUsed s t) id a n) ≡ numberBy r lent t (writeChecks r (roomUsed r t) id a n)
+    write-alike a n =
+        number-alike s r h lent t (writeChecks s (roomUsed s t) id a n) (writeChecks r (roomUsed r t) id a n)
+        (write-first id a n (roomUsed s t) (roomUsed r t) (room-alike s r h t))

@@ -12,21 +12,25 @@ use Rattle.recovery.specs.Replay.{undoAll, layBytes}
 use Rattle.log.specs.declared.TxId.{TxId}
 use Rattle.log.specs.Group.{encodeGroup}
 use Rattle.store.specs.declared.State.{State}
-use Rattle.store.specs.State.{slotOf}
+use Rattle.store.specs.State.{txAt, slotOf}
+use Rattle.store.specs.Numbers.{txOf}
 use Rattle.store.specs.Answer.{done, Told, tells}
 use Rattle.store.specs.Rules.{tailLength}
 use Rattle.store.specs.Steps.{begunState, writtenState, precommittedState, droppedState}
 use Rattle.store.specs.Calls.{Outcome, decided, refusing, beginNumber, beginOf, writeNumber, writeOf, readNumber, readOf, readAnswerOf}
 use Rattle.store.specs.Calls.{appended, precommitNumber, precommitOf, abortNumber, abortOf, settleNumber, settleOf}
-use Rattle.store.specs.Same.{ShowsSame, SameTold, SameOutcome}
+use Rattle.store.specs.Same.{SameTx, ShowsSame, SameTold, SameOutcome}
 use Rattle.store.proofs.Passing.{begin-passed, write-passed, precommit-passed, abort-passed, settle-passed}
 use Rattle.store.proofs.Views.{commitOf}
 use Rattle.store.proofs.Stepping.{SizedState}
-use Rattle.store.proofs.Sameness.{slots}
-use Rattle.store.proofs.SameNumbers.{named, begin-alike, write-alike, read-alike, precommit-alike, abort-alike, settle-alike}
+use Rattle.store.proofs.Sameness.{shown, slots}
+use Rattle.store.proofs.SameNumbers.{begin-alike, write-alike, read-alike, precommit-alike, abort-alike, settle-alike}
 use Rattle.store.proofs.SameSteps.{begin-shows, write-shows, precommit-shows, drop-shows}
 
 -- ---- from the number to the outcome
+
+named : (s r : State) → ShowsSame s r → (id : ℕ) → slotOf s id < s .count → SameTx (txOf s id) (txOf r id)
+named s r h id l = subst (λ (k : ℕ). SameTx (txAt s (slotOf s id)) (txAt r k)) (slots s r (shown s r h) id) (h .listed (slotOf s id) l)
 
 -- calls of the same number end alike if they do so once done, and refused by any number
 pub decided-same : {A : Type 0} (R : A → A → Type 0) (x y : A) (f g : ℕ → A) (n k : ℕ) → n ≡ k → (n ≡ 0 → R x y) → ((i : ℕ) → R (f i) (g i))
@@ -65,12 +69,12 @@ module _ (s r : State) (h : ShowsSame s r) where
   module _ (m t : List ℕ) (id : TxId) (a n : ℕ) where
     pub read-part-same : readOf s m t id a n ≡ readOf r m t id a n
     unfolding readOf
-    read-part-same = ap (λ (k : ℕ). decided k (take n (drop a m)) []) (read-alike s r h (length m) t (id .0) a n)
+    read-part-same = ap (λ (k : ℕ). decided k (take n (drop a m)) []) (read-alike s r (shown s r h) (length m) t (id .0) a n)
 
     pub read-answer-same : SameTold (readAnswerOf s m t id a n) (readAnswerOf r m t id a n)
     unfolding readAnswerOf
     read-answer-same =
-        told-same (readNumber s m t id a n) (readNumber r m t id a n) (read-alike s r h (length m) t (id .0) a n) (λ e. done-same refl h)
+        told-same (readNumber s m t id a n) (readNumber r m t id a n) (read-alike s r (shown s r h) (length m) t (id .0) a n) (λ e. done-same refl h)
 
   module _ (z : SizedState s) (y : SizedState r) (m t : List ℕ) where
     -- ---- begin
@@ -81,7 +85,7 @@ module _ (s r : State) (h : ShowsSame s r) where
     pub begin-same : SameTold (beginOf s m t) (beginOf r m t)
     unfolding beginOf
     begin-same =
-        told-same (beginNumber s m t) (beginNumber r m t) (begin-alike s r h (length m) t)
+        told-same (beginNumber s m t) (beginNumber r m t) (begin-alike s r (shown s r h) (length m) t)
         (λ e. done-same (ap (λ (n : ℕ). n + 1) (h .lastid)) (begun e))
 
     module _ (id : TxId) where
@@ -92,7 +96,7 @@ module _ (s r : State) (h : ShowsSame s r) where
       k = slotOf r (id .0)
 
       at-slot : (x : State) (f : ℕ → State) → ShowsSame x (f j) → ShowsSame x (f k)
-      at-slot x f = subst (λ (i : ℕ). ShowsSame x (f i)) (slots s r h (id .0))
+      at-slot x f = subst (λ (i : ℕ). ShowsSame x (f i)) (slots s r (shown s r h) (id .0))
 
       dropped : j < s .count → s .count ≤ 8 → ShowsSame (droppedState s j) (droppedState r k)
       dropped l few = at-slot (droppedState s j) (droppedState r) (drop-shows s r h z y j l few)
@@ -111,7 +115,7 @@ module _ (s r : State) (h : ShowsSame s r) where
         pub write-same : SameOutcome (writeOf s m t id a bs) (writeOf r m t id a bs)
         unfolding writeOf
         write-same =
-            outcome-same m t (writeNumber s m t id a (length bs)) (writeNumber r m t id a (length bs)) (write-alike s r h (length m) t (id .0) a (length bs))
+            outcome-same m t (writeNumber s m t id a (length bs)) (writeNumber r m t id a (length bs)) (write-alike s r (shown s r h) (length m) t (id .0) a (length bs))
             (λ e. record { result = done-same refl (wrote e); memory = refl; tail = refl })
 
       -- ---- precommit
@@ -129,7 +133,7 @@ module _ (s r : State) (h : ShowsSame s r) where
       pub precommit-same : SameOutcome (precommitOf s m t id) (precommitOf r m t id)
       unfolding precommitOf
       precommit-same =
-          outcome-same m t (precommitNumber s m t id) (precommitNumber r m t id) (precommit-alike s r h (length m) t (id .0))
+          outcome-same m t (precommitNumber s m t id) (precommitNumber r m t id) (precommit-alike s r (shown s r h) (length m) t (id .0))
           (λ e.
           record {
             result = done-same (ap (λ (n : ℕ). n + 1) (h .assigned)) (precommitted e);
@@ -142,7 +146,7 @@ module _ (s r : State) (h : ShowsSame s r) where
       pub abort-same : SameOutcome (abortOf s m t id) (abortOf r m t id)
       unfolding abortOf
       abort-same =
-          outcome-same m t (abortNumber s m t id) (abortNumber r m t id) (abort-alike s r h (length m) t (id .0))
+          outcome-same m t (abortNumber s m t id) (abortNumber r m t id) (abort-alike s r (shown s r h) (length m) t (id .0))
           (λ e.
           let u = abort-passed s m t id e in
           record {
@@ -161,4 +165,4 @@ module _ (s r : State) (h : ShowsSame s r) where
       pub settle-same : SameTold (settleOf s m t id) (settleOf r m t id)
       unfolding settleOf
       settle-same =
-          told-same (settleNumber s m t id) (settleNumber r m t id) (settle-alike s r h (length m) t (id .0)) (λ e. done-same refl (settled e))
+          told-same (settleNumber s m t id) (settleNumber r m t id) (settle-alike s r (shown s r h) (length m) t (id .0)) (λ e. done-same refl (settled e))

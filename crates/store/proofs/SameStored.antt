@@ -23,7 +23,7 @@ use Rattle.store.specs.Checkpoint.{imageStores, checkpointPlan, checkpoi
 use Rattle.store.specs.Same.{SameRecords, SameTx, ShowsSame, SameDiskOutcome, AnsweredAlike}
 use Rattle.store.proofs.Storing.{diskNumber}
 use Rattle.store.proofs.Stepping.{SizedState}
-use Rattle.store.proofs.Sameness.{number-alike}
+use Rattle.store.proofs.Sameness.{shown, number-alike}
 use Rattle.store.proofs.SameOutcomes.{decided-same, refusing-same, begin-same, write-same, read-part-same, read-answer-same}
 use Rattle.store.proofs.SameOutcomes.{precommit-same, abort-same, settle-same}
 
@@ -108,7 +108,7 @@ module _ (s r : State) (h : ShowsSame s r) where
 
   module _ (d m t : List ℕ) where
     disk-alike : diskNumber s d m t ≡ diskNumber r d m t
-    disk-alike = ap (λ (n : ℕ). cond (not (eqb (length d) 33691)) 1 n) (number-alike s r h (length m) t [] [] refl)
+    disk-alike = ap (λ (n : ℕ). cond (not (eqb (length d) 33691)) 1 n) (number-alike s r (shown s r h) (length m) t [] [] refl)
 
     abbrev kept : State → ℕ → DiskOutcome
     kept x n = record { result = refusing n x; disk = d; memory = m; tail = t }

@@ -2,7 +2,7 @@
 use Prim.Native.Nat.{ℕ, zero, suc, _+_, _-_, _≤_, _<_}
 use native.Mathlib.Nat.{add-assoc}
 use native.Mathlib.Omega.{arith}
-use mathlib.Core.Bool.{not}
+use mathlib.Core.Bool.{Bool, true, false, cond, not}
 use mathlib.Core.List.{List, [], _∷_, _++_, append-nil}
 use mathlib.Core.Path.{_≡_, refl, sym, ap, ap₂, _∙_}
 use lib.ListN.{length, take, drop, set, length-drop, take-append-drop, drop-of-length-le}
@@ -11,13 +11,16 @@ use lib.Dec.{eqb}
 use borrow.Author.Tests.{eq-eqb, ne-eqb, lt-ltb, le-ltb, eqb-true, not-false}
 use Rattle.log.specs.Stores.{Store, store, apply, copies, clears}
 use Rattle.store.specs.declared.State.{State}
+use Rattle.store.specs.declared.admit.Admission.{Admission}
 use Rattle.store.specs.Answer.{Told}
+use Rattle.store.specs.Rules.{tailLength}
 use Rattle.store.specs.Numbers.{check, firstNumber, sharedChecks}
+use Rattle.store.specs.Admission.{notAdmitted, admission, diskAdmission}
 use Rattle.store.specs.Calls.{refusing}
 use Rattle.store.specs.Stored.{diskChecks, DiskOutcome, Plan, cutShort, madeWhole, carriedOut, storedBy}
 use Rattle.store.proofs.Fits.{Fit, unfit-no}
 use Rattle.store.proofs.Checks.{passed}
-use Rattle.store.proofs.Admitting.{unrefused}
+use Rattle.store.proofs.Admitting.{unrefused, number-is, admitted}
 
 -- ---- stores into the part of a disk from an offset on
 
@@ -86,6 +89,22 @@ module _ (s : State) (d m t : List ℕ) where
       let p = passed (check 1 (not (eqb (length d) 33691)) ∷ []) (sharedChecks s (length m) t) refl z in
       let x = unrefused s (length m) t [] (p .1) in
       record { disk = eqb-true _ _ (not-false _ (p .0 .0)); memory = x .memory; tail = x .tail; fits = x .fits }
+
+  -- x is the admission of a call that is lent a disk
+  module _ (x : Admission) (e : x ≡ diskAdmission s (length d) (length m) t) where
+    pub disk-number : x .number ≡ diskNumber
+    unfolding diskAdmission
+    disk-number = ap (λ (y : Admission). y .number) e ∙ go (eqb (length d) 33691)
+      where
+        go : (b : Bool) → cond b (admission s (length m) t) (notAdmitted 1) .number ≡ firstNumber (check 1 (not b) ∷ sharedChecks s (length m) t)
+        go true = number-is s (length m) t (admission s (length m) t) refl
+        go false = refl
+
+    pub disk-end : x .number ≡ 0 → x .end ≡ tailLength (s .ondisk .0) t
+    unfolding diskAdmission
+    disk-end h =
+        let l = disk-admitted (sym disk-number ∙ h) .disk in
+        admitted s (length m) t x (e ∙ rw (eq-eqb (length d) 33691 l)) h .end
 
   pub disk-passes : DiskAdmitted s d m t → diskNumber ≡ 0
   disk-passes a = rw (eq-eqb _ _ (a .disk), eq-eqb _ _ (a .memory), eq-eqb _ _ (a .tail), unfit-no s t (a .fits))

@@ -5,7 +5,7 @@ use mathlib.Core.Bool.{Bool, true, false, cond, _&&_}
 use mathlib.Core.List.{List, [], _∷_}
 use mathlib.Core.Path.{_≡_}
 use lib.Dec.{eqb, leb}
-use Rattle.layout.specs.{logLen, maxTxs}
+use Rattle.layout.specs.{logLen, maxTxs, diskLen}
 use Rattle.transaction.specs.Lists.{every, sumOf}
 use Rattle.transaction.specs.Rules.{stateOk, roomOf}
 use Rattle.store.specs.declared.State.{State}
@@ -42,6 +42,10 @@ unfoldable pub admission : State → ℕ → List ℕ → Admission
 admission s lent tail =
     let n = firstNumber (sharedChecks s lent tail) in
     record { number = n; end = cond (eqb n 0) (tailLength (s .ondisk .0) tail) 0; room = cond (eqb n 0) (roomUsed s tail) 0 }
+
+-- with a disk lent, its length first (disk: that length)
+unfoldable pub diskAdmission : State → ℕ → ℕ → List ℕ → Admission
+diskAdmission s disk lent tail = cond (eqb disk diskLen) (admission s lent tail) (notAdmitted 1)
 
 -- ---- what is decided of a call about the transaction of an id
 

@@ -1,6 +1,7 @@
 -- The store: the state, number 2, the refusals of each call in the list's order, and what each call leaves in memory, tail and disk.
 pub mod State
 pub mod Answer
+pub mod Extents
 pub mod Rules
 pub mod Admission
 pub mod Numbers

@@ -1,18 +1,25 @@
 // Numbers 1 and 2, which every call that is handed a state checks first.
-use crate::State;
+use crate::extents::StateExtents;
 use image::bounds_ok;
-use image::keys::alike_from;
-use image::keys::keys_of;
 use layout::LOG_LEN;
 use layout::MEMORY_LEN;
 use layout::TAIL_LEN;
 use log::Csn;
+use log::TxId;
 use log::scan::read_log;
+use transaction::alike;
 ghost use mathlib.Core.Path.{_≡_};
-ghost use Prim.Native.Nat.{_≤_};
+ghost use Prim.Native.Nat.{_-_, _≤_};
 ghost use Rattle.layout.specs.{maxTxs};
+ghost use Rattle.recovery.specs.Lists.{any};
+ghost use Rattle.transaction.specs.Lists.{upFrom};
+ghost use Rattle.transaction.specs.Rules.{alike};
+ghost use Rattle.store.specs.State.{outlineAt};
+ghost use Rattle.store.specs.Extents.{bareState};
 ghost use Rattle.store.specs.Rules.{allZero};
 ghost use Rattle.store.specs.Admission.{notAdmitted, ruleBroken, countersOk, measuredTxs, measuredTail, admission};
+
+const ZERO_PART: usize = 512;
 
 // Whether what was looked at keeps its rules, and the log room that it takes.
 pub(crate) struct Measured {
@@ -27,7 +34,7 @@ pub(crate) struct Admission {
     pub room: usize,
 }
 
-fn not_admitted(number: u8) -> Admission
+pub(crate) fn not_admitted(number: u8) -> Admission
     ensures { λ r. ⌜ r ≡ notAdmitted number ⌝ }
 {
     Admission {
@@ -44,7 +51,7 @@ fn rule_broken() -> Measured
 }
 
 // An or over all bytes instead of a stop at the first one that is not 0: it runs in wide registers.
-fn all_zero(s: &[u8]) -> bool
+fn zero_part(s: &[u8]) -> bool
     ensures { λ r. ⌜ r ≡ allZero (now (s .entry)) ⌝ }
 {
     let mut seen: u8 = 0;
@@ -54,6 +61,20 @@ fn all_zero(s: &[u8]) -> bool
         i += 1;
     }
     seen == 0
+}
+
+// In parts of a length that the compiler knows, it runs in fewer steps.
+fn all_zero(s: &[u8]) -> bool
+    ensures { λ r. ⌜ r ≡ allZero (now (s .entry)) ⌝ }
+{
+    let mut at: usize = 0;
+    while ZERO_PART <= s.len() - at {
+        if !zero_part(&s[at..at + ZERO_PART]) {
+            return false;
+        }
+        at = at + ZERO_PART;
+    }
+    zero_part(&s[at..])
 }
 
 // The counters: recovered, and the image rules of the log's end, the two commit numbers and the count.
@@ -84,17 +105,32 @@ fn measure_tail(tail: &[u8], ondisk: Csn, assigned: Csn) -> Measured
     }
 }
 
-impl State {
+impl StateExtents {
+    // Whether one from slot i on has this id, or this commit number where that is one.
+    fn alike_from(self, i: usize, id: TxId, csn: Csn) -> bool
+        requires { ⌜ (i ≤ self .count) × (self .count ≤ maxTxs) ⌝ }
+        ensures { λ r. ⌜ r ≡ any (alike (id .0) (csn .0)) (upFrom (outlineAt (bareState self)) (self .count - i) i) ⌝ }
+    {
+        let n = self.count as usize;
+        let mut j = i;
+        while j < n {
+            let t = self.txs[j];
+            if alike(id, csn, t.id, t.csn) {
+                return true;
+            }
+            j += 1;
+        }
+        false
+    }
+
     // The rules of the transactions, and the log room that they have reserved.
     fn measure_txs(self) -> Measured
         requires { ⌜ self .count ≤ maxTxs ⌝ }
-        ensures { λ r. ⌜ r ≡ measuredTxs self ⌝ }
+        ensures { λ r. ⌜ r ≡ measuredTxs (bareState self) ⌝ }
     {
         let n = self.count as usize;
         let last = self.lastid;
         let assigned = self.assigned;
-        let txs = self.txs;
-        let keys = keys_of(txs);
         let mut room: usize = 0;
         let mut i: usize = 0;
         while i < n {
@@ -105,7 +141,7 @@ impl State {
             if !t.state_ok() {
                 return rule_broken();
             }
-            if alike_from(keys, n, i + 1, t.id, t.csn) {
+            if self.alike_from(i + 1, t.id, t.csn) {
                 return rule_broken();
             }
             room = room + t.room();
@@ -119,7 +155,7 @@ impl State {
 
     // lent is the length of the memory that was lent.
     pub(crate) fn admit(self, lent: usize, tail: &[u8]) -> Admission
-        ensures { λ r. ⌜ r ≡ admission self lent (now (tail .entry)) ⌝ }
+        ensures { λ r. ⌜ r ≡ admission (bareState self) lent (now (tail .entry)) ⌝ }
     {
         if lent != MEMORY_LEN {
             return not_admitted(1);

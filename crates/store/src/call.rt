@@ -1,4 +1,5 @@
-// The calls. Each is handed the state by value and gives it back, with its answer beside it.
+// The calls. Each is handed the state by value and gives it back, with its answer beside it. A state is long: it stands first in what is given back,
+// and a call looks at its extents alone, so that the compiler moves it whole and once.
 use crate::Answer;
 use crate::State;
 use crate::choose::begin_number;
@@ -9,27 +10,28 @@ ghost use Rattle.store.specs.Answer.{ofBegun, ofPrecommitted, ofReturned
 ghost use Rattle.store.specs.Calls.{beginOf, writeOf, readOf, readAnswerOf, precommitOf, abortOf, settleOf};
 
 pub struct Begun {
+    pub state: State,
     pub answer: Answer,
     pub id: TxId,
-    pub state: State,
 }
 
 pub struct Precommitted {
+    pub state: State,
     pub answer: Answer,
     pub csn: Csn,
-    pub state: State,
 }
 
 pub struct Returned {
-    pub answer: Answer,
     pub state: State,
+    pub answer: Answer,
 }
 
 impl State {
     pub fn begin(mut self, memory: &[u8], tail: &[u8]) -> Begun
         ensures { λ r. ⌜ ofBegun r ≡ beginOf self (now (memory .entry)) (now (tail .entry)) ⌝ }
     {
-        let admitted = self.admit(memory.len(), tail);
+        let seen = self.extents();
+        let admitted = seen.admit(memory.len(), tail);
         let number = begin_number(admitted, self.count, self.lastid);
         if number != 0 {
             return Begun {
@@ -38,8 +40,8 @@ impl State {
                 state: self,
             };
         }
+        let id = TxId(self.lastid.0 + 1);
         let s = self.begin_step();
-        let id = s.lastid;
         Begun {
             answer: Answer::Done,
             id: id,
@@ -58,8 +60,9 @@ impl State {
         ensures { λ r. ⌜ ofReturned r ≡ writeOf self (now (memory .entry)) (now (tail .entry)) id addr (now (bytes .entry)) .result ⌝ }
         ensures { λ _. ⌜ now (memory .exit) ≡ writeOf self (now (memory .entry)) (now (tail .entry)) id addr (now (bytes .entry)) .memory ⌝ }
     {
-        let admitted = self.admit(memory.len(), tail);
-        let chosen = self.choose_write(admitted, id, addr, bytes.len());
+        let seen = self.extents();
+        let admitted = seen.admit(memory.len(), tail);
+        let chosen = seen.choose_write(admitted, id, addr, bytes.len());
         if chosen.number != 0 {
             return Returned {
                 answer: Answer::Refused(chosen.number),
@@ -84,8 +87,9 @@ impl State {
     ) -> &'a [u8]
         ensures { λ r. ⌜ now r ≡ readOf self (now (memory .entry)) (now (tail .entry)) id addr len ⌝ }
     {
-        let admitted = self.admit(memory.len(), tail);
-        let chosen = self.choose_read(admitted, id, addr, len);
+        let seen = self.extents();
+        let admitted = seen.admit(memory.len(), tail);
+        let chosen = seen.choose_read(admitted, id, addr, len);
         if chosen.number != 0 {
             return &memory[0..0];
         }
@@ -103,8 +107,9 @@ impl State {
     ) -> Returned
         ensures { λ r. ⌜ ofReturned r ≡ readAnswerOf self (now (memory .entry)) (now (tail .entry)) id addr len ⌝ }
     {
-        let admitted = self.admit(memory.len(), tail);
-        let chosen = self.choose_read(admitted, id, addr, len);
+        let seen = self.extents();
+        let admitted = seen.admit(memory.len(), tail);
+        let chosen = seen.choose_read(admitted, id, addr, len);
         if chosen.number != 0 {
             return Returned {
                 answer: Answer::Refused(chosen.number),
@@ -121,8 +126,9 @@ impl State {
         ensures { λ r. ⌜ ofPrecommitted r ≡ precommitOf self (now (memory .entry)) (now (tail .entry)) id .result ⌝ }
         ensures { λ _. ⌜ now (tail .exit) ≡ precommitOf self (now (memory .entry)) (now (tail .entry)) id .tail ⌝ }
     {
-        let admitted = self.admit(memory.len(), &*tail);
-        let chosen = self.choose_precommit(admitted, id);
+        let seen = self.extents();
+        let admitted = seen.admit(memory.len(), &*tail);
+        let chosen = seen.choose_precommit(admitted, id);
         if chosen.number != 0 {
             return Precommitted {
                 answer: Answer::Refused(chosen.number),
@@ -130,8 +136,8 @@ impl State {
                 state: self,
             };
         }
+        let csn = Csn(self.assigned.0 + 1);
         let s = self.precommit_step(tail, chosen.end, chosen.slot);
-        let csn = s.assigned;
         Precommitted {
             answer: Answer::Done,
             csn: csn,
@@ -144,8 +150,9 @@ impl State {
         ensures { λ _. ⌜ now (memory .exit) ≡ abortOf self (now (memory .entry)) (now (tail .entry)) id .memory ⌝ }
         ensures { λ _. ⌜ now (tail .exit) ≡ abortOf self (now (memory .entry)) (now (tail .entry)) id .tail ⌝ }
     {
-        let admitted = self.admit(memory.len(), &*tail);
-        let chosen = self.choose_running(admitted, id);
+        let seen = self.extents();
+        let admitted = seen.admit(memory.len(), &*tail);
+        let chosen = seen.choose_running(admitted, id);
         if chosen.number != 0 {
             return Returned {
                 answer: Answer::Refused(chosen.number),
@@ -162,8 +169,9 @@ impl State {
     pub fn settle(mut self, memory: &[u8], tail: &[u8], id: TxId) -> Returned
         ensures { λ r. ⌜ ofReturned r ≡ settleOf self (now (memory .entry)) (now (tail .entry)) id ⌝ }
     {
-        let admitted = self.admit(memory.len(), tail);
-        let chosen = self.choose_settle(admitted, id);
+        let seen = self.extents();
+        let admitted = seen.admit(memory.len(), tail);
+        let chosen = seen.choose_settle(admitted, id);
         if chosen.number != 0 {
             return Returned {
                 answer: Answer::Refused(chosen.number),

@@ -82,9 +82,10 @@ impl State {
         ensures { λ _. ⌜ now (memory .exit) ≡ checkpointOf self (now (disk .entry)) (now (memory .entry)) (now (tail .entry)) allowed .memory ⌝ }
         ensures { λ _. ⌜ now (tail .exit) ≡ checkpointOf self (now (disk .entry)) (now (memory .entry)) (now (tail .entry)) allowed .tail ⌝ }
     {
-        let number = self.admit_disk(disk.len(), memory.len(), &*tail);
-        if number != 0 {
-            return refused(number, self);
+        let seen = self.extents();
+        let admitted = seen.admit_disk(disk.len(), memory.len(), &*tail);
+        if admitted.number != 0 {
+            return refused(admitted.number, self);
         }
         let image = self.image();
         let mut bytes: [u8; IMAGE_LEN] = [0; IMAGE_LEN];

@@ -1,8 +1,8 @@
 // The numbers that refuse a call, after those of its admission, and the slot of the transaction that it is about.
 use crate::COUNT_MAX;
 use crate::RECORDS_MAX;
-use crate::State;
 use crate::admit::Admission;
+use crate::extents::StateExtents;
 use layout::COMMIT_LEN;
 use layout::COMMITTING;
 use layout::LOG_LEN;
@@ -18,6 +18,7 @@ ghost use Rattle.layout.specs.{memoryLen, logLen, maxTxs, maxWrite};
 ghost use Rattle.recovery.specs.Lists.{any};
 ghost use Rattle.transaction.specs.Rules.{heldAgainst};
 ghost use Rattle.store.specs.State.{txsOf, slotOf};
+ghost use Rattle.store.specs.Extents.{bareState};
 ghost use Rattle.store.specs.Rules.{keepsImageRules};
 ghost use Rattle.store.specs.Numbers.{check8, beginChecks, readChecks, writeChecks, precommitChecks, abortChecks, settleChecks};
 ghost use Rattle.store.specs.Admission.{numberAfter, listedChecks, refusal, choice, after, Seen};
@@ -41,7 +42,7 @@ fn refuse(number: u8) -> Choice
     }
 }
 
-// Number 8, after those of the choice. The state is not asked for, as handing it over would copy it.
+// Number 8, after those of the choice.
 fn choose_range(chosen: Choice, addr: usize, len: usize) -> Choice
     ensures { λ r. ⌜ r ≡ after chosen (check8 addr len ∷ []) ⌝ }
 {
@@ -74,11 +75,11 @@ pub(crate) fn begin_number(admitted: Admission, count: u8, last: TxId) -> u8
     0
 }
 
-impl State {
+impl StateExtents {
     // The slot of the transaction of this id; the count if it isn't listed.
     fn find(self, id: TxId) -> usize
         requires { ⌜ self .count ≤ maxTxs ⌝ }
-        ensures { λ r. ⌜ r ≡ slotOf self (id .0) ⌝ }
+        ensures { λ r. ⌜ r ≡ slotOf (bareState self) (id .0) ⌝ }
     {
         let n = self.count as usize;
         let mut i: usize = 0;
@@ -93,8 +94,8 @@ impl State {
 
     // Number 9.
     fn held(self, id: TxId, addr: usize, len: usize) -> bool
-        requires { ⌜ (keepsImageRules self ≡ true) × (addr ≤ memoryLen) × (len ≤ maxWrite) ⌝ }
-        ensures { λ r. ⌜ r ≡ any (heldAgainst (id .0) addr len) (txsOf self) ⌝ }
+        requires { ⌜ (keepsImageRules (bareState self) ≡ true) × (addr ≤ memoryLen) × (len ≤ maxWrite) ⌝ }
+        ensures { λ r. ⌜ r ≡ any (heldAgainst (id .0) addr len) (txsOf (bareState self)) ⌝ }
     {
         let n = self.count as usize;
         let mut i: usize = 0;
@@ -110,8 +111,8 @@ impl State {
 
     // Number 6.
     fn choose_listed(self, admitted: Admission, id: TxId) -> Choice
-        requires { ⌜ Seen admitted self ⌝ }
-        ensures { λ r. ⌜ r ≡ choice self admitted (id .0) (listedChecks self (id .0)) ⌝ }
+        requires { ⌜ Seen admitted (bareState self) ⌝ }
+        ensures { λ r. ⌜ r ≡ choice (bareState self) admitted (id .0) (listedChecks (bareState self) (id .0)) ⌝ }
     {
         if admitted.number != 0 {
             return refuse(admitted.number);
@@ -130,8 +131,8 @@ impl State {
 
     // Numbers 6 and 7.
     pub(crate) fn choose_running(self, admitted: Admission, id: TxId) -> Choice
-        requires { ⌜ Seen admitted self ⌝ }
-        ensures { λ r. ⌜ r ≡ choice self admitted (id .0) (abortChecks self (id .0)) ⌝ }
+        requires { ⌜ Seen admitted (bareState self) ⌝ }
+        ensures { λ r. ⌜ r ≡ choice (bareState self) admitted (id .0) (abortChecks (bareState self) (id .0)) ⌝ }
     {
         let listed = self.choose_listed(admitted, id);
         if listed.number != 0 {
@@ -152,8 +153,8 @@ impl State {
         addr: usize,
         len: usize,
     ) -> Choice
-        requires { ⌜ Seen admitted self ⌝ }
-        ensures { λ r. ⌜ r ≡ choice self admitted (id .0) (readChecks self (id .0) addr len) ⌝ }
+        requires { ⌜ Seen admitted (bareState self) ⌝ }
+        ensures { λ r. ⌜ r ≡ choice (bareState self) admitted (id .0) (readChecks (bareState self) (id .0) addr len) ⌝ }
     {
         let running = self.choose_running(admitted, id);
         let ranged = choose_range(running, addr, len);
@@ -174,8 +175,8 @@ impl State {
         addr: usize,
         len: usize,
     ) -> Choice
-        requires { ⌜ Seen admitted self ⌝ }
-        ensures { λ r. ⌜ r ≡ choice self admitted (id .0) (writeChecks self (admitted .room) (id .0) addr len) ⌝ }
+        requires { ⌜ Seen admitted (bareState self) ⌝ }
+        ensures { λ r. ⌜ r ≡ choice (bareState self) admitted (id .0) (writeChecks (bareState self) (admitted .room) (id .0) addr len) ⌝ }
     {
         let running = self.choose_running(admitted, id);
         let ranged = choose_range(running, addr, len);
@@ -186,7 +187,7 @@ impl State {
             return refuse(9);
         }
         let slot = ranged.slot;
-        if self.txs[slot].undo.ranges.count == RECORDS_MAX {
+        if self.txs[slot].undo.count == RECORDS_MAX {
             return refuse(10);
         }
         if LOG_LEN < ranged.room + (REDO_LEN + len) {
@@ -197,8 +198,8 @@ impl State {
 
     // Numbers 6, 7 and 12.
     pub(crate) fn choose_precommit(self, admitted: Admission, id: TxId) -> Choice
-        requires { ⌜ Seen admitted self ⌝ }
-        ensures { λ r. ⌜ r ≡ choice self admitted (id .0) (precommitChecks self (id .0)) ⌝ }
+        requires { ⌜ Seen admitted (bareState self) ⌝ }
+        ensures { λ r. ⌜ r ≡ choice (bareState self) admitted (id .0) (precommitChecks (bareState self) (id .0)) ⌝ }
     {
         let running = self.choose_running(admitted, id);
         if running.number != 0 {
@@ -212,8 +213,8 @@ impl State {
 
     // Numbers 6 and 14.
     pub(crate) fn choose_settle(self, admitted: Admission, id: TxId) -> Choice
-        requires { ⌜ Seen admitted self ⌝ }
-        ensures { λ r. ⌜ r ≡ choice self admitted (id .0) (settleChecks self (id .0)) ⌝ }
+        requires { ⌜ Seen admitted (bareState self) ⌝ }
+        ensures { λ r. ⌜ r ≡ choice (bareState self) admitted (id .0) (settleChecks (bareState self) (id .0)) ⌝ }
     {
         let listed = self.choose_listed(admitted, id);
         if listed.number != 0 {

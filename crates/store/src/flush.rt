@@ -39,18 +39,28 @@ impl State {
         ensures { λ _. ⌜ now (memory .exit) ≡ flushOf self (now (disk .entry)) (now (memory .entry)) (now (tail .entry)) k allowed .memory ⌝ }
         ensures { λ _. ⌜ now (tail .exit) ≡ flushOf self (now (disk .entry)) (now (memory .entry)) (now (tail .entry)) k allowed .tail ⌝ }
     {
-        let number = self.admit_disk(disk.len(), memory.len(), &*tail);
-        if number != 0 {
-            return refused(number, self);
+        let seen = self.extents();
+        let admitted = seen.admit_disk(disk.len(), memory.len(), &*tail);
+        if admitted.number != 0 {
+            return refused(admitted.number, self);
         }
         let first = read_first(&*tail, self.ondisk, k);
         let size = first.end;
+        if size == 0 {
+            return Stored {
+                answer: Answer::Done,
+                stores: 0,
+                state: self,
+            };
+        }
         let end = self.logend as usize;
         let stores = copy_up(&mut disk[LOG_START..], end, &tail[..size], allowed);
         if stores < size {
             return cut_off(memory, tail, stores);
         }
-        shift_down(tail, size);
+        // From the end that admission found on stand zeros, which stay.
+        let used = admitted.end;
+        shift_down(&mut tail[..used], size);
         let s = self.flush_step(size, first.csn);
         Stored {
             answer: Answer::Done,

@@ -4,6 +4,7 @@ mod admit;
 pub mod call;
 mod checkpoint;
 mod choose;
+mod extents;
 mod flush;
 mod step;
 pub mod stored;

@@ -1,20 +1,24 @@
 // Calls that store on the disk: numbers 1 and 2 with the disk lent, and what a power cut leaves.
 use crate::Answer;
 use crate::State;
+use crate::admit::Admission;
+use crate::admit::not_admitted;
+use crate::extents::StateExtents;
 use layout::DISK_LEN;
 use log::stores::fill_zero;
 ghost use mathlib.Core.Path.{_≡_};
 ghost use Rattle.store.specs.State.{unrecovered};
 ghost use Rattle.store.specs.Answer.{cut, tells, ofStored};
-ghost use Rattle.store.specs.Numbers.{firstNumber};
 ghost use Rattle.store.specs.Calls.{refusing};
-ghost use Rattle.store.specs.Stored.{diskChecks, zeroed};
+ghost use Rattle.store.specs.Extents.{bareState};
+ghost use Rattle.store.specs.Admission.{diskAdmission};
+ghost use Rattle.store.specs.Stored.{zeroed};
 
 // stores is the number of stores made.
 pub struct Stored {
+    pub state: State,
     pub answer: Answer,
     pub stores: usize,
-    pub state: State,
 }
 
 // The current failed after so many stores.
@@ -44,15 +48,14 @@ pub(crate) fn refused(number: u8, state: State) -> Stored
     }
 }
 
-impl State {
-    // The number that refuses, 0 for none. disk and memory are the lengths of those lent.
-    pub(crate) fn admit_disk(self, disk: usize, memory: usize, tail: &[u8]) -> u8
-        ensures { λ r. ⌜ r ≡ firstNumber (diskChecks self disk memory (now (tail .entry))) ⌝ }
+impl StateExtents {
+    // disk and memory are the lengths of those lent.
+    pub(crate) fn admit_disk(self, disk: usize, memory: usize, tail: &[u8]) -> Admission
+        ensures { λ r. ⌜ r ≡ diskAdmission (bareState self) disk memory (now (tail .entry)) ⌝ }
     {
         if disk != DISK_LEN {
-            return 1;
+            return not_admitted(1);
         }
-        let admitted = self.admit(memory, tail);
-        admitted.number
+        self.admit(memory, tail)
     }
 }

@@ -2,7 +2,7 @@
 use Prim.Native.Nat.{ℕ, zero, suc, _+_, _-_, _≤_, _<_}
 use native.Mathlib.Numerals.{add-one}
 use native.Mathlib.Omega.{arith}
-use mathlib.Core.Bool.{Bool, true, false, _||_}
+use mathlib.Core.Bool.{Bool, true, false, _&&_, _||_}
 use mathlib.Core.List.{List, [], _∷_, _++_}
 use mathlib.Core.Path.{_≡_, refl, sym, ap, ap₂, _∙_, subst}
 use lib.ListN.{length}
@@ -78,3 +78,15 @@ pub any-same : {A B : Type 0} (p : A → Bool) (q : B → Bool) (f : ℕ → A) 
 any-same p q f g zero i h = refl
 any-same p q f g (suc k) i h = ap₂ (λ (a b : Bool). a || b) (h i (omega arith) (omega arith))
     (any-same p q f g k (suc i) (λ x a b. h x (omega arith) (omega arith)))
+
+pub every-same : {A B : Type 0} (p : A → Bool) (q : B → Bool) (f : ℕ → A) (g : ℕ → B) (k i : ℕ) → ((x : ℕ) → i ≤ x → x < i + k → p (f x) ≡ q (g x))
+    → every p (upFrom f k i) ≡ every q (upFrom g k i)
+every-same p q f g zero i h = refl
+every-same p q f g (suc k) i h = ap₂ (λ (a b : Bool). a && b) (h i (omega arith) (omega arith))
+    (every-same p q f g k (suc i) (λ x a b. h x (omega arith) (omega arith)))
+
+pub sum-same : {A B : Type 0} (p : A → ℕ) (q : B → ℕ) (f : ℕ → A) (g : ℕ → B) (k i : ℕ) → ((x : ℕ) → i ≤ x → x < i + k → p (f x) ≡ q (g x))
+    → sumOf p (upFrom f k i) ≡ sumOf q (upFrom g k i)
+sum-same p q f g zero i h = refl
+sum-same p q f g (suc k) i h = ap₂ (λ (a b : ℕ). a + b) (h i (omega arith) (omega arith))
+    (sum-same p q f g k (suc i) (λ x a b. h x (omega arith) (omega arith)))

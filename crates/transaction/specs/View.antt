@@ -1,6 +1,6 @@
 -- What is seen in the flat arrays: ranges and outlines for the rules, writes and recovery's transactions for the meaning.
 use Prim.Native.Nat.{ℕ}
-use mathlib.Core.List.{List}
+use mathlib.Core.List.{List, []}
 use lib.ListN.{getD}
 use lib.Dec.{eqb}
 use Rattle.layout.specs.{statusCommitting}
@@ -10,6 +10,7 @@ use Rattle.log.specs.Flat.{writesFrom}
 use Rattle.transaction.specs.declared.ranges.Ranges.{Ranges}
 use Rattle.transaction.specs.declared.records.Records.{Records}
 use Rattle.transaction.specs.declared.Tx.{Tx}
+use Rattle.transaction.specs.declared.TxExtents.{TxExtents}
 use Rattle.transaction.specs.Lists.{upFrom}
 
 -- an address and a length, as they stand in the arrays: a length that breaks the rule stays visible
@@ -36,3 +37,19 @@ outlineOf t = outline (t .id .0) (t .status) (t .csn .0) (rangesOf (t .undo .ran
 abbrev pub viewOf : Tx → Transaction
 viewOf t =
     record { id = t .id .0; committing = eqb (t .status) statusCommitting; csn = t .csn .0; undo = writesOf (t .undo); redo = writesOf (t .redo) }
+
+-- ---- without the bytes: what the rules look at
+
+abbrev pub extentsOf : Tx → TxExtents
+extentsOf t = record { id = t .id; status = t .status; csn = t .csn; undo = t .undo .ranges; redo = t .redo .ranges }
+
+-- the transaction of these extents whose records have no bytes
+abbrev pub bareTx : TxExtents → Tx
+bareTx e =
+    record {
+      id = e .id;
+      status = e .status;
+      csn = e .csn;
+      undo = record { ranges = e .undo; bytes = [] };
+      redo = record { ranges = e .redo; bytes = [] };
+    }

@@ -2,6 +2,7 @@
 pub mod ranges;
 pub mod records;
 
+use crate::ranges::Ranges;
 use crate::records::Records;
 use layout::COMMIT_LEN;
 use layout::COMMITTING;
@@ -19,7 +20,7 @@ ghost use Rattle.layout.specs.{memoryLen, commitLen, maxRecords, maxWrite, stat
 ghost use Rattle.recovery.specs.Group.{committed};
 ghost use Rattle.log.specs.Group.{encodeGroup};
 ghost use Rattle.transaction.specs.Flat.{emptyTx};
-ghost use Rattle.transaction.specs.View.{rangesOf, writesOf, outline, outlineOf};
+ghost use Rattle.transaction.specs.View.{rangesOf, writesOf, outline, outlineOf, extentsOf, bareTx};
 ghost use Rattle.transaction.specs.Rules.{recordsOk, headOk, outlineOk, alike, stateOk, heldAgainst, rangesSize, roomOf};
 ghost use Rattle.transaction.specs.Steps.{freshTx, written, precommitted};
 
@@ -69,6 +70,67 @@ pub fn head_ok(id: TxId, status: u8, number: Csn, last: TxId, assigned: Csn) -> 
     number.0 <= assigned.0
 }
 
+// A transaction without the bytes of its records: the rules look at no more, and handing on the bytes takes time.
+pub struct TxExtents {
+    pub id: TxId,
+    pub status: u8,
+    pub csn: Csn,
+    pub undo: Ranges,
+    pub redo: Ranges,
+}
+
+impl TxExtents {
+    // The image rules of one transaction.
+    pub fn image_ok(self, last: TxId, assigned: Csn) -> bool
+        ensures { λ r. ⌜ r ≡ outlineOk (last .0) (assigned .0) (outlineOf (bareTx self)) ⌝ }
+    {
+        if !head_ok(self.id, self.status, self.csn, last, assigned) {
+            return false;
+        }
+        let undo = self.undo;
+        undo.ok()
+    }
+
+    // The rules that number 2 adds to those of an image.
+    pub fn state_ok(self) -> bool
+        requires { ⌜ self .undo .count ≤ maxRecords ⌝ }
+        ensures { λ r. ⌜ r ≡ stateOk (bareTx self) ⌝ }
+    {
+        if self.status != RUNNING {
+            return true;
+        }
+        let undo = self.undo;
+        undo.same_ranges(self.redo)
+    }
+
+    // The log room that it has reserved.
+    pub fn room(self) -> usize
+        requires { ⌜ (self .status ≡ statusRunning → recordsOk (rangesOf (self .redo)) ≡ true) ⌝ }
+        ensures { λ r. ⌜ r ≡ roomOf (bareTx self) ⌝ }
+    {
+        if self.status != RUNNING {
+            return 0;
+        }
+        let redo = self.redo;
+        redo.size() + COMMIT_LEN
+    }
+
+    // Whether it holds one of the len bytes from addr on against the transaction of this id.
+    pub fn holds_against(self, id: TxId, addr: usize, len: usize) -> bool
+        requires { ⌜ (self .undo .count ≤ maxRecords) × (addr ≤ memoryLen) × (len ≤ maxWrite) ⌝ }
+        ensures { λ r. ⌜ r ≡ heldAgainst (id .0) addr len (bareTx self) ⌝ }
+    {
+        if id.0 == self.id.0 {
+            return false;
+        }
+        if self.status != RUNNING {
+            return false;
+        }
+        let undo = self.undo;
+        undo.meets(addr, len)
+    }
+}
+
 impl Tx {
     pub fn empty() -> Self
         ensures { λ r. ⌜ r ≡ emptyTx ⌝ }
@@ -97,54 +159,20 @@ impl Tx {
         }
     }
 
-    // The image rules of one transaction.
-    pub fn image_ok(self, last: TxId, assigned: Csn) -> bool
-        ensures { λ r. ⌜ r ≡ outlineOk (last .0) (assigned .0) (outlineOf self) ⌝ }
+    pub fn extents(self) -> TxExtents
+        ensures { λ r. ⌜ r ≡ extentsOf self ⌝ }
     {
-        if !head_ok(self.id, self.status, self.csn, last, assigned) {
-            return false;
-        }
+        let own = self.id;
+        let csn = self.csn;
         let undo = self.undo.ranges;
-        undo.ok()
-    }
-
-    // The rules that number 2 adds to those of an image.
-    pub fn state_ok(self) -> bool
-        requires { ⌜ self .undo .ranges .count ≤ maxRecords ⌝ }
-        ensures { λ r. ⌜ r ≡ stateOk self ⌝ }
-    {
-        if self.status != RUNNING {
-            return true;
-        }
-        let undo = self.undo.ranges;
-        undo.same_ranges(self.redo.ranges)
-    }
-
-    // The log room that it has reserved.
-    pub fn room(self) -> usize
-        requires { ⌜ (self .status ≡ statusRunning → recordsOk (rangesOf (self .redo .ranges)) ≡ true) ⌝ }
-        ensures { λ r. ⌜ r ≡ roomOf self ⌝ }
-    {
-        if self.status != RUNNING {
-            return 0;
-        }
         let redo = self.redo.ranges;
-        redo.size() + COMMIT_LEN
-    }
-
-    // Whether it holds one of the len bytes from addr on against the transaction of this id.
-    pub fn holds_against(self, id: TxId, addr: usize, len: usize) -> bool
-        requires { ⌜ (self .undo .ranges .count ≤ maxRecords) × (addr ≤ memoryLen) × (len ≤ maxWrite) ⌝ }
-        ensures { λ r. ⌜ r ≡ heldAgainst (id .0) addr len self ⌝ }
-    {
-        if id.0 == self.id.0 {
-            return false;
+        TxExtents {
+            id: own,
+            status: self.status,
+            csn: csn,
+            undo: undo,
+            redo: redo,
         }
-        if self.status != RUNNING {
-            return false;
-        }
-        let undo = self.undo.ranges;
-        undo.meets(addr, len)
     }
 
     // One undo record and one redo record more.

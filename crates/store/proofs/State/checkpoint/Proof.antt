@@ -1,22 +1,28 @@
 use borrow.Author.Needs.{needs}
 use native.Mathlib.Omega.{arith}
 use mathlib.Core.Path.{_≡_, refl, sym, _∙_}
-use lib.ListN.{replicate, length-replicate}
-use Rattle.store.proofs.Storing.{diskNumber, disk-admitted, leaves}
+use lib.ListN.{length, replicate, length-replicate}
+use Rattle.store.proofs.Bare.{disk-by}
+use Rattle.store.proofs.Storing.{diskNumber, disk-number, disk-admitted, leaves}
 use Rattle.store.proofs.Checkpointing.{Encoded, checkpoint-refused, image-ok, encoded, checkpoint-cut, checkpoint-done}
 use Rattle.store.proofs.State.checkpoint.Statement.{statement}
 use Rattle.store.proofs.State.checkpoint.Tie as tie
 
--- places of the code by name
-
-abbrev afterStoreImageFromSliceKnown6 : tie.After-slice-known6 → tie.After-store-image
-afterStoreImageFromSliceKnown6 c = c .before .before .before .before .before .before .before .before .before .before
-
-abbrev afterEncodeFromSliceKnown6 : tie.After-slice-known6 → tie.After-encode
-afterEncodeFromSliceKnown6 c = c .before .before .before .before .before .before .before .before .before .before .before .before .before .before
+extents-requires : tie.Need-extents-requires
+extents-requires c κs = search needs
 
 admit-disk-requires : tie.Need-admit-disk-requires
 admit-disk-requires c κs = search needs
+
+-- the number of the admission, which is by the state's extents
+number : (c : tie.After-admit-disk) → let a = c .before .before .before .before .before .before .args in
+    diskNumber (a .self) (a .disk .now) (a .memory .now) (a .tail .now) ≡ c .admit-disk .result .number
+number c =
+    let a = c .before .before .before .before .before .before .args in
+    let x = c .admit-disk in
+    sym
+    (disk-number (a .self) (a .disk .now) (a .memory .now) (a .tail .now) (x .result)
+    (disk-by (a .self) _ (c .before .before .extents .ensures) (length (a .disk .now)) (length (a .memory .now)) (a .tail .now) _ (x .ensures)))
 
 same-length : tie.Need-same-length
 same-length c = search needs
@@ -26,18 +32,18 @@ refused-requires c κs = search needs
 
 returns : tie.Need-returns
 returns c =
-    let a = c .before .before .before .before .before .before .before .args in
-    leaves (checkpoint-refused (a .self) (a .disk .now) (a .memory .now) (a .tail .now) (a .allowed) _ (sym (c .before .before .admit-disk .ensures))
-    (c .before .if1 .taken))
+    let x = c .before .before .before in
+    let a = x .before .before .before .before .before .before .args in
+    leaves (checkpoint-refused (a .self) (a .disk .now) (a .memory .now) (a .tail .now) (a .allowed) _ (number x) (c .before .if1 .taken))
     (c .refused .ensures) refl refl refl
 
 -- nothing refuses
 
 abbrev start : tie.Else1 → tie.Start
-start c = c .before .before .before .before .before .before
+start c = c .before .before .before .before .before .before .before .before
 
 passed : (c : tie.Else1) → let a = start c .args in diskNumber (a .self) (a .disk .now) (a .memory .now) (a .tail .now) ≡ 0
-passed c = sym (c .before .admit-disk .ensures) ∙ c .if1 .left
+passed c = number (c .before .before) ∙ c .if1 .left
 
 image-requires : tie.Need-image-requires
 image-requires c κs = search needs
@@ -90,9 +96,9 @@ same-length-4 c = search needs
 
 returns-2 : tie.Need-returns-2
 returns-2 c =
-    let e = afterEncodeFromSliceKnown6 c in
+    let e = c .before .before .before .before .before .before .before .before .before .before .before .before .before .before in
     let a = start (entered e) .args in
-    let made = afterStoreImageFromSliceKnown6 c .store-image in
+    let made = c .before .before .before .before .before .before .before .before .before .before .store-image in
     let off = c .before .before .before .before .cut-off in
     leaves
     (checkpoint-cut (a .self) (a .disk .now) (a .memory .now) (a .tail .now) (a .allowed) (passed (entered e)) (e .encode .result) (made .result)
@@ -123,6 +129,7 @@ pub checkpoint-spec : {M : Type 1} → statement M
 checkpoint-spec =
     tie.close
     (tie.spec
+    extents-requires
     admit-disk-requires
     refused-requires
     same-length

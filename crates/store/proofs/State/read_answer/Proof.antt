@@ -1,34 +1,52 @@
 use borrow.Author.Needs.{needs}
 use mathlib.Core.Path.{_≡_, sym, _∙_}
+use lib.ListN.{length}
 use Rattle.store.specs.Numbers.{readChecks}
 use Rattle.store.specs.Calls.{readNumber}
+use Rattle.store.specs.Admission.{admission, choice}
 use Rattle.store.proofs.Admitting.{seen}
+use Rattle.store.proofs.SameNumbers.{read-first}
+use Rattle.store.proofs.Bare.{judged, admitted-by, seen-by, chosen-by}
 use Rattle.store.proofs.Calling.{chosen-number, answer-refused, answer-done}
 use Rattle.store.proofs.State.read_answer.Statement.{statement}
 use Rattle.store.proofs.State.read_answer.Tie as tie
+
+extents-requires : tie.Need-extents-requires
+extents-requires c κs = search needs
+
+-- what is decided by the state's extents is decided of the state
+admitted : (c : tie.After-admit) → let a = c .before .before .before .before .args in c .admit .result ≡ admission (a .self) (length (a .memory .now)) (a .tail .now)
+admitted c = let a = c .before .before .before .before .args in admitted-by (a .self) _ (c .before .extents .ensures) (length (a .memory .now)) (a .tail .now) _ (c .admit .ensures)
+
+chosen : (c : tie.After-choose-read) → let a = c .before .before .before .before .before .args in
+    c .choose-read .result ≡ choice (a .self) (c .before .admit .result) (a .id .0) (readChecks (a .self) (a .id .0) (a .addr) (a .len))
+chosen c =
+    let a = c .before .before .before .before .before .args in
+    let h = judged (a .self) _ (c .before .before .extents .ensures) in
+    chosen-by (a .self) _ (c .before .before .extents .ensures) _ (a .id .0) _ _ (read-first _ _ h (a .id .0) (a .addr) (a .len)) _ (c .choose-read .ensures)
 
 admit-requires : tie.Need-admit-requires
 admit-requires c κs = search needs
 
 choose-read-requires : tie.Need-choose-read-requires
-choose-read-requires c κs = seen _ _ _ _ (c .admit .ensures)
+choose-read-requires c κs = seen-by (c .before .before .before .before .args .self) _ (c .before .extents .ensures) (c .admit .result) (seen _ _ _ _ (admitted c))
 
 -- the number is read's own
-own : (c : tie.After-choose-read) → let a = c .before .before .before .before .args in
+own : (c : tie.After-choose-read) → let a = c .before .before .before .before .before .args in
     readNumber (a .self) (a .memory .now) (a .tail .now) (a .id) (a .addr) (a .len) ≡ c .choose-read .result .number
 own c =
-    let a = c .before .before .before .before .args in
-    chosen-number _ _ _ _ _ _ (λ n. readChecks (a .self) (a .id .0) (a .addr) (a .len)) (c .before .admit .ensures) (c .choose-read .ensures)
+    let a = c .before .before .before .before .before .args in
+    chosen-number _ _ _ _ _ _ (λ n. readChecks (a .self) (a .id .0) (a .addr) (a .len)) (admitted (c .before)) (chosen c)
 
 returns : tie.Need-returns
 returns c =
-    let a = c .before .before .before .before .before .before .args in
+    let a = c .before .before .before .before .before .before .before .args in
     sym (answer-refused (a .self) (a .memory .now) (a .tail .now) (a .id) (a .addr) (a .len) _ (own (c .before .before)) (c .if1 .taken))
 
 returns-2 : tie.Need-returns-2
 returns-2 c =
-    let a = c .before .before .before .before .before .before .args in
+    let a = c .before .before .before .before .before .before .before .args in
     sym (answer-done (a .self) (a .memory .now) (a .tail .now) (a .id) (a .addr) (a .len) (own (c .before .before) ∙ c .if1 .left))
 
 pub read-answer-spec : {M : Type 1} → statement M
-read-answer-spec = tie.close (tie.spec admit-requires choose-read-requires returns returns-2)
+read-answer-spec = tie.close (tie.spec extents-requires admit-requires choose-read-requires returns returns-2)

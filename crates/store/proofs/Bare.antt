@@ -1,0 +1,102 @@
+-- A state and the bare state of its extents are judged alike.
+use Prim.Native.Nat.{ℕ, zero, suc, _+_, _≤_, _<_}
+use native.Mathlib.Decide.{decLt}
+use native.Mathlib.Omega.{arith}
+use mathlib.Core.List.{List, [], _∷_}
+use mathlib.Core.Path.{_≡_, refl, sym, ap, _∙_, subst}
+use lib.ListN.{length, getD, set, List·getD-map}
+use lib.Seq.{getD-set-same, getD-set-other}
+use Rattle.transaction.specs.declared.Tx.{Tx}
+use Rattle.transaction.specs.declared.TxExtents.{TxExtents}
+use Rattle.transaction.specs.Flat.{noTx}
+use Rattle.transaction.specs.View.{extentsOf, bareTx}
+use Rattle.store.specs.declared.State.{State}
+use Rattle.store.specs.declared.extents.StateExtents.{StateExtents}
+use Rattle.store.specs.declared.admit.Admission.{Admission}
+use Rattle.store.specs.declared.choose.Choice.{Choice}
+use Rattle.store.specs.State.{txAt}
+use Rattle.store.specs.Extents.{noExtents, HasExtents, bareState}
+use Rattle.store.specs.Numbers.{Check, firstNumber}
+use Rattle.store.specs.Admission.{admission, diskAdmission, choice, Seen}
+use Rattle.store.proofs.Sameness.{AlikeTx, Alike, rules-alike, admission-alike, disk-alike, choice-alike}
+
+-- ---- the slots taken so far
+
+-- the transactions of the first n slots
+abbrev pub Taken : State → List TxExtents → ℕ → Type 0
+Taken s ts n = (j : ℕ) → j < n → getD ts j noExtents ≡ extentsOf (txAt s j)
+
+past-end : {A : Type 0} (l : List A) (i : ℕ) (d : A) → length l ≤ i → getD l i d ≡ d
+past-end [] i d h = refl
+past-end (x ∷ l) zero d h = absurd (omega arith)
+past-end (x ∷ l) (suc i) d h = past-end l i d (omega arith)
+
+one-more : (s : State) (ts : List TxExtents) (i : ℕ) → Taken s ts i → getD ts i noExtents ≡ extentsOf (txAt s i) → Taken s ts (i + 1)
+one-more s ts i h e j l =
+    elim (decLt j i) [
+      | yes q ↦ h j q
+      | no q ↦ let z : i ≡ j = omega (arith, l, q) in subst (λ (k : ℕ). getD ts k noExtents ≡ extentsOf (txAt s k)) z e
+    ]
+
+pub taken-stored : (s : State) (ts : List TxExtents) (i : ℕ) (x : TxExtents) → length ts ≡ 8 → i < 8 → x ≡ extentsOf (txAt s i) → Taken s ts i
+    → Taken s (set ts i x) (i + 1)
+taken-stored s ts i x l b e h =
+    one-more s (set ts i x) i (λ j q. getD-set-other ts i j x noExtents (λ z. omega (arith, q, z)) ∙ h j q)
+    (getD-set-same ts i x noExtents (omega (arith, l, b)) ∙ e)
+
+pub taken-past : (s : State) (ts : List TxExtents) (i : ℕ) → length ts ≡ 8 → length (s .txs) ≡ 8 → 8 ≤ i → Taken s ts i → Taken s ts (i + 1)
+taken-past s ts i l m b h =
+    one-more s ts i h (past-end ts i noExtents (omega (arith, l, b)) ∙ ap extentsOf (sym (past-end (s .txs) i noTx (omega (arith, m, b)))))
+
+-- ---- the state that has them
+
+pub bare-at : (e : StateExtents) (i : ℕ) → txAt (bareState e) i ≡ bareTx (getD (e .txs) i noExtents)
+bare-at e i = List·getD-map bareTx (e .txs) i noExtents
+
+pub status-at : (e : StateExtents) (i : ℕ) → txAt (bareState e) i .status ≡ getD (e .txs) i noExtents .status
+status-at e i = ap (λ (t : Tx). t .status) (bare-at e i)
+
+bare-tx : (t : Tx) → AlikeTx (bareTx (extentsOf t)) t
+bare-tx t =
+    record {
+      id = refl;
+      status = refl;
+      csn = refl;
+      undo = record { count = refl; ranges = refl };
+      redo = λ q. record { count = refl; ranges = refl };
+    }
+
+module _ (s : State) (e : StateExtents) (h : HasExtents s e) where
+  count : e .count ≡ s .count
+  count = ap (λ (x : StateExtents). x .count) (h .0)
+
+  at : (i : ℕ) → i < e .count → AlikeTx (txAt (bareState e) i) (txAt s i)
+  at i l =
+      subst (λ (t : Tx). AlikeTx t (txAt s i)) (sym (bare-at e i ∙ ap bareTx (h .1 i (omega (arith, l, count))))) (bare-tx (txAt s i))
+
+  pub judged : Alike (bareState e) s
+  judged =
+      record {
+        recovered = ap (λ (x : StateExtents). x .recovered) (h .0);
+        logend = ap (λ (x : StateExtents). x .logend) (h .0);
+        ondisk = ap (λ (x : StateExtents). x .ondisk .0) (h .0);
+        assigned = ap (λ (x : StateExtents). x .assigned .0) (h .0);
+        lastid = ap (λ (x : StateExtents). x .lastid .0) (h .0);
+        count = count;
+        listed = at;
+      }
+
+  -- ---- as a call has it: e is what it took of the state
+
+  pub admitted-by : (lent : ℕ) (t : List ℕ) (x : Admission) → x ≡ admission (bareState e) lent t → x ≡ admission s lent t
+  admitted-by lent t x q = q ∙ admission-alike (bareState e) s judged lent t
+
+  pub disk-by : (d lent : ℕ) (t : List ℕ) (x : Admission) → x ≡ diskAdmission (bareState e) d lent t → x ≡ diskAdmission s d lent t
+  disk-by d lent t x q = q ∙ disk-alike (bareState e) s judged d lent t
+
+  pub seen-by : (x : Admission) → Seen x s → Seen x (bareState e)
+  seen-by x f z = (rules-alike (bareState e) s judged ∙ f z .0, f z .1)
+
+  pub chosen-by : (x : Admission) (id : ℕ) (cs ds : List Check) → firstNumber cs ≡ firstNumber ds
+      → (r : Choice) → r ≡ choice (bareState e) x id cs → r ≡ choice s x id ds
+  chosen-by x id cs ds f r q = q ∙ choice-alike (bareState e) s judged x id cs ds f
