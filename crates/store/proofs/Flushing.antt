@@ -9,6 +9,7 @@ use lib.ListN.{length, take, drop, replicate, length-drop, take-append-drop}
 use lib.Seq.{take-nil, length-take-le, drop-drop, drop-append-le}
 use lib.Dec.{leb, eqb}
 use borrow.Author.Tests.{eq-eqb, eqb-true, le-leb}
+use Rattle.layout.specs.Parts.{logPart}
 use Rattle.recovery.specs.Group.{Group, committed, aborted, groupsSize, csnAfter, lastCsn}
 use Rattle.recovery.proofs.Groups.{groupsSize-append, lastCsn-append}
 use Rattle.log.specs.declared.Csn.{Csn}
@@ -17,6 +18,7 @@ use Rattle.log.specs.Group.{wellFormedBody, wellFormedGroup}
 use Rattle.log.specs.Log.{readLog, logEndOf, wellFormedLog}
 use Rattle.log.specs.Stores.{Store, apply, copies, shifted}
 use Rattle.log.proofs.LogLaws.{log-within}
+use Rattle.log.proofs.PartLaws.{copies-moved, within-copies, part-lent}
 use Rattle.log.proofs.Parts.{log-split, log-padding}
 use Rattle.log.proofs.Soundness.{log-formed}
 use Rattle.log.proofs.StoreLaws.{length-copies, shifted-part}
@@ -31,7 +33,7 @@ use Rattle.store.specs.Stored.{Plan, zeroed, madeWhole}
 use Rattle.store.specs.Flush.{withLog, firstGroups, firstSize, flushedState, flushedTail, flushStores, flushPlan, flushOf}
 use Rattle.store.proofs.Zeros.{zeros-behind, zeros-all}
 use Rattle.store.proofs.Fits.{Fit}
-use Rattle.store.proofs.Storing.{copies-moved, part-stored, diskNumber, disk-admitted, stored-refused, stored-cut, stored-done}
+use Rattle.store.proofs.Storing.{diskNumber, disk-admitted, stored-refused, stored-cut, stored-done}
 
 -- ---- the first k groups of the tail
 
@@ -147,9 +149,9 @@ module _ (s : State) (d m t : List ℕ) (k allowed : ℕ) where
 
     -- made is the number of stores made, ys what they left of the log part
     module _ (made : ℕ) (ys : List ℕ) (f : made ≡ min allowed (length (copies (s .logend) (take (read .end) t))))
-        (g : ys ≡ apply (take allowed (copies (s .logend) (take (read .end) t))) (take (length d - 17307) (drop 17307 d))) where
+        (g : ys ≡ apply (take allowed (copies (s .logend) (take (read .end) t))) (logPart d)) where
       abbrev left : List ℕ
-      left = take 17307 d ++ (ys ++ drop (length d - 17307) (drop 17307 d))
+      left = take 17307 d ++ (ys ++ drop 16384 (drop 17307 d))
 
       count : made ≡ min allowed (length (flushStores s t k))
       count =
@@ -160,7 +162,8 @@ module _ (s : State) (d m t : List ℕ) (k allowed : ℕ) where
 
       on-disk : left ≡ apply (take allowed (flushStores s t k)) d
       on-disk =
-          part-stored 17307 allowed (copies (s .logend) (take (read .end) t)) d ys g
+          part-lent 17307 16384 allowed (copies (s .logend) (take (read .end) t)) d ys
+          (within-copies 16384 (s .logend) (take (read .end) t) (omega (arith, flush-fits .bytes, flush-fits .log))) g
           ∙ ap (λ (ss : List Store). apply (take allowed ss) d)
           (sym (copies-moved 17307 (s .logend) (take (read .end) t)) ∙ ap (λ (n : ℕ). copies (17307 + s .logend) (take n t)) size)
 

@@ -1,15 +1,11 @@
--- Calls that store on the disk: stores into a part of it, numbers 1 and 2, and the cases of the outcome.
-use Prim.Native.Nat.{ℕ, zero, suc, _+_, _-_, _≤_, _<_}
-use native.Mathlib.Nat.{add-assoc}
-use native.Mathlib.Omega.{arith}
+-- Calls that store on the disk: numbers 1 and 2, and the cases of the outcome.
+use Prim.Native.Nat.{ℕ, _≤_, _<_}
 use mathlib.Core.Bool.{Bool, true, false, cond, not}
-use mathlib.Core.List.{List, [], _∷_, _++_, append-nil}
-use mathlib.Core.Path.{_≡_, refl, sym, ap, ap₂, _∙_}
-use lib.ListN.{length, take, drop, set, length-drop, take-append-drop, drop-of-length-le}
-use lib.Seq.{take-all, take-set-le, drop-set-add}
+use mathlib.Core.List.{List, [], _∷_}
+use mathlib.Core.Path.{_≡_, refl, sym, ap, _∙_}
+use lib.ListN.{length}
 use lib.Dec.{eqb}
 use borrow.Author.Tests.{eq-eqb, ne-eqb, lt-ltb, le-ltb, eqb-true, not-false}
-use Rattle.log.specs.Stores.{Store, store, apply, copies, clears}
 use Rattle.store.specs.declared.State.{State}
 use Rattle.store.specs.declared.admit.Admission.{Admission}
 use Rattle.store.specs.Answer.{Told}
@@ -21,44 +17,6 @@ use Rattle.store.specs.Stored.{diskChecks, DiskOutcome, Plan, cutShort, 
 use Rattle.store.proofs.Fits.{Fit, unfit-no}
 use Rattle.store.proofs.Checks.{passed}
 use Rattle.store.proofs.Admitting.{unrefused, number-is, admitted}
-
--- ---- stores into the part of a disk from an offset on
-
--- the same stores at offsets of the whole disk
-abbrev pub moved : ℕ → List Store → List Store
-moved a [] = []
-moved a (store i v ∷ ss) = store (a + i) v ∷ moved a ss
-
-pub copies-moved : (a at : ℕ) (vs : List ℕ) → copies (a + at) vs ≡ moved a (copies at vs)
-copies-moved a at [] = refl
-copies-moved a at (v ∷ vs) =
-    let e : suc (a + at) ≡ a + suc at = omega arith in
-    ap (λ (ss : List Store). store (a + at) v ∷ ss) (ap (λ (j : ℕ). copies j vs) e ∙ copies-moved a (suc at) vs)
-
-pub clears-moved : (a low k : ℕ) → clears (a + low) k ≡ moved a (clears low k)
-clears-moved a low zero = refl
-clears-moved a low (suc k) = ap₂ (λ (i : ℕ) (ss : List Store). store i 0 ∷ ss) (add-assoc a low k) (clears-moved a low k)
-
-take-moved : (n a : ℕ) (ss : List Store) → take n (moved a ss) ≡ moved a (take n ss)
-take-moved zero a ss = refl
-take-moved (suc n) a [] = refl
-take-moved (suc n) a (store i v ∷ ss) = ap (λ (rs : List Store). store (a + i) v ∷ rs) (take-moved n a ss)
-
-apply-moved : (a : ℕ) (ss : List Store) (d : List ℕ) → apply (moved a ss) d ≡ take a d ++ apply ss (drop a d)
-apply-moved a [] d = sym (take-append-drop a d)
-apply-moved a (store i v ∷ ss) d =
-    apply-moved a ss (set d (a + i) v)
-    ∙ ap₂ (λ (x y : List ℕ). x ++ apply ss y) (take-set-le a d (a + i) v (omega arith)) (drop-set-add a d i v)
-
--- what a call leaves that was lent the part, in terms of the whole disk
-pub part-stored : (a n : ℕ) (ss : List Store) (d ys : List ℕ) → ys ≡ apply (take n ss) (take (length d - a) (drop a d))
-    → take a d ++ (ys ++ drop (length d - a) (drop a d)) ≡ apply (take n (moved a ss)) d
-part-stored a n ss d ys e =
-    let l = length-drop a d in
-    let f : take (length d - a) (drop a d) ≡ drop a d = take-all (length d - a) (drop a d) (omega arith) in
-    let r : drop (length d - a) (drop a d) ≡ [] = drop-of-length-le (drop a d) {i = length d - a} (omega arith) in
-    ap (λ (l : List ℕ). take a d ++ l) (ap₂ _++_ (e ∙ ap (apply (take n ss)) f) r ∙ append-nil (apply (take n ss) (drop a d)))
-    ∙ sym (ap (λ (rs : List Store). apply rs d) (take-moved n a ss) ∙ apply-moved a (take n ss) d)
 
 -- ---- a plan, by the stores allowed
 

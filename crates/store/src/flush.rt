@@ -4,6 +4,7 @@ use crate::State;
 use crate::stored::Stored;
 use crate::stored::cut_off;
 use crate::stored::refused;
+use layout::LOG_LEN;
 use layout::LOG_START;
 use log::Csn;
 use log::scan::read_first;
@@ -54,7 +55,12 @@ impl State {
             };
         }
         let end = self.logend as usize;
-        let stores = copy_up(&mut disk[LOG_START..], end, &tail[..size], allowed);
+        let stores = copy_up(
+            &mut disk[LOG_START..LOG_START + LOG_LEN],
+            end,
+            &tail[..size],
+            allowed,
+        );
         if stores < size {
             return cut_off(memory, tail, stores);
         }

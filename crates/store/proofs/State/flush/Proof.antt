@@ -88,14 +88,17 @@ returns-2 c =
     (r .read-first .ensures) (c .if2 .taken))
     refl refl refl refl
 
+add-copy-up : tie.Need-add-copy-up
+add-copy-up c = search needs
+
 sub-copy-up : tie.Need-sub-copy-up
-sub-copy-up c = omega (arith, room (c .before .before) .disk)
+sub-copy-up c = search needs
 
 part-copy-up-start : tie.Need-part-copy-up-start
-part-copy-up-start c = omega (arith, room (c .before .before) .disk)
+part-copy-up-start c = search needs
 
 part-copy-up-end : tie.Need-part-copy-up-end
-part-copy-up-end c = search needs
+part-copy-up-end c = omega (arith, room (c .before .before) .disk)
 
 slice-reshare-prefix-copy-up : tie.Need-slice-reshare-prefix-copy-up
 slice-reshare-prefix-copy-up c = room (c .before .before .before) .tail
@@ -202,6 +205,7 @@ flush-spec =
     same-length-2
     returns-2
     cast-end
+    add-copy-up
     sub-copy-up
     part-copy-up-start
     part-copy-up-end
