@@ -4,7 +4,7 @@ use native.Mathlib.Decide.{decLt}
 use native.Mathlib.Omega.{arith}
 use mathlib.Core.List.{List, [], _∷_}
 use mathlib.Core.Path.{_≡_, refl, sym, ap, _∙_, subst}
-use lib.ListN.{length, getD, set, List·getD-map}
+use lib.ListN.{length, getD, set, replicate, List·getD-map}
 use lib.Seq.{getD-set-same, getD-set-other}
 use Rattle.transaction.specs.declared.Tx.{Tx}
 use Rattle.transaction.specs.declared.TxExtents.{TxExtents}
@@ -15,16 +15,12 @@ use Rattle.store.specs.declared.extents.StateExtents.{StateExtents}
 use Rattle.store.specs.declared.admit.Admission.{Admission}
 use Rattle.store.specs.declared.choose.Choice.{Choice}
 use Rattle.store.specs.State.{txAt}
-use Rattle.store.specs.Extents.{noExtents, HasExtents, bareState}
+use Rattle.store.specs.Extents.{noExtents, withExtents, Taken, HasExtents, bareState}
 use Rattle.store.specs.Numbers.{Check, firstNumber}
 use Rattle.store.specs.Admission.{admission, diskAdmission, choice, Seen}
 use Rattle.store.proofs.Sameness.{AlikeTx, Alike, rules-alike, admission-alike, disk-alike, choice-alike}
 
 -- ---- the slots taken so far
-
--- the transactions of the first n slots
-abbrev pub Taken : State → List TxExtents → ℕ → Type 0
-Taken s ts n = (j : ℕ) → j < n → getD ts j noExtents ≡ extentsOf (txAt s j)
 
 past-end : {A : Type 0} (l : List A) (i : ℕ) (d : A) → length l ≤ i → getD l i d ≡ d
 past-end [] i d h = refl
@@ -47,6 +43,19 @@ taken-stored s ts i x l b e h =
 pub taken-past : (s : State) (ts : List TxExtents) (i : ℕ) → length ts ≡ 8 → length (s .txs) ≡ 8 → 8 ≤ i → Taken s ts i → Taken s ts (i + 1)
 taken-past s ts i l m b h =
     one-more s ts i h (past-end ts i noExtents (omega (arith, l, b)) ∙ ap extentsOf (sym (past-end (s .txs) i noTx (omega (arith, m, b)))))
+
+-- other transactions leave the counters
+pub counters-kept : (s : State) (e : StateExtents) (ts : List TxExtents) → e ≡ withExtents s (e .txs)
+    → record { recovered = e .recovered; logend = e .logend; ondisk = e .ondisk; assigned = e .assigned; lastid = e .lastid; count = e .count; txs = ts }
+    ≡ withExtents s ts
+counters-kept s e ts q =
+    ap (λ (x : StateExtents).
+    record { recovered = x .recovered; logend = x .logend; ondisk = x .ondisk; assigned = x .assigned; lastid = x .lastid; count = x .count; txs = ts })
+    q
+
+-- the first one's, in every slot
+pub taken-first : (s : State) (x : TxExtents) → x ≡ extentsOf (txAt s 0) → Taken s (replicate 8 x) 1
+taken-first s x e j h = let z : 0 ≡ j = omega (arith, h) in subst (λ (k : ℕ). getD (replicate 8 x) k noExtents ≡ extentsOf (txAt s k)) z e
 
 -- ---- the state that has them
 

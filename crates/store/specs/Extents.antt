@@ -19,9 +19,13 @@ abbrev pub withExtents : State → List TxExtents → StateExtents
 withExtents s ts =
     record { recovered = s .recovered; logend = s .logend; ondisk = s .ondisk; assigned = s .assigned; lastid = s .lastid; count = s .count; txs = ts }
 
+-- the extents of the transactions in the first n slots
+abbrev pub Taken : State → List TxExtents → ℕ → Type 0
+Taken s ts n = (i : ℕ) → i < n → getD ts i noExtents ≡ extentsOf (txAt s i)
+
 -- e has the counters of the state and the extents of the transactions listed
 abbrev pub HasExtents : State → StateExtents → Type 0
-HasExtents s e = (e ≡ withExtents s (e .txs)) × ((i : ℕ) → i < s .count → getD (e .txs) i noExtents ≡ extentsOf (txAt s i))
+HasExtents s e = (e ≡ withExtents s (e .txs)) × Taken s (e .txs) (s .count)
 
 -- the state of these extents whose records have no bytes
 abbrev pub bareState : StateExtents → State

@@ -1,5 +1,5 @@
 // The calls. Each is handed the state by value and gives it back, with its answer beside it. A state is long: it stands first in what is given back,
-// and a call looks at its extents alone, so that the compiler moves it whole and once.
+// so that the compiler moves it whole, and a call is judged by its extents.
 use crate::Answer;
 use crate::State;
 use crate::choose::begin_number;

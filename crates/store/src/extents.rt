@@ -4,7 +4,8 @@ use layout::MAX_TXS;
 use log::Csn;
 use log::TxId;
 use transaction::TxExtents;
-ghost use Rattle.store.specs.Extents.{HasExtents};
+ghost use mathlib.Core.Path.{_≡_};
+ghost use Rattle.store.specs.Extents.{withExtents, Taken, HasExtents};
 
 // The counters, and the transactions listed; what stands in the other slots is not asked for.
 pub(crate) struct StateExtents {
@@ -18,34 +19,45 @@ pub(crate) struct StateExtents {
 }
 
 impl State {
-    // The slots past the count have what stands in the first one.
-    pub(crate) fn extents(self) -> StateExtents
+    // The extents of the transactions after the first one, into those that were taken.
+    fn later(self, mut seen: StateExtents) -> StateExtents
+        requires { ⌜ (seen ≡ withExtents self (seen .txs)) × Taken self (seen .txs) 1 ⌝ }
         ensures { λ r. ⌜ HasExtents self r ⌝ }
     {
-        let first = self.txs[0];
-        let other = first.extents();
-        let mut txs = [other; MAX_TXS];
         let n = self.count as usize;
-        let mut i: usize = 0;
+        let mut i: usize = 1;
         while i < n {
             if i < MAX_TXS {
                 let t = self.txs[i];
                 let e = t.extents();
-                txs[i] = e;
+                seen.txs[i] = e;
             }
             i += 1;
         }
+        seen
+    }
+
+    // The first transaction by itself: so a state of one is not copied for them. It fills the slots past the count too.
+    pub(crate) fn extents(self) -> StateExtents
+        ensures { λ r. ⌜ HasExtents self r ⌝ }
+    {
         let ondisk = self.ondisk;
         let assigned = self.assigned;
         let lastid = self.lastid;
-        StateExtents {
+        let t = self.txs[0];
+        let first = t.extents();
+        let seen = StateExtents {
             recovered: self.recovered,
             logend: self.logend,
             ondisk: ondisk,
             assigned: assigned,
             lastid: lastid,
             count: self.count,
-            txs: txs,
+            txs: [first; MAX_TXS],
+        };
+        if self.count <= 1 {
+            return seen;
         }
+        self.later(seen)
     }
 }
