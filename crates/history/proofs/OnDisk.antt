@@ -1,11 +1,11 @@
 -- A disk that shows an abstract one: the image that it opens, and the groups of its log. What restart makes of it then is what
 -- `recovery`'s machine says.
-use Prim.Native.Nat.{ℕ, _+_, _-_, _*_, _≤_}
+use Prim.Native.Nat.{ℕ, zero, suc, _+_, _-_, _*_, _≤_}
 use native.Mathlib.Omega.{arith}
 use mathlib.Core.Bool.{true}
-use mathlib.Core.List.{List, [], _++_}
+use mathlib.Core.List.{List, [], _∷_, _++_}
 use mathlib.Core.Path.{_≡_, refl, sym, ap, ap₂, _∙_}
-use lib.ListN.{length, replicate, length-replicate}
+use lib.ListN.{length, take, replicate, length-replicate}
 use Rattle.recovery.specs.Group.{Group, groupsSize, lastCsn}
 use Rattle.recovery.specs.Transaction.{Tx}
 use Rattle.recovery.specs.Replay.{layBytes}
@@ -28,7 +28,7 @@ use Rattle.restart.proofs.Undos.{aborts-length}
 use Rattle.disk.specs.Layout.{logFrom}
 use Rattle.disk.specs.Open.{loadOf, openOf}
 use Rattle.disk.specs.Examine.{Meaning, stepsOf, examineOf}
-use Rattle.disk.proofs.Opened.{log-last, opened-rules, opened-log, OpenAlike}
+use Rattle.disk.proofs.Opened.{opened-rules, opened-log, OpenAlike}
 use Rattle.disk.proofs.Accepted as accepted
 use Rattle.disk.proofs.Accepted.{imageIn, memoryIn, logIn, stepsIn, Accepted}
 use Rattle.history.proofs.Padded.{padded}
@@ -56,6 +56,11 @@ pub record OnDisk (from : Start) (disk : List ℕ) (d : Disk) : Type 0 where
 abbrev pub fresh : Start
 fresh = record { memory = replicate 4096 0; csn = 0; sized = length-replicate {A = ℕ} 4096 0 }
 
+take-zeros : (n k : ℕ) → n ≤ k → _≡_ {A = List ℕ} (take n (replicate k 0)) (replicate n 0)
+take-zeros zero k h = refl
+take-zeros (suc n) zero h = absurd (omega arith)
+take-zeros (suc n) (suc k) h = ap (λ (l : List ℕ). 0 ∷ l) (take-zeros n k (omega arith))
+
 pub fresh-shows : OnDisk fresh (replicate 33691 0) (openingDisk (opens fresh))
 unfolding openOf loadOf emptyImage
 fresh-shows = record {
@@ -66,7 +71,8 @@ fresh-shows = record {
   csn = refl;
   place = ap groupsSize (sym (opening-stands (opens fresh)));
   log =
-      ap (readLog 0) (log-last 0 (replicate 33691 0) (length-replicate {A = ℕ} 33691 0) ∙ drop-zeros 17307 33691)
+      ap (λ (l : List ℕ). readLog 0 (take 16384 l)) (drop-zeros 17307 33691)
+      ∙ ap (readLog 0) (take-zeros 16384 16384 (omega arith))
       ∙ log-zeros 0 16384
       ∙ ap (λ (gs : List Group). gs ++ []) (sym (opening-stands (opens fresh)));
 }
