@@ -33,7 +33,7 @@ extern "C" {
 #define LUPPANETH_MEMORY_LEN 4096
 #define LUPPANETH_TAIL_LEN 16384
 #define LUPPANETH_DISK_LEN 33691
-#define LUPPANETH_TEXT_LEN 64
+#define LUPPANETH_TEXT_LEN 80
 #define LUPPANETH_STATE_LEN 9072
 
 /* Parts of the disk: the pointer byte at 0, image A, image B, the log. */
@@ -76,6 +76,14 @@ enum luppaneth_number {
     LUPPANETH_NOT_DURABLE = 14            /* settle: it is running, or its commit isn't on disk yet */
 };
 
+/* A reply's `stop`: why the log ended where it did, as a restart that is done found it. */
+enum luppaneth_stop {
+    LUPPANETH_STOP_UNTOLD = 0, /* any other call; a restart that is cut or refused */
+    LUPPANETH_STOP_FULL = 1,   /* the log has no byte left */
+    LUPPANETH_STOP_ZERO = 2,   /* a zero byte: nothing was stored there */
+    LUPPANETH_STOP_TORN = 3    /* a record or group that is broken or unfinished */
+};
+
 /* The state between calls. Opaque; the union is there for its alignment of 4. */
 struct luppaneth_state {
     union {
@@ -87,6 +95,7 @@ struct luppaneth_state {
 struct luppaneth_reply {
     uint8_t answer; /* enum luppaneth_answer */
     uint8_t number; /* enum luppaneth_number where refused, else 0 */
+    uint8_t stop;   /* enum luppaneth_stop */
     uint32_t value; /* begin's id, precommit's commit number, restart's count of transactions undone; else 0 */
     size_t stores;  /* bytes stored on the disk by flush, checkpoint or restart; else 0 */
     struct luppaneth_state state; /* for the next call; as it went in where refused. Restart's, refused or cut: the unrecovered one */
@@ -135,7 +144,8 @@ struct luppaneth_reply luppaneth_checkpoint(struct luppaneth_state state, unsign
                                             size_t memory_len, unsigned char *tail, size_t tail_len, size_t allowed);
 
 /* Makes memory, tail and state from a disk: first of all calls, and after every power cut. An all-zero disk is a fresh one. It clears the disk
- * after the log's end; these bytes have to reach the real disk in falling order. value: how many transactions it undid. */
+ * after the log's end; these bytes have to reach the real disk in falling order. value: how many transactions it undid. stop: why the log
+ * ended where it did, before it was cleared. */
 struct luppaneth_reply luppaneth_restart(unsigned char *disk, size_t disk_len, unsigned char *memory, size_t memory_len, unsigned char *tail,
                                          size_t tail_len, size_t allowed);
 
@@ -143,7 +153,7 @@ struct luppaneth_reply luppaneth_restart(unsigned char *disk, size_t disk_len, u
 bool luppaneth_equal(const unsigned char *a, size_t a_len, const unsigned char *b, size_t b_len);
 
 /* What a restart finds, in lines of text (as the program disklist): hand it a copy of the disk, for the copy is restarted. The text goes to the
- * front of the 64 bytes, zeros after it; its length is returned. */
+ * front of the 80 bytes, zeros after it; its length is returned. */
 size_t luppaneth_list(unsigned char *disk, size_t disk_len, unsigned char *text);
 
 /* How many bytes each buffer has to have. */
@@ -164,6 +174,7 @@ struct luppaneth {
     unsigned char memory[LUPPANETH_MEMORY_LEN]; /* the pattern; read it freely between calls */
     unsigned char tail[LUPPANETH_TAIL_LEN];     /* groups not yet on disk */
     unsigned char disk[LUPPANETH_DISK_LEN];     /* fill it from the real disk, then restart */
+    unsigned char stop;                         /* enum luppaneth_stop of the last restart */
     size_t stores;                              /* stores made by the last flush, checkpoint or restart */
 };
 
@@ -187,6 +198,7 @@ static inline int lup_restart(struct luppaneth *l, size_t allowed, uint32_t *und
     struct luppaneth_reply r =
         luppaneth_restart(l->disk, sizeof l->disk, l->memory, sizeof l->memory, l->tail, sizeof l->tail, allowed);
     *undone = r.value;
+    l->stop = r.stop;
     return lup_take(l, &r);
 }
 

@@ -81,7 +81,7 @@ static void test_reply(void)
     static struct room room;
     static struct luppaneth l;
     restart_at call = (restart_at)(any)luppaneth_restart;
-    const size_t fields[][2] = {{0, 2}, {4, 8}, {8, 16}};
+    const size_t fields[][2] = {{0, 3}, {4, 8}, {8, 16}};
     size_t i, k;
     int run;
     for (run = 0; run < 2; run++) {
@@ -95,8 +95,8 @@ static void test_reply(void)
             expect(written(&room, room.at + k), "a field of the reply is not written");
     expect(_Alignof(struct luppaneth_reply) == 8, "the reply's alignment is not 8");
     expect(offsetof(struct luppaneth_reply, answer) == 0 && offsetof(struct luppaneth_reply, number) == 1 &&
-               offsetof(struct luppaneth_reply, value) == 4 && offsetof(struct luppaneth_reply, stores) == 8 &&
-               offsetof(struct luppaneth_reply, state) == 16,
+               offsetof(struct luppaneth_reply, stop) == 2 && offsetof(struct luppaneth_reply, value) == 4 &&
+               offsetof(struct luppaneth_reply, stores) == 8 && offsetof(struct luppaneth_reply, state) == 16,
            "an offset in the reply is not as stated");
 }
 
@@ -148,9 +148,11 @@ static void test_fresh(struct luppaneth *l)
     memset(l->memory, 7, sizeof l->memory);
     r = luppaneth_restart(l->disk, sizeof l->disk, l->memory, sizeof l->memory, l->tail, sizeof l->tail, 16383);
     expect(told(&r, LUPPANETH_ANSWER_CUT, 0, 0, 16383), "restart of a fresh disk with 16,383 stores");
+    expect(r.stop == LUPPANETH_STOP_UNTOLD, "a restart that is cut tells where the log stopped");
     expect(blank(&l->state, 0) && blank(&r.state, 0), "the unrecovered state");
     r = luppaneth_restart(l->disk, sizeof l->disk, l->memory, sizeof l->memory, l->tail, sizeof l->tail, 16384);
     expect(told(&r, LUPPANETH_ANSWER_DONE, 0, 0, 16384), "restart of a fresh disk");
+    expect(r.stop == LUPPANETH_STOP_ZERO, "where a fresh disk's log stopped");
     expect(zeros(l->memory, sizeof l->memory) && zeros(l->tail, sizeof l->tail) && zeros(l->disk, sizeof l->disk),
            "a fresh disk's buffers are not zero");
     expect(blank(&r.state, 1), "a fresh disk's state");
@@ -186,7 +188,7 @@ static void test_booking(struct luppaneth *l)
 static void test_disks(struct luppaneth *l)
 {
     static struct luppaneth copy;
-    static const char lines[] = "pointer=1\nend=17\ncsn=1\nid=1\nundone=0\n";
+    static const char lines[] = "pointer=1\nend=17\ncsn=1\nid=1\nundone=0\nstop=zero\n";
     unsigned char text[LUPPANETH_TEXT_LEN];
     uint32_t undone = 7;
     uint16_t id = 0;

@@ -43,6 +43,8 @@ pub const CUT: u8 = 1;
 pub struct Reply {
     pub answer: u8,
     pub number: u8,
+    /// Of a restart that is done 1 to 3: the log was full, a zero byte, torn. Else 0.
+    pub stop: u8,
     pub value: u32,
     pub stores: usize,
     pub state: State,

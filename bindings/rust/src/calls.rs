@@ -38,7 +38,7 @@ pub const LOG_START: usize = 17_307;
 /// Bytes of the log.
 pub const LOG_LEN: usize = DISK_LEN - LOG_START;
 
-pub(crate) const TEXT_LEN: usize = 64;
+pub(crate) const TEXT_LEN: usize = 80;
 
 /// What lasts: pointer byte, two images, the log. All zeros: a fresh one.
 pub type Disk = [u8; DISK_LEN];
@@ -64,6 +64,28 @@ pub struct Stored {
     pub stores: usize,
 }
 
+/// Why a log ended where it did.
+#[derive(Clone, Copy, Debug, PartialEq, Eq)]
+pub enum Stop {
+    /// It has no byte left.
+    Full,
+    /// A zero byte: nothing was stored there.
+    Zero,
+    /// A record or group that is broken or unfinished.
+    Torn,
+}
+
+impl Stop {
+    fn from_number(number: u8) -> Option<Stop> {
+        match number {
+            1 => Some(Stop::Full),
+            2 => Some(Stop::Zero),
+            3 => Some(Stop::Torn),
+            _ => None,
+        }
+    }
+}
+
 /// How a restart went.
 #[derive(Clone, Copy, Debug, PartialEq, Eq)]
 pub struct Restarted {
@@ -71,6 +93,8 @@ pub struct Restarted {
     pub stored: Stored,
     /// The transactions undone in step 4; 0 where cut.
     pub undone: u32,
+    /// Why the log ended where it did, before it was cleared; none where cut.
+    pub stop: Option<Stop>,
 }
 
 /// The state between calls.
@@ -263,6 +287,7 @@ impl State {
         Ok(Restarted {
             stored: stored(&reply)?,
             undone: reply.value,
+            stop: Stop::from_number(reply.stop),
         })
     }
 

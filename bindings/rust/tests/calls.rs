@@ -92,7 +92,7 @@ fn m1_a_group_of_seventeen_bytes() {
     assert_eq!(b.disk[LOG_START..LOG_START + 17], group);
     assert_eq!(
         disklist(&b.disk),
-        "pointer=0\nend=17\ncsn=1\nid=1\nundone=0\n"
+        "pointer=0\nend=17\ncsn=1\nid=1\nundone=0\nstop=zero\n"
     );
     assert_eq!(b.settle(TxId(1)), Ok(()));
 
@@ -100,20 +100,24 @@ fn m1_a_group_of_seventeen_bytes() {
     assert_eq!(b.flush(1, 16), cut(16));
     assert!(!b.state.recovered());
     assert_eq!((b.memory, b.tail), ([0; MEMORY_LEN], [0; TAIL_LEN]));
+    let found = b.restart(ALL).unwrap();
     assert_eq!(
-        b.restart(ALL).unwrap().stored,
+        found.stored,
         Stored {
             cut: false,
             stores: 16_384
         }
     );
+    assert_eq!(found.stop, Some(Stop::Torn));
+    assert_eq!(b.restart(ALL).unwrap().stop, Some(Stop::Zero));
     assert_eq!((b.state.log_end(), b.state.on_disk()), (0, Csn(0)));
 }
 
 #[test]
 fn m2_restart_of_a_fresh_disk() {
     let mut b = Buffers::on([0; DISK_LEN]);
-    assert_eq!(b.restart(16_383).map(|r| r.stored), cut(16_383));
+    let short = b.restart(16_383).unwrap();
+    assert_eq!((Ok(short.stored), short.stop), (cut(16_383), None));
     assert!(!b.state.recovered());
     assert_eq!(b.restart(16_384).map(|r| r.stored), done(16_384));
     assert!(b.state.recovered());

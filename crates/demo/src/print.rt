@@ -2,6 +2,7 @@
 use layout::DISK_LEN;
 use layout::MEMORY_LEN;
 use libc::STDOUT_FILENO;
+use listing::TEXT_LEN;
 use listing::list;
 use store::Answer;
 
@@ -68,7 +69,7 @@ pub(crate) fn memory_places(memory: &[u8; MEMORY_LEN]) {
 
 // disklist's lines, of a copy of the disk.
 pub(crate) fn listing(mut disk: [u8; DISK_LEN]) {
-    let mut out = [0u8; 64];
+    let mut out = [0u8; TEXT_LEN];
     let n = list(&mut disk, &mut out);
     text(&out[..n]);
 }

@@ -75,7 +75,8 @@ module _ (disk : List ℕ) (d : length disk ≡ 33691) (a : Accepted disk) where
   within : end ≤ 16384
   within = omega (arith, roomy disk)
 
-  groups-size : imageIn disk .logend + groupsSize (groupsOf (imageIn disk) (logIn disk)) ≡ end
+  -- where the groups after the image end
+  pub groups-size : imageIn disk .logend + groupsSize (groupsOf (imageIn disk) (logIn disk)) ≡ end
   unfolding stepsOf
   groups-size =
       let e = ap (λ (m : Meaning). m .result .end) (a .is) in

@@ -12,12 +12,13 @@ use Rattle.log.specs.Stores.{Store, apply, clears}
 use Rattle.log.proofs.Basics.{clash}
 use Rattle.log.proofs.PartLaws.{clears-moved, within-clears, part-lent}
 use Rattle.log.proofs.StoreLaws.{length-clears}
+use Rattle.log.specs.Stop.{stopOf}
 use Rattle.store.specs.Answer.{done}
 use Rattle.store.specs.Stored.{DiskOutcome, cutShort, madeWhole, carriedOut}
 use Rattle.store.proofs.Storing.{carried-cut, carried-done}
-use Rattle.disk.specs.Layout.{lengthsOk}
+use Rattle.disk.specs.Layout.{logFrom, lengthsOk}
 use Rattle.disk.specs.Examine.{Meaning, examineOf}
-use Rattle.disk.specs.Restart.{clearing, restartPlan, refusedRestart, refusedWith, ofMeaning, restartOf}
+use Rattle.disk.specs.Restart.{clearing, restartPlan, refusedRestart, refusedWith, ofMeaning, restartOf, stopFound, toldStop, stoppedOf}
 use Rattle.disk.proofs.Opened.{log-length}
 
 pub clearing-length : (end : ℕ) → length (clearing end) ≡ 16384 - end
@@ -66,6 +67,17 @@ module _ (disk memory tail : List ℕ) (allowed : ℕ) (d : length disk ≡ 3369
 
     pub restart-done : 16384 - examineOf disk .result .end ≤ allowed → restartOf disk memory tail allowed ≡ doneFrom (examineOf disk) disk allowed
     restart-done h = taken ∙ carried-done (restartPlan (examineOf disk)) allowed disk (omega (arith, clearing-length (examineOf disk .result .end)))
+
+-- ---- the stop told
+
+pub stop-found : (disk : List ℕ) (end : ℕ) → end ≡ examineOf disk .result .end → stopOf (logFrom end disk) ≡ stopFound disk
+unfolding stopFound
+stop-found disk end e = ap (λ (n : ℕ). stopOf (logFrom n disk)) e
+
+pub stopped-by : (disk memory tail : List ℕ) (allowed : ℕ) {o : DiskOutcome} → restartOf disk memory tail allowed ≡ o
+    → stoppedOf disk memory tail allowed ≡ toldStop (o .result .says) (stopFound disk)
+unfolding stoppedOf
+stopped-by disk memory tail allowed e = ap (λ (o : DiskOutcome). toldStop (o .result .says) (stopFound disk)) e
 
 -- ---- the answer "done"
 

@@ -7,14 +7,18 @@ use lib.Dec.{eqb}
 use Rattle.layout.specs.{logStart, logLen, maxTxs}
 use Rattle.log.specs.declared.TxId.{TxId}
 use Rattle.log.specs.declared.Csn.{Csn}
+use Rattle.log.specs.declared.stop.Stop.{Stop}
 use Rattle.log.specs.Stores.{Store, clears}
+use Rattle.log.specs.Stop.{stopOf}
 use Rattle.transaction.specs.Flat.{emptyTx}
 use Rattle.store.specs.declared.State.{State}
 use Rattle.store.specs.State.{unrecovered}
-use Rattle.store.specs.Answer.{refused, word, Told, tells}
+use Rattle.store.specs.Answer.{Word, done, cut, refused, word, Told, tells}
 use Rattle.store.specs.Stored.{DiskOutcome, Plan, carriedOut}
 use Rattle.disk.specs.declared.call.Restarted.{Restarted}
-use Rattle.disk.specs.Layout.{lengthsOk}
+use Rattle.disk.specs.declared.call.Stopped.{Stopped}
+use Rattle.disk.specs.declared.call.Stopped.the-variants.{Untold, At}
+use Rattle.disk.specs.Layout.{logFrom, lengthsOk}
 use Rattle.disk.specs.Examine.{Meaning, examineOf}
 
 -- Step 5: "Both commit numbers = the last found; log end = the end found." Step 6: "No transaction is left."
@@ -53,3 +57,18 @@ ofMeaning m disk allowed =
 -- "1. All calls: a lent buffer hasn't its length."
 unfoldable pub restartOf : List ℕ → List ℕ → List ℕ → ℕ → DiskOutcome
 restartOf disk memory tail allowed = cond (lengthsOk disk memory tail) (ofMeaning (examineOf disk) disk allowed) (refusedWith 1 disk memory tail)
+
+-- ---- why the log ended where it did (document 02, A.1)
+
+-- as it was before step 6: by what is left of the log from the end found on
+unfoldable pub stopFound : List ℕ → Stop
+stopFound disk = stopOf (logFrom (examineOf disk .result .end) disk)
+
+-- "a restart that is done" carries it up
+abbrev pub toldStop : Word → Stop → Stopped
+toldStop done stop = At stop
+toldStop cut stop = Untold
+toldStop (refused n) stop = Untold
+
+unfoldable pub stoppedOf : List ℕ → List ℕ → List ℕ → ℕ → Stopped
+stoppedOf disk memory tail allowed = toldStop (restartOf disk memory tail allowed .result .says) (stopFound disk)

@@ -6,13 +6,16 @@ use mathlib.Core.List.{List}
 use mathlib.Core.Path.{_≡_, refl, ap}
 use lib.ListN.{length}
 use lib.Dec.{eqb, ltb}
+use Rattle.log.specs.declared.stop.Stop.the-variants.{Full, Zero, Torn}
 use Rattle.store.specs.Answer.{Word, done, cut, refused, Told, tells}
 use Rattle.store.specs.Stored.{DiskOutcome, cutShort, madeWhole, carriedOut}
+use Rattle.disk.specs.declared.call.Stopped.{Stopped}
+use Rattle.disk.specs.declared.call.Stopped.the-variants.{Untold, At}
 use Rattle.disk.specs.Layout.{lengthsOk}
 use Rattle.disk.specs.Examine.{examineOf}
 use Rattle.disk.specs.Restart.{restartPlan, refusedWith, ofMeaning, restartOf}
 use Rattle.disk.proofs.Examining.{roomy}
-use Rattle.embed.specs.Reply.{answerOf, numberOf, replyOf, wordOf, ofReply}
+use Rattle.embed.specs.Reply.{answerOf, numberOf, restartReply, wordOf, ofReply, stoppedBy}
 
 word-back : (w : Word) → wordOf (answerOf w) (numberOf w) ≡ w
 word-back done = refl
@@ -20,8 +23,14 @@ word-back cut = refl
 word-back (refused n) = refl
 
 -- nothing that a call tells is lost in a reply
-pub told-back : (t : Told) → ofReply (replyOf t) ≡ t
-told-back t = ap (λ (w : Word). tells w (t .value) (t .stores) (t .state)) (word-back (t .says))
+pub told-back : (t : Told) (stopped : Stopped) → ofReply (restartReply t stopped) ≡ t
+told-back t stopped = ap (λ (w : Word). tells w (t .value) (t .stores) (t .state)) (word-back (t .says))
+
+pub stop-back : (t : Told) (stopped : Stopped) → stoppedBy (restartReply t stopped .stop) ≡ stopped
+stop-back t Untold = refl
+stop-back t (At Full) = refl
+stop-back t (At Zero) = refl
+stop-back t (At Torn) = refl
 
 -- ---- restart's count of transactions undone fits its field
 

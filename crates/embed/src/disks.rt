@@ -1,18 +1,19 @@
 // Calls that a disk is lent to.
 use crate::Reply;
 use crate::answered;
-use crate::sizes::TEXT_LEN;
+use crate::stop_number;
 use disk::call::restart;
 use disk::equal::equal;
+use listing::TEXT_LEN;
 use listing::list;
 use store::State;
 ghost use mathlib.Core.Path.{_≡_};
 ghost use Rattle.store.specs.Flush.{flushOf};
 ghost use Rattle.store.specs.Checkpoint.{checkpointOf};
-ghost use Rattle.disk.specs.Restart.{restartOf};
+ghost use Rattle.disk.specs.Restart.{restartOf, stoppedOf};
 ghost use Rattle.disk.specs.Equal.{equalOf};
 ghost use Rattle.listing.specs.Listing.{restartWhole, listingOf, Printed};
-ghost use Rattle.embed.specs.Reply.{replyOf};
+ghost use Rattle.embed.specs.Reply.{replyOf, restartReply};
 
 #[no_mangle]
 pub extern "C" fn luppaneth_flush(
@@ -60,15 +61,18 @@ pub extern "C" fn luppaneth_restart(
     tail: &mut [u8],
     allowed: usize,
 ) -> Reply
-    ensures { λ r. ⌜ r ≡ replyOf (restartOf (now (disk .entry)) (now (memory .entry)) (now (tail .entry)) allowed .result) ⌝ }
+    ensures { λ r. ⌜ r ≡ restartReply (restartOf (now (disk .entry)) (now (memory .entry)) (now (tail .entry)) allowed .result) (stoppedOf (now (disk .entry)) (now (memory .entry)) (now (tail .entry)) allowed) ⌝ }
     ensures { λ _. ⌜ now (disk .exit) ≡ restartOf (now (disk .entry)) (now (memory .entry)) (now (tail .entry)) allowed .disk ⌝ }
     ensures { λ _. ⌜ now (memory .exit) ≡ restartOf (now (disk .entry)) (now (memory .entry)) (now (tail .entry)) allowed .memory ⌝ }
     ensures { λ _. ⌜ now (tail .exit) ≡ restartOf (now (disk .entry)) (now (memory .entry)) (now (tail .entry)) allowed .tail ⌝ }
 {
     let r = restart(disk, memory, tail, allowed);
     let answer = r.answer;
+    let stopped = r.stop;
     let s = r.state;
-    answered(answer, r.undone as u32, r.stores, s)
+    let mut reply = answered(answer, r.undone as u32, r.stores, s);
+    reply.stop = stop_number(stopped);
+    reply
 }
 
 #[no_mangle]

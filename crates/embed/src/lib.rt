@@ -4,19 +4,23 @@ mod disks;
 mod memory;
 mod sizes;
 
+use disk::call::Stopped;
+use log::stop::Stop;
 use store::Answer;
 use store::State;
 ghost use mathlib.Core.Path.{_≡_};
 ghost use Rattle.store.specs.State.{unrecovered};
 ghost use Rattle.store.specs.Answer.{word, tells};
-ghost use Rattle.embed.specs.Reply.{answerOf, numberOf, replyOf};
+ghost use Rattle.embed.specs.Reply.{answerOf, numberOf, replyOf, stopNumber};
 
 // answer: 0 done, 1 cut, 2 refused. number: document 01's where refused, else 0. value: begin's id, precommit's commit number, restart's count
-// of transactions undone, else 0. stores: those made, where the call stores on the disk, else 0.
+// of transactions undone, else 0. stores: those made, where the call stores on the disk, else 0. stop: of a restart that is done why the log
+// ended, 1 full, 2 zero, 3 torn; else 0.
 #[repr(C)]
 pub struct Reply {
     pub answer: u8,
     pub number: u8,
+    pub stop: u8,
     pub value: u32,
     pub stores: usize,
     pub state: State,
@@ -42,9 +46,23 @@ pub(crate) fn answered(answer: Answer, value: u32, stores: usize, state: State) 
     Reply {
         answer: n.0,
         number: n.1,
+        stop: 0,
         value: value,
         stores: stores,
         state: state,
+    }
+}
+
+pub(crate) fn stop_number(stopped: Stopped) -> u8
+    ensures { λ r. ⌜ r ≡ stopNumber stopped ⌝ }
+{
+    let Stopped::At(stop) = stopped else {
+        return 0;
+    };
+    match stop {
+        Stop::Full => 1,
+        Stop::Zero => 2,
+        Stop::Torn => 3,
     }
 }
 

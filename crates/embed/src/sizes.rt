@@ -2,11 +2,10 @@
 use layout::DISK_LEN;
 use layout::MEMORY_LEN;
 use layout::TAIL_LEN;
+use listing::TEXT_LEN;
 ghost use mathlib.Core.Path.{_≡_};
 ghost use Rattle.layout.specs.{memoryLen, tailLen, diskLen};
-
-// Bytes of a listing.
-pub(crate) const TEXT_LEN: usize = 64;
+ghost use Rattle.listing.specs.Listing.{textLen};
 
 #[no_mangle]
 pub extern "C" fn luppaneth_disk_len() -> usize
@@ -31,7 +30,7 @@ pub extern "C" fn luppaneth_tail_len() -> usize
 
 #[no_mangle]
 pub extern "C" fn luppaneth_text_len() -> usize
-    ensures { λ r. ⌜ r ≡ 64 ⌝ }
+    ensures { λ r. ⌜ r ≡ textLen ⌝ }
 {
     TEXT_LEN
 }

@@ -10,6 +10,7 @@ use Rattle.log.specs.Record.{readRecord, readRedo, readCommit, readAbort}
 use Rattle.log.specs.Reader.{run, whole as all}
 use Rattle.log.specs.Group.{readBody, readGroup}
 use Rattle.log.specs.Log.{readLog}
+use Rattle.log.specs.Stop.{stopOf}
 use Rattle.transaction.specs.Flat.{emptyRecords, emptyTx}
 use Rattle.transaction.specs.Rules.{headOk, stateOk, heldAgainst}
 use Rattle.transaction.specs.Steps.{pushed, freshTx, written, precommitted}
@@ -25,9 +26,9 @@ use Rattle.store.specs.Stored.{carriedOut}
 use Rattle.store.specs.Steps.{begunState, writtenState, precommittedState, without, droppedState}
 use Rattle.disk.specs.Open.{loadOf, notOpened, openOf}
 use Rattle.disk.specs.Examine.{refusedBy, stepsOf, examineOf}
-use Rattle.disk.specs.Restart.{recoveredState, restartOf}
+use Rattle.disk.specs.Restart.{recoveredState, restartOf, stopFound, stoppedOf}
 use Rattle.text.specs.{decimal}
-use Rattle.listing.specs.Lines.{line, foundText}
+use Rattle.listing.specs.Lines.{line, foundText, stopLine}
 use Rattle.listing.specs.Listing.{listingOf}
 use Rattle.history.specs.Calls.{World, freshWorld, runOf}
 use Rattle.history.specs.Cases.{Shown, Row, rows, showing, shown, Worked}
@@ -48,7 +49,7 @@ computed : map quickShown rows ≡ map (λ r. some (r .expected)) rows
 unfolding undoOrder readRecord readRedo readCommit readAbort run all readBody readGroup readLog emptyRecords emptyTx headOk stateOk heldAgainst pushed freshTx
     written precommitted loaded packedTxs packed emptyImage undoHere readTx readContent memoryOf past forwardOf isRunning isLost runningOf lostOf
     recoverOf unrecovered unfit begunState writtenState precommittedState without droppedState loadOf notOpened openOf refusedBy stepsOf examineOf recoveredState
-    restartOf carriedOut decimal line foundText listingOf
+    restartOf carriedOut stopOf stopFound stoppedOf decimal line foundText stopLine listingOf
 computed = refl
 
 -- what is computed is what the definitions show

@@ -1,9 +1,11 @@
 -- Document 01, "Worked at the bench": M1 to M10 and disklist's text as one table over the definitions that the contracts cite. That each row
 -- holds is `worked` (proofs/Cases.antt), one proof over the table, by computation.
-use Prim.Native.Nat.{ℕ, zero, suc}
+use Prim.Native.Nat.{ℕ, zero, suc, _/_, _%_}
 use mathlib.Core.List.{List, [], _∷_, _++_, map, reverse}
 use mathlib.Core.Path.{_≡_}
 use lib.ListN.{getD, take, replicate}
+use lib.Seq.{sets}
+use Rattle.layout.specs.{logStart}
 use Rattle.recovery.specs.Transaction.{Tx}
 use Rattle.recovery.specs.Replay.{undoAll, undoEach, layBytes}
 use Rattle.recovery.specs.Restart.{undoOf, undoOrder}
@@ -52,6 +54,14 @@ tailFront n w = take n (w .tail)
 abbrev pub listing : World → List ℕ
 listing w = listingOf (w .disk)
 
+-- and of the disk with bytes laid over it at two places
+abbrev pub listingOver : ℕ → List ℕ → ℕ → List ℕ → World → List ℕ
+listingOver i xs j ys w = listingOf (sets (sets (w .disk) i xs) j ys)
+
+-- and of the disk with another log
+abbrev pub listingWith : List ℕ → World → List ℕ
+listingWith log w = listingOf (take logStart (w .disk) ++ log)
+
 -- one place to look and then another
 abbrev pub both : (World → List ℕ) → (World → List ℕ) → World → List ℕ
 both f g w = f w ++ g w
@@ -94,11 +104,20 @@ roundReplies (suc n) i = told done i 0 ∷ told done i 0 ∷ told done 0 8 ∷ j
 abbrev pub filling : ℕ
 filling = 2048
 
+-- the bytes of their commit records: the log that the rounds leave
+abbrev pub commitsFrom : ℕ → ℕ → List ℕ
+commitsFrom zero i = []
+commitsFrom (suc n) i = 0x02 ∷ i / 256 ∷ i % 256 ∷ 0 ∷ 0 ∷ i / 256 ∷ i % 256 ∷ 0x02 ∷ commitsFrom n (suc i)
+
 abbrev pub m1 : ℕ → List Call
 m1 allowed = restart 16384 ∷ begin ∷ write 1 10 (0x41 ∷ 0x42 ∷ []) ∷ precommit 1 ∷ flush 1 allowed ∷ []
 
 abbrev pub m1Replies : List Reply
 m1Replies = opened ∷ told done 1 0 ∷ justDone ∷ told done 1 0 ∷ []
+
+-- a whole redo record of id 1, alone
+abbrev pub loneRedo : List ℕ
+loneRedo = 0x01 ∷ 0x00 ∷ 0x01 ∷ 0x00 ∷ 0x0A ∷ 0x01 ∷ 0x05 ∷ 0x01 ∷ []
 
 abbrev pub rows : List Row
 rows =
@@ -116,7 +135,7 @@ rows =
     ∷ record {
       calls = m1 17;
       look = listing;
-      expected = record { replies = m1Replies ++ (told done 0 17 ∷ []); seen = ascii "pointer=0\nend=17\ncsn=1\nid=1\nundone=0\n" };
+      expected = record { replies = m1Replies ++ (told done 0 17 ∷ []); seen = ascii "pointer=0\nend=17\ncsn=1\nid=1\nundone=0\nstop=zero\n" };
     }
     -- M1: "With 16, restart finds end 0"
     ∷ record {
@@ -202,6 +221,29 @@ rows =
     }
     -- M10: 4,110 stores
     ∷ record { calls = restart 16384 ∷ checkpoint 5000 ∷ []; look = nowhere; expected = record { replies = opened ∷ told done 0 4110 ∷ []; seen = [] } }
+    -- document 02, A.1. M1 with 16 stores: torn
+    ∷ record {
+      calls = m1 16;
+      look = listing;
+      expected = record { replies = m1Replies ++ (told cut 0 16 ∷ []); seen = ascii "pointer=0\nend=0\ncsn=0\nid=0\nundone=0\nstop=torn\n" };
+    }
+    -- M8's log: full
+    ∷ record {
+      calls = [];
+      look = listingWith (commitsFrom filling 1);
+      expected = record { replies = []; seen = ascii "pointer=0\nend=16384\ncsn=2048\nid=2048\nundone=0\nstop=full\n" };
+    }
+    -- a whole redo record without its commit, before zeros, and where it ends with the log: torn
+    ∷ record {
+      calls = [];
+      look = listingOver 0 (0 ∷ []) 17307 loneRedo;
+      expected = record { replies = []; seen = ascii "pointer=0\nend=0\ncsn=0\nid=0\nundone=0\nstop=torn\n" };
+    }
+    ∷ record {
+      calls = [];
+      look = listingOver 0 (1 ∷ 0x3F ∷ 0xF8 ∷ []) 33683 loneRedo;
+      expected = record { replies = []; seen = ascii "pointer=1\nend=16376\ncsn=0\nid=0\nundone=0\nstop=torn\n" };
+    }
     ∷ []
 
 -- ---- what the definitions show

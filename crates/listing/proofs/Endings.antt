@@ -2,7 +2,7 @@
 use Prim.Native.Nat.{ℕ, _<_, _≤_}
 use native.Mathlib.Omega.{arith}
 use mathlib.Core.Bool.{Bool, true, false}
-use mathlib.Core.List.{List, [], _∷_}
+use mathlib.Core.List.{List, [], _∷_, _++_}
 use mathlib.Core.Logic.{⊎-elim}
 use mathlib.Core.Path.{_≡_, refl, sym, ap, _∙_, subst}
 use lib.ListN.{length, take, replicate, length-replicate, length-take}
@@ -24,8 +24,8 @@ use Rattle.disk.specs.Examine.{examineOf}
 use Rattle.disk.specs.Restart.{ofRestarted, refusedRestart, restartOf}
 use Rattle.disk.proofs.Examining.{roomy}
 use Rattle.disk.proofs.Restarting.{doneFrom, restart-1, restart-refused, restart-done}
-use Rattle.listing.specs.Lines.{foundText, refusedText}
-use Rattle.listing.specs.Listing.{restartWhole, listingOf, Printed}
+use Rattle.listing.specs.Lines.{foundText, stopLine, refusedText}
+use Rattle.listing.specs.Listing.{restartWhole, stoppedWhole, listingOf, Printed}
 
 pub data Ending (disk : List ℕ) : Type 0 where
   refused : (n : ℕ) → restartWhole disk .result ≡ refusedRestart n → Ending disk
@@ -83,17 +83,17 @@ refused-tag n (Refused m) e k = other k
     other : OneOf (0 ∷ 1 ∷ []) 2 → ⊥
     other = ⊎-elim (λ z. omega arith) (λ z. omega arith)
 
-module _ (disk : List ℕ) (r : Restarted) (e : ofRestarted r ≡ restartWhole disk .result) where
+module _ (disk : List ℕ) (r : Restarted) (e : ofRestarted r ≡ restartWhole disk .result) (s : r .stop ≡ stoppedWhole disk) where
   pub listing-refused : (n : ℕ) → r .answer ≡ Refused n → listingOf disk ≡ refusedText n
   unfolding listingOf
   listing-refused n a = rw (← e, a)
 
   abbrev Found : ℕ → Type 0
-  Found pointer = listingOf disk ≡ foundText pointer (r .state .logend) (r .state .ondisk .0) (r .state .lastid .0) (r .undone)
+  Found pointer = listingOf disk ≡ foundText pointer (r .state .logend) (r .state .ondisk .0) (r .state .lastid .0) (r .undone) ++ stopLine (r .stop)
 
   listing-done : (pointer : ℕ) → pointer ≡ pointerOf disk → word (r .answer) ≡ words.done → Found pointer
   unfolding listingOf
-  listing-done pointer p a = rw (← e, a, p)
+  listing-done pointer p a = rw (← e, ← s, a, p)
 
   pub listing-found : (pointer : ℕ) → pointer ≡ pointerOf disk → OneOf (0 ∷ 1 ∷ []) (tagOf the-type (r .answer)) → Found pointer
   listing-found pointer p k = go (ending disk)

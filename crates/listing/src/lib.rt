@@ -3,6 +3,7 @@ mod lines;
 
 use crate::lines::put_found;
 use crate::lines::put_line;
+use crate::lines::put_stop;
 use disk::call::restart;
 use layout::DISK_LEN;
 use layout::LOG_LEN;
@@ -16,6 +17,9 @@ ghost use lib.ListN.{take, drop};
 ghost use Rattle.layout.specs.Parts.{pointerOf};
 ghost use Rattle.listing.specs.Listing.{restartWhole, listingOf, Printed, PrintedWhole};
 
+// Bytes of a text: the longest has 68.
+pub const TEXT_LEN: usize = 80;
+
 // 0 of no bytes at all, which restart refuses.
 fn pointer_of(disk: &[u8]) -> u8
     ensures { λ r. ⌜ r ≡ pointerOf (now (disk .entry)) ⌝ }
@@ -27,7 +31,7 @@ fn pointer_of(disk: &[u8]) -> u8
 }
 
 // Runs restart on the copy that is lent, with stores enough. The text goes to the front of out, zeros after it; its length is returned.
-pub fn list(disk: &mut [u8], out: &mut [u8; 64]) -> usize
+pub fn list(disk: &mut [u8], out: &mut [u8; TEXT_LEN]) -> usize
     ensures { λ r. ⌜ Printed (listingOf (now (disk .entry))) r (now (out .exit)) ⌝ }
     ensures { λ _. ⌜ now (disk .exit) ≡ restartWhole (now (disk .entry)) .disk ⌝ }
 {
@@ -41,11 +45,13 @@ pub fn list(disk: &mut [u8], out: &mut [u8; 64]) -> usize
         return put_line(out, 0, b"refused=", number as u32);
     }
     let state = found.state;
-    put_found(out, pointer, state, found.undone)
+    let stopped = found.stop;
+    let at = put_found(out, pointer, state, found.undone);
+    put_stop(out, at, stopped)
 }
 
 // The text of the first count bytes, or of all if there are fewer.
-fn list_front(buffer: &mut [u8], count: usize, out: &mut [u8; 64]) -> usize
+fn list_front(buffer: &mut [u8], count: usize, out: &mut [u8; TEXT_LEN]) -> usize
     ensures { λ r. ⌜ Printed (listingOf (take count (now (buffer .entry)))) r (now (out .exit)) ⌝ }
     ensures { λ _. ⌜ now (buffer .exit) ≡ restartWhole (take count (now (buffer .entry))) .disk ++ drop count (now (buffer .entry)) ⌝ }
 {
@@ -59,7 +65,7 @@ fn list_front(buffer: &mut [u8], count: usize, out: &mut [u8; 64]) -> usize
 pub const INPUT_LEN: usize = DISK_LEN + 1;
 
 // The text of a whole input, of which count bytes were read into the front of the buffer.
-pub fn list_input(buffer: &mut [u8; INPUT_LEN], count: usize, out: &mut [u8; 64]) -> usize
+pub fn list_input(buffer: &mut [u8; INPUT_LEN], count: usize, out: &mut [u8; TEXT_LEN]) -> usize
     ensures { λ r. ⌜ PrintedWhole (now (buffer .entry)) count r (now (out .exit)) ⌝ }
     ensures { λ r. ⌜ Printed (listingOf (take count (now (buffer .entry)))) r (now (out .exit)) ⌝ }
     ensures { λ _. ⌜ now (buffer .exit) ≡ restartWhole (take count (now (buffer .entry))) .disk ++ drop count (now (buffer .entry)) ⌝ }

@@ -1,6 +1,6 @@
 -- Laws of `readBody` and `readGroup`: a record at a time, what was read taken apart (-inv) and put together (-intro), and that it lies
 -- within the list.
-use Prim.Native.Nat.{ℕ, _+_, _-_, _≤_}
+use Prim.Native.Nat.{ℕ, zero, suc, _+_, _-_, _≤_, _<_}
 use native.Mathlib.Omega.{arith}
 use mathlib.Core.Bool.{Bool, true, false, cond, _&&_}
 use mathlib.Core.List.{List, [], _∷_}
@@ -14,11 +14,15 @@ use Rattle.recovery.specs.Group.{Write, Group, committed, aborted, redoSize, gr
 use Rattle.log.specs.Number.{be16}
 use Rattle.log.specs.Record.{Record, redo, commit, abort, readRecord}
 use Rattle.log.specs.Group.{groupBy, turnOf, more, last, stop, andThen, onTurn, bodyStep, readBody, committedIf, readGroup, endOf}
+use Rattle.log.specs.Stop.{stopOf}
 use Rattle.log.specs.declared.group.GroupEnd.{GroupEnd}
 use Rattle.log.specs.declared.group.GroupEnd.the-variants.{Aborted, Committed, NoGroup}
+use Rattle.log.specs.declared.stop.Stop.{Stop}
+use Rattle.log.specs.declared.stop.Stop.the-variants.{Torn}
 use Rattle.log.proofs.Basics.{clash, and-left, and-right, Turned}
 use Rattle.log.proofs.Reader.{Shrinks, step}
 use Rattle.log.proofs.RecordLaws.{record-front, record-within}
+use Rattle.log.proofs.StopLaws.{record-torn}
 
 body-shrinks : (prev : ℕ) → Shrinks (bodyStep prev)
 body-shrinks prev k l id s h = go (readRecord s) refl
@@ -44,37 +48,61 @@ body-step prev id s = step (bodyStep prev) none (body-shrinks prev) id s
 -- ---- what the code answers of a body, by its first record
 
 -- of a group that starts at a place
-abbrev endFrom : ℕ → Option Group → GroupEnd
-endFrom at none = NoGroup
-endFrom at (some (committed id csn ws)) = Committed (record { 0 = id }) (record { 0 = csn }) (at + (redoSize ws + 8))
-endFrom at (some (aborted id)) = Aborted (record { 0 = id }) (at + 4)
+abbrev endFrom : Stop → ℕ → Option Group → GroupEnd
+endFrom why at none = NoGroup why
+endFrom why at (some (committed id csn ws)) = Committed (record { 0 = id }) (record { 0 = csn }) (at + (redoSize ws + 8))
+endFrom why at (some (aborted id)) = Aborted (record { 0 = id }) (at + 4)
 
-pub body-start : (x : Option Group) → endOf x ≡ endFrom 0 x
-body-start none = refl
-body-start (some (committed id csn ws)) = ap (λ (k : ℕ). Committed (record { 0 = id }) (record { 0 = csn }) k) (omega arith)
-body-start (some (aborted id)) = refl
+-- why none goes on at a place of a group, with t left there: at its front t decides; after whole records it is torn, whatever follows
+unfoldable pub stopFrom : ℕ → List ℕ → Stop
+stopFrom zero t = stopOf t
+stopFrom (suc at) t = Torn
+
+pub stop-front : (at : ℕ) (t : List ℕ) → at ≡ 0 → stopFrom at t ≡ stopOf t
+unfolding stopFrom
+stop-front at t e = ap (λ (i : ℕ). stopFrom i t) e
+
+pub stop-inside : (at : ℕ) (t : List ℕ) → 0 < at → stopFrom at t ≡ Torn
+unfolding stopFrom
+stop-inside zero t h = absurd (omega arith)
+stop-inside (suc at) t h = refl
+
+stop-record : (at : ℕ) (t : List ℕ) (r : Record) → readRecord t ≡ some r → stopFrom at t ≡ Torn
+unfolding stopFrom
+stop-record zero t r e = record-torn t r e
+stop-record (suc at) t r e = refl
+
+pub body-start : (t : List ℕ) (x : Option Group) → endOf (stopOf t) x ≡ endFrom (stopFrom 0 t) 0 x
+unfolding stopFrom
+body-start t none = refl
+body-start t (some (committed id csn ws)) = ap (λ (k : ℕ). Committed (record { 0 = id }) (record { 0 = csn }) k) (omega arith)
+body-start t (some (aborted id)) = refl
 
 abbrev pub bodyEnd : ℕ → ℕ → ℕ → List ℕ → GroupEnd
-bodyEnd prev id at t = endFrom at (committedIf id (prev + 1) (readBody prev id t))
+bodyEnd prev id at t = endFrom (stopFrom at t) at (committedIf id (prev + 1) (readBody prev id t))
 
 module _ (prev id at : ℕ) (t : List ℕ) where
-  body-stop : turnOf prev id (readRecord t) ≡ stop → bodyEnd prev id at t ≡ NoGroup
+  body-stop : turnOf prev id (readRecord t) ≡ stop → bodyEnd prev id at t ≡ NoGroup (stopFrom at t)
   body-stop e = rw (body-step, e)
 
-  pub body-none : readRecord t ≡ none → bodyEnd prev id at t ≡ NoGroup
+  pub body-none : readRecord t ≡ none → bodyEnd prev id at t ≡ NoGroup (stopFrom at t)
   body-none e = body-stop (ap (turnOf prev id) e)
 
-  pub body-abort : (i : ℕ) → readRecord t ≡ some (abort i) → bodyEnd prev id at t ≡ NoGroup
-  body-abort i e = body-stop (ap (turnOf prev id) e)
+  -- a record that is none of the group's own
+  body-other : (r : Record) → readRecord t ≡ some r → turnOf prev id (some r) ≡ stop → bodyEnd prev id at t ≡ NoGroup Torn
+  body-other r e h = body-stop (ap (turnOf prev id) e ∙ h) ∙ ap NoGroup (stop-record at t r e)
 
-  pub body-other-redo : (i : ℕ) (w : Write) → readRecord t ≡ some (redo i w) → (i ≡ id → ⊥) → bodyEnd prev id at t ≡ NoGroup
-  body-other-redo i w e h = body-stop (rw e (simp (ne-eqb i id h)))
+  pub body-abort : (i : ℕ) → readRecord t ≡ some (abort i) → bodyEnd prev id at t ≡ NoGroup Torn
+  body-abort i e = body-other (abort i) e refl
 
-  pub body-other-commit : (i n : ℕ) → readRecord t ≡ some (commit i n) → (i ≡ id → ⊥) → bodyEnd prev id at t ≡ NoGroup
-  body-other-commit i n e h = body-stop (rw e (simp (ne-eqb i id h)))
+  pub body-other-redo : (i : ℕ) (w : Write) → readRecord t ≡ some (redo i w) → (i ≡ id → ⊥) → bodyEnd prev id at t ≡ NoGroup Torn
+  body-other-redo i w e h = body-other (redo i w) e (simp (ne-eqb i id h))
 
-  pub body-other-csn : (i n : ℕ) → readRecord t ≡ some (commit i n) → i ≡ id → (n ≡ prev + 1 → ⊥) → bodyEnd prev id at t ≡ NoGroup
-  body-other-csn i n e p h = body-stop (rw e (simp (eq-eqb i id p, ne-eqb n (prev + 1) h)))
+  pub body-other-commit : (i n : ℕ) → readRecord t ≡ some (commit i n) → (i ≡ id → ⊥) → bodyEnd prev id at t ≡ NoGroup Torn
+  body-other-commit i n e h = body-other (commit i n) e (simp (ne-eqb i id h))
+
+  pub body-other-csn : (i n : ℕ) → readRecord t ≡ some (commit i n) → i ≡ id → (n ≡ prev + 1 → ⊥) → bodyEnd prev id at t ≡ NoGroup Torn
+  body-other-csn i n e p h = body-other (commit i n) e (simp (eq-eqb i id p, ne-eqb n (prev + 1) h))
 
   pub body-last : (i n : ℕ) → readRecord t ≡ some (commit i n) → i ≡ id → n ≡ prev + 1
       → bodyEnd prev id at t ≡ Committed (record { 0 = id }) (record { 0 = n }) (at + 8)
@@ -84,9 +112,13 @@ module _ (prev id at : ℕ) (t : List ℕ) where
       → bodyEnd prev id at t ≡ bodyEnd prev id (at + (7 + length (w .bytes))) (drop (7 + length (w .bytes)) t)
   body-more w e = rw (body-step prev id t, e) (simp (eq-eqb id id refl) (go (readBody prev id (drop (7 + length (w .bytes)) t))))
     where
+      next : ℕ
+      next = at + (7 + length (w .bytes))
+
       go : (x : Option (List Write))
-          → endFrom at (committedIf id (prev + 1) (andThen w x)) ≡ endFrom (at + (7 + length (w .bytes))) (committedIf id (prev + 1) x)
-      go none = refl
+          → endFrom (stopFrom at t) at (committedIf id (prev + 1) (andThen w x))
+          ≡ endFrom (stopFrom next (drop (7 + length (w .bytes)) t)) next (committedIf id (prev + 1) x)
+      go none = ap NoGroup (stop-record at t (redo id w) e ∙ sym (stop-inside next (drop (7 + length (w .bytes)) t) (omega arith)))
       go (some ws) = ap (λ (k : ℕ). Committed (record { 0 = id }) (record { 0 = prev + 1 }) k) (omega arith)
 
 -- over a redo record, at a place of a list

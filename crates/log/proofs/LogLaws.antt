@@ -8,8 +8,8 @@ use lib.ListN.{length, take, drop, length-drop}
 use lib.Seq.{drop-drop, take-all, take-nil}
 use Rattle.recovery.specs.Group.{Group, committed, aborted, groupSize, groupsSize, csnAfter, lastCsn}
 use Rattle.log.specs.Group.{readGroup}
-use Rattle.log.specs.Log.{onGroup, logStep, readLog, logEndOf}
-use Rattle.log.specs.declared.scan.LogEnd.{LogEnd}
+use Rattle.log.specs.Log.{onGroup, logStep, readLog, reachedOf}
+use Rattle.log.specs.declared.scan.Reached.{Reached}
 use Rattle.log.proofs.Basics.{clash, Turned}
 use Rattle.log.proofs.Reader.{Shrinks, step}
 use Rattle.log.proofs.GroupLaws.{group-within}
@@ -35,13 +35,13 @@ log-more prev s g e = log-step prev s ∙ ap (onGroup readLog prev s) e
 
 -- ---- what the code answers of the first m groups of a log, at a place of a list
 
-abbrev endFrom : ℕ → ℕ → List Group → LogEnd
+abbrev endFrom : ℕ → ℕ → List Group → Reached
 endFrom at prev gs = record { end = at + groupsSize gs; csn = record { 0 = lastCsn prev gs } }
 
-pub first-start : (prev : ℕ) (gs : List Group) → logEndOf prev gs ≡ endFrom 0 prev gs
+pub first-start : (prev : ℕ) (gs : List Group) → reachedOf prev gs ≡ endFrom 0 prev gs
 first-start prev gs = ap (λ (k : ℕ). record { end = k; csn = record { 0 = lastCsn prev gs } }) (omega arith)
 
-abbrev pub firstEnd : ℕ → ℕ → ℕ → List ℕ → LogEnd
+abbrev pub firstEnd : ℕ → ℕ → ℕ → List ℕ → Reached
 firstEnd at prev m s = endFrom at prev (take m (readLog prev s))
 
 first-nil : (at prev : ℕ) → endFrom at prev [] ≡ record { end = at; csn = record { 0 = prev } }

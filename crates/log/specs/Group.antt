@@ -10,6 +10,7 @@ use Rattle.log.specs.Record.{Record, redo, commit, abort, encode, size, 
 use Rattle.log.specs.Reader.{whole}
 use Rattle.log.specs.declared.group.GroupEnd.{GroupEnd}
 use Rattle.log.specs.declared.group.GroupEnd.the-variants.{Aborted, Committed, NoGroup}
+use Rattle.log.specs.declared.stop.Stop.{Stop}
 
 -- the redo records of these writes, and the commit
 abbrev pub encodeBody : ℕ → ℕ → List Write → List ℕ
@@ -71,8 +72,8 @@ groupBy prev s (some (abort id)) = some (aborted id)
 unfoldable pub readGroup : ℕ → List ℕ → Option Group
 readGroup prev s = groupBy prev s (readRecord s)
 
--- what the code answers of a group: its id, its commit number and where it ends
-abbrev pub endOf : Option Group → GroupEnd
-endOf none = NoGroup
-endOf (some (committed id csn ws)) = Committed (record { 0 = id }) (record { 0 = csn }) (groupSize (committed id csn ws))
-endOf (some (aborted id)) = Aborted (record { 0 = id }) (groupSize (aborted id))
+-- what the code answers of a group: its id, its commit number and where it ends; of none, why none stands there
+abbrev pub endOf : Stop → Option Group → GroupEnd
+endOf why none = NoGroup why
+endOf why (some (committed id csn ws)) = Committed (record { 0 = id }) (record { 0 = csn }) (groupSize (committed id csn ws))
+endOf why (some (aborted id)) = Aborted (record { 0 = id }) (groupSize (aborted id))

@@ -1,6 +1,7 @@
 -- The log's format (document 01, "Log records"), and stores in order. `Reader` is the recursion that the readers of lists share.
 pub mod Number
 pub mod Reader
+pub mod Stop
 pub mod Record
 pub mod Group
 pub mod Log

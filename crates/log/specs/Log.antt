@@ -7,7 +7,10 @@ use lib.ListN.{drop}
 use Rattle.recovery.specs.Group.{Group, groupSize, groupsSize, csnAfter, lastCsn}
 use Rattle.log.specs.Group.{encodeGroup, wellFormedGroup, readGroup}
 use Rattle.log.specs.Reader.{whole}
+use Rattle.log.specs.Stop.{stopOf}
 use Rattle.log.specs.declared.scan.LogEnd.{LogEnd}
+use Rattle.log.specs.declared.scan.Reached.{Reached}
+use Rattle.log.specs.declared.stop.Stop.{Stop}
 
 abbrev pub onGroup : (ℕ → List ℕ → List Group) → ℕ → List ℕ → Option Group → List Group
 onGroup rest prev s none = []
@@ -20,9 +23,17 @@ logStep rest prev s = onGroup rest prev s (readGroup prev s)
 unfoldable pub readLog : ℕ → List ℕ → List Group
 readLog prev s = whole logStep [] prev s
 
--- what the code answers of a log's groups after a commit number: where they end, and the last commit number
-abbrev pub logEndOf : ℕ → List Group → LogEnd
-logEndOf prev gs = record { end = groupsSize gs; csn = record { 0 = lastCsn prev gs } }
+-- why it ends where it does
+unfoldable pub logStop : ℕ → List ℕ → Stop
+logStop prev s = stopOf (drop (groupsSize (readLog prev s)) s)
+
+-- what the code answers of the first groups of a log after a commit number: where they end, and the last commit number
+abbrev pub reachedOf : ℕ → List Group → Reached
+reachedOf prev gs = record { end = groupsSize gs; csn = record { 0 = lastCsn prev gs } }
+
+-- and of the whole log: the same of all its groups, and why it ends there
+abbrev pub logEndOf : ℕ → List ℕ → LogEnd
+logEndOf prev s = record { end = groupsSize (readLog prev s); csn = record { 0 = lastCsn prev (readLog prev s) }; stop = logStop prev s }
 
 -- groups one after the other
 abbrev pub encodeLog : List Group → List ℕ

@@ -10,6 +10,7 @@ use Rattle.recovery.specs.Group.{Write}
 use Rattle.log.specs.Number.{be16, be32, bytes16, bytes32}
 use Rattle.log.specs.declared.record.Head.{Head}
 use Rattle.log.specs.declared.record.Head.the-variants.{Redo, Commit, Abort, Nothing}
+use Rattle.log.specs.declared.stop.Stop.{Stop}
 
 -- redo: id, address and new bytes; commit: id, commit number; abort: id
 pub data Record : Type 0 where
@@ -65,9 +66,9 @@ readKind kind id s =
 unfoldable pub readRecord : List ℕ → Option Record
 readRecord s = cond (eqb (be16 s 1) 0) none (readKind (getD s 0 0) (be16 s 1) s)
 
--- what the code answers of a record: its numbers, and of a redo how many bytes it has
-abbrev pub headOf : Option Record → Head
-headOf none = Nothing
-headOf (some (redo id w)) = Redo (record { 0 = id }) (w .addr) (length (w .bytes))
-headOf (some (commit id csn)) = Commit (record { 0 = id }) (record { 0 = csn })
-headOf (some (abort id)) = Abort (record { 0 = id })
+-- what the code answers of a record: its numbers, and of a redo how many bytes it has; of none, why none stands there
+abbrev pub headOf : Stop → Option Record → Head
+headOf why none = Nothing why
+headOf why (some (redo id w)) = Redo (record { 0 = id }) (w .addr) (length (w .bytes))
+headOf why (some (commit id csn)) = Commit (record { 0 = id }) (record { 0 = csn })
+headOf why (some (abort id)) = Abort (record { 0 = id })

@@ -6,6 +6,8 @@ use crate::record::Head;
 use crate::record::put_commit;
 use crate::record::put_redo;
 use crate::record::read_record;
+use crate::stop::Stop;
+use crate::stop::stop_of;
 use layout::ABORT;
 use layout::ABORT_LEN;
 use layout::COMMIT_LEN;
@@ -18,18 +20,19 @@ ghost use lib.Seq.{sets};
 ghost use Rattle.layout.specs.{maxWrite};
 ghost use Rattle.recovery.specs.Group.{groupSize, committed};
 ghost use Rattle.log.specs.Group.{encodeGroup, readBody, committedIf, readGroup, endOf};
+ghost use Rattle.log.specs.Stop.{stopOf};
 ghost use Rattle.log.specs.Flat.{writesFrom};
 
-// The whole group at the front of a slice, and where it ends.
+// The whole group at the front of a slice, and where it ends; or why none stands there.
 pub enum GroupEnd {
     Aborted { id: TxId, end: usize },
     Committed { id: TxId, csn: Csn, end: usize },
-    NoGroup,
+    NoGroup(Stop),
 }
 
 // The redo records of this id at the front of s, and their commit.
 fn read_body(s: &[u8], id: TxId, prev: Csn) -> GroupEnd
-    ensures { λ r. ⌜ r ≡ endOf (committedIf (id .0) (prev .0 + 1) (readBody (prev .0) (id .0) (now (s .entry)))) ⌝ }
+    ensures { λ r. ⌜ r ≡ endOf (stopOf (now (s .entry))) (committedIf (id .0) (prev .0 + 1) (readBody (prev .0) (id .0) (now (s .entry)))) ⌝ }
 {
     let mut at: usize = 0;
     loop {
@@ -41,19 +44,19 @@ fn read_body(s: &[u8], id: TxId, prev: Csn) -> GroupEnd
                 len,
             } => {
                 if r.0 != id.0 {
-                    return GroupEnd::NoGroup;
+                    return GroupEnd::NoGroup(Stop::Torn);
                 }
                 at = at + REDO_LEN + len as usize;
             }
             Head::Commit { id: c, csn } => {
                 if c.0 != id.0 {
-                    return GroupEnd::NoGroup;
+                    return GroupEnd::NoGroup(Stop::Torn);
                 }
                 if csn.0 <= prev.0 {
-                    return GroupEnd::NoGroup;
+                    return GroupEnd::NoGroup(Stop::Torn);
                 }
                 if csn.0 - prev.0 != 1 {
-                    return GroupEnd::NoGroup;
+                    return GroupEnd::NoGroup(Stop::Torn);
                 }
                 return GroupEnd::Committed {
                     id: id,
@@ -62,10 +65,14 @@ fn read_body(s: &[u8], id: TxId, prev: Csn) -> GroupEnd
                 };
             }
             Head::Abort(_) => {
-                return GroupEnd::NoGroup;
+                return GroupEnd::NoGroup(Stop::Torn);
             }
-            Head::Nothing => {
-                return GroupEnd::NoGroup;
+            Head::Nothing(stop) => {
+                // After whole records it is torn, whatever follows them.
+                if at != 0 {
+                    return GroupEnd::NoGroup(Stop::Torn);
+                }
+                return GroupEnd::NoGroup(stop);
             }
         }
     }
@@ -73,21 +80,21 @@ fn read_body(s: &[u8], id: TxId, prev: Csn) -> GroupEnd
 
 // prev is the commit number before the group.
 pub fn read_group(s: &[u8], prev: Csn) -> GroupEnd
-    ensures { λ r. ⌜ r ≡ endOf (readGroup (prev .0) (now (s .entry))) ⌝ }
+    ensures { λ r. ⌜ r ≡ endOf (stopOf (now (s .entry))) (readGroup (prev .0) (now (s .entry))) ⌝ }
 {
     // An abort is the shortest, and told without a call: a log can have thousands.
     if s.len() < ABORT_LEN {
-        return GroupEnd::NoGroup;
+        return GroupEnd::NoGroup(stop_of(s));
     }
     let id = be16(s, 1);
     if s[0] != ABORT {
         return read_body(s, TxId(id), prev);
     }
     if id == 0 {
-        return GroupEnd::NoGroup;
+        return GroupEnd::NoGroup(Stop::Torn);
     }
     if s[3] != ABORT {
-        return GroupEnd::NoGroup;
+        return GroupEnd::NoGroup(Stop::Torn);
     }
     GroupEnd::Aborted {
         id: TxId(id),

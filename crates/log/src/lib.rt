@@ -3,6 +3,7 @@ pub mod group;
 pub mod number;
 pub mod record;
 pub mod scan;
+pub mod stop;
 pub mod stores;
 
 // A transaction id. 0 is never given.

@@ -2,19 +2,28 @@
 use crate::Csn;
 use crate::group::GroupEnd;
 use crate::group::read_group;
+use crate::stop::Stop;
+use crate::stop::stop_of;
 ghost use mathlib.Core.Path.{_≡_};
 ghost use lib.ListN.{take};
-ghost use Rattle.log.specs.Log.{readLog, logEndOf};
+ghost use Rattle.log.specs.Log.{readLog, reachedOf, logEndOf};
 
-// Where a log ends, and its last commit number.
-pub struct LogEnd {
+// Where the first groups of a log end, and the last commit number.
+pub struct Reached {
     pub end: usize,
     pub csn: Csn,
 }
 
+// Where a log ends, its last commit number, and why it ends there.
+pub struct LogEnd {
+    pub end: usize,
+    pub csn: Csn,
+    pub stop: Stop,
+}
+
 // The first k groups, or all if fewer. prev is the commit number before the log's first group.
-pub fn read_first(s: &[u8], prev: Csn, k: usize) -> LogEnd
-    ensures { λ r. ⌜ r ≡ logEndOf (prev .0) (take k (readLog (prev .0) (now (s .entry)))) ⌝ }
+pub fn read_first(s: &[u8], prev: Csn, k: usize) -> Reached
+    ensures { λ r. ⌜ r ≡ reachedOf (prev .0) (take k (readLog (prev .0) (now (s .entry)))) ⌝ }
 {
     let mut at: usize = 0;
     let mut csn = prev;
@@ -30,17 +39,25 @@ pub fn read_first(s: &[u8], prev: Csn, k: usize) -> LogEnd
                 at = at + end;
                 csn = n;
             }
-            GroupEnd::NoGroup => {
-                return LogEnd { end: at, csn: csn };
+            GroupEnd::NoGroup(_) => {
+                return Reached { end: at, csn: csn };
             }
         }
     }
-    LogEnd { end: at, csn: csn }
+    Reached { end: at, csn: csn }
 }
 
 // The whole log: it can't have more groups than bytes.
 pub fn read_log(s: &[u8], prev: Csn) -> LogEnd
-    ensures { λ r. ⌜ r ≡ logEndOf (prev .0) (readLog (prev .0) (now (s .entry))) ⌝ }
+    ensures { λ r. ⌜ r ≡ logEndOf (prev .0) (now (s .entry)) ⌝ }
 {
-    read_first(s, prev, s.len())
+    let all = read_first(s, prev, s.len());
+    let end = all.end;
+    let csn = all.csn;
+    let stop = stop_of(&s[end..]);
+    LogEnd {
+        end: end,
+        csn: csn,
+        stop: stop,
+    }
 }

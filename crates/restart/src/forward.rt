@@ -159,7 +159,7 @@ fn step(ids: [TxId; MAX_TXS], n: usize, p: Pass, log: &[u8], memory: &mut [u8]) 
                 undo: Slot::Nowhere,
             };
         }
-        GroupEnd::NoGroup => {
+        GroupEnd::NoGroup(_) => {
             return Turn {
                 pass: p,
                 undo: Slot::Nowhere,

@@ -13,9 +13,9 @@ use Rattle.layout.specs.Parts.{logPart}
 use Rattle.recovery.specs.Group.{Group, committed, aborted, groupsSize, csnAfter, lastCsn}
 use Rattle.recovery.proofs.Groups.{groupsSize-append, lastCsn-append}
 use Rattle.log.specs.declared.Csn.{Csn}
-use Rattle.log.specs.declared.scan.LogEnd.{LogEnd}
+use Rattle.log.specs.declared.scan.Reached.{Reached}
 use Rattle.log.specs.Group.{wellFormedBody, wellFormedGroup}
-use Rattle.log.specs.Log.{readLog, logEndOf, wellFormedLog}
+use Rattle.log.specs.Log.{readLog, reachedOf, wellFormedLog}
 use Rattle.log.specs.Stores.{Store, apply, copies, shifted}
 use Rattle.log.proofs.LogLaws.{log-within}
 use Rattle.log.proofs.PartLaws.{copies-moved, within-copies, part-lent}
@@ -79,9 +79,9 @@ module _ (s : State) (d m t : List ℕ) (k allowed : ℕ) where
   flush-refused = stored-refused s d m t (flushPlan s m t k) allowed
 
   -- read is what was read of the first groups
-  module _ (z : diskNumber s d m t ≡ 0) (read : LogEnd) (e : read ≡ logEndOf (s .ondisk .0) (firstGroups s t k)) where
+  module _ (z : diskNumber s d m t ≡ 0) (read : Reached) (e : read ≡ reachedOf (s .ondisk .0) (firstGroups s t k)) where
     size : read .end ≡ firstSize s t k
-    size = omega (arith, ap (λ (x : LogEnd). x .end) e)
+    size = omega (arith, ap (λ (x : Reached). x .end) e)
 
     pub flush-fits : Room s d t (read .end)
     flush-fits =
@@ -182,7 +182,7 @@ module _ (s : State) (d m t : List ℕ) (k allowed : ℕ) where
       flush-done h =
           let l = flush-length s t k in
           let w : withLog s (s .logend + read .end) (read .csn) ≡ flushedState s t k =
-          ap₂ (λ (n : ℕ) (c : Csn). withLog s (s .logend + n) c) size (ap (λ (x : LogEnd). x .csn) e) in
+          ap₂ (λ (n : ℕ) (c : Csn). withLog s (s .logend + n) c) size (ap (λ (x : Reached). x .csn) e) in
           stored-done s d m t (flushPlan s m t k) allowed z (omega (arith, size, count))
           ∙ sym
           (ap₂ (λ (n : ℕ) (u : State). record { result = tells done 0 n u; disk = left; memory = m; tail = shifted (read .end) t }) count w

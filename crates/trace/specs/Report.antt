@@ -5,17 +5,23 @@ use mathlib.Core.List.{List}
 use lib.ListN.{length}
 use Rattle.store.specs.declared.Answer.{Answer}
 use Rattle.store.specs.declared.State.{State}
+use Rattle.disk.specs.declared.call.Stopped.{Stopped}
+use Rattle.disk.specs.declared.call.Stopped.the-variants.{Untold}
 use Rattle.trace.specs.declared.line.Verdict.the-variants.{Answered, Part, Equal}
 use Rattle.trace.specs.declared.line.Report.{Report}
 use Rattle.trace.specs.Adler.{adlerOf}
 
+abbrev pub restartedOf : Answer → ℕ → ℕ → Stopped → State → Report
+restartedOf answer value stores stop state = record { verdict = Answered answer; value = value; stores = stores; stop = stop; state = state }
+
+-- of any call but restart
 abbrev pub storedOf : Answer → ℕ → ℕ → State → Report
-storedOf answer value stores state = record { verdict = Answered answer; value = value; stores = stores; state = state }
+storedOf answer value stores state = restartedOf answer value stores Untold state
 
 -- of read: the length of its part, and the part's checksum
 abbrev pub readOf : List ℕ → State → Report
-readOf part state = record { verdict = Part (length part); value = adlerOf part; stores = 0; state = state }
+readOf part state = record { verdict = Part (length part); value = adlerOf part; stores = 0; stop = Untold; state = state }
 
 -- of equal in meaning
 abbrev pub comparedOf : Bool → State → Report
-comparedOf equal state = record { verdict = Equal equal; value = 0; stores = 0; state = state }
+comparedOf equal state = record { verdict = Equal equal; value = 0; stores = 0; stop = Untold; state = state }

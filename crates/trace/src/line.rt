@@ -1,10 +1,12 @@
 // The line that a call prints.
+use disk::call::Stopped;
 use libc::STDOUT_FILENO;
+use log::stop::Stop;
 use store::Answer;
 use store::State;
 ghost use mathlib.Core.Path.{_≡_};
 ghost use Rattle.trace.specs.Adler.{adlerOf};
-ghost use Rattle.trace.specs.Report.{storedOf, readOf, comparedOf};
+ghost use Rattle.trace.specs.Report.{storedOf, restartedOf, readOf, comparedOf};
 
 // A line's second field: a call's answer, the length of read's part, or whether two disks are equal in meaning.
 pub enum Verdict {
@@ -13,23 +15,41 @@ pub enum Verdict {
     Equal(bool),
 }
 
+// The call whose line has a ninth field.
+const RESTART: u8 = 10;
+
 pub struct Report {
     pub verdict: Verdict,
     pub value: usize,
     pub stores: usize,
+    pub stop: Stopped,
     pub state: State,
 }
 
 impl Report {
-    pub(crate) fn stored(answer: Answer, value: usize, stores: usize, state: State) -> Self
-        ensures { λ r. ⌜ r ≡ storedOf answer value stores state ⌝ }
+    pub(crate) fn restarted(
+        answer: Answer,
+        value: usize,
+        stores: usize,
+        stop: Stopped,
+        state: State,
+    ) -> Self
+        ensures { λ r. ⌜ r ≡ restartedOf answer value stores stop state ⌝ }
     {
         Report {
             verdict: Verdict::Answered(answer),
             value: value,
             stores: stores,
+            stop: stop,
             state: state,
         }
+    }
+
+    // Any call but restart.
+    pub(crate) fn stored(answer: Answer, value: usize, stores: usize, state: State) -> Self
+        ensures { λ r. ⌜ r ≡ storedOf answer value stores state ⌝ }
+    {
+        Report::restarted(answer, value, stores, Stopped::Untold, state)
     }
 
     pub(crate) fn read(part: &[u8], state: State) -> Self
@@ -39,6 +59,7 @@ impl Report {
             verdict: Verdict::Part(part.len()),
             value: adler(part) as usize,
             stores: 0,
+            stop: Stopped::Untold,
             state: state,
         }
     }
@@ -50,6 +71,7 @@ impl Report {
             verdict: Verdict::Equal(equal),
             value: 0,
             stores: 0,
+            stop: Stopped::Untold,
             state: state,
         }
     }
@@ -144,7 +166,25 @@ fn print_state(s: State) {
     comma_number(s.assigned.0 as usize);
     comma_number(s.lastid.0 as usize);
     comma_number(s.count as usize);
-    text(b"\n");
+}
+
+// Restart's ninth field.
+fn print_stop(stopped: Stopped) {
+    let Stopped::At(stop) = stopped else {
+        text(b" -");
+        return;
+    };
+    match stop {
+        Stop::Full => {
+            text(b" full");
+        }
+        Stop::Zero => {
+            text(b" zero");
+        }
+        Stop::Torn => {
+            text(b" torn");
+        }
+    }
 }
 
 pub(crate) fn print_line(call: u8, out: Report, disk: &[u8], memory: &[u8], tail: &[u8]) {
@@ -158,4 +198,9 @@ pub(crate) fn print_line(call: u8, out: Report, disk: &[u8], memory: &[u8], tail
     blank_number(adler(tail) as usize);
     let state = out.state;
     print_state(state);
+    if call == RESTART {
+        let stop = out.stop;
+        print_stop(stop);
+    }
+    text(b"\n");
 }

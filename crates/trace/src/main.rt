@@ -52,8 +52,9 @@ fn disk_call(r: Record, s: State, disk: &mut [u8], memory: &mut [u8], tail: &mut
     }
     let x = restart(disk, memory, tail, r.allowed);
     let answer = x.answer;
+    let stop = x.stop;
     let state = x.state;
-    Report::stored(answer, x.undone, x.stores, state)
+    Report::restarted(answer, x.undone, x.stores, stop, state)
 }
 
 // What befalls the store between calls, and whether its disk means what the kept one does.

@@ -1,11 +1,12 @@
 //! A checker of demand 3: follows a stream and, after every call, asks what
-//! document 01, "The bench book", says of one more restart.
+//! document 01, "The bench book", says of one more restart; and what document
+//! 02, A.1, says of where the log stopped.
 
 use crate::layout::{LOG, LOG_LEN, MEMORY_LEN, TAIL_LEN};
 use crate::ledger::{Committed, Ledger};
-use crate::log::{read_log, Csn, Group};
+use crate::log::{read_log, Csn, Group, Stop};
 use crate::needs::stores_of;
-use crate::restart::restart;
+use crate::restart::{recover, restart};
 use crate::trace::{calls, Answer, Call, Outcome, World};
 
 /// Where the current is taken to fail.
@@ -86,6 +87,7 @@ const CUT: Outcome = Outcome {
     answer: Answer::Cut,
     value: 0,
     stores: 0,
+    stop: None,
 };
 
 /// The same call with other stores allowed.
@@ -156,12 +158,13 @@ fn check_disk(disk: &[u8], durable: &[Committed], expected: &Expected) -> Result
     let mut copy = disk.to_vec();
     let mut memory = vec![0xA5; MEMORY_LEN];
     let mut tail = vec![0xA5; TAIL_LEN];
-    let (_, result) = restart(&mut copy, &mut memory, &mut tail, LOG_LEN);
-    match result {
+    let (state, result) = restart(&mut copy, &mut memory, &mut tail, LOG_LEN);
+    let stop = match result {
         Err(number) => return Err(format!("the restart is refused by {number}")),
         Ok(done) if done.stored.cut => return Err("the restart is cut".to_string()),
-        Ok(_) => {}
-    }
+        Ok(done) => done.stop,
+    };
+    check_stop(disk, state.log_end, stop, &copy)?;
     if let Some(address) = (0..MEMORY_LEN).find(|&a| memory[a] != expected.memory[a]) {
         return Err(format!(
             "memory at {address} is {} and not {}",
@@ -169,6 +172,23 @@ fn check_disk(disk: &[u8], durable: &[Committed], expected: &Expected) -> Result
         ));
     }
     check_log(&copy, durable).map_err(|fault| format!("after the restart: {fault}"))
+}
+
+/// The byte at the log's end decides why it ends there; behind a restart that
+/// was done there is none or a zero.
+fn check_stop(disk: &[u8], end: usize, told: Option<Stop>, left: &[u8]) -> Result<(), String> {
+    let stop = match disk.get(LOG + end) {
+        None => Stop::Full,
+        Some(0) => Stop::Zero,
+        Some(_) => Stop::Torn,
+    };
+    if told != Some(stop) {
+        return Err(format!("the log stopped {stop:?}, and {told:?} is told"));
+    }
+    match recover(left) {
+        Ok(again) if again.stop == Stop::Torn => Err("torn after a restart".to_string()),
+        _ => Ok(()),
+    }
 }
 
 /// The log, read from its first byte, has as its commits exactly the durable

@@ -1,4 +1,5 @@
-//! Log records, groups and the log's end: document 01, "Disk, memory, tail".
+//! Log records, groups and the log's end: document 01, "Disk, memory, tail";
+//! why it ends there: document 02, A.1.
 
 use crate::layout::{be16, be32, range_ok};
 
@@ -88,8 +89,43 @@ impl Record {
     }
 }
 
-/// The well-formed record at the front of the bytes, and its size.
-pub fn read_record(bytes: &[u8]) -> Option<(Record, usize)> {
+/// Why nothing whole stands at a place of the log.
+#[derive(Clone, Copy, Debug, PartialEq, Eq)]
+pub enum Stop {
+    /// The log has no byte there.
+    Full,
+    /// A zero byte.
+    Zero,
+    /// A record or group that is broken or unfinished.
+    Torn,
+}
+
+impl Stop {
+    /// By the bytes from that place on.
+    fn before(rest: &[u8]) -> Stop {
+        match rest.first() {
+            None => Stop::Full,
+            Some(0) => Stop::Zero,
+            Some(_) => Stop::Torn,
+        }
+    }
+
+    pub fn word(self) -> &'static str {
+        match self {
+            Stop::Full => "full",
+            Stop::Zero => "zero",
+            Stop::Torn => "torn",
+        }
+    }
+}
+
+/// The well-formed record at the front of the bytes, and its size; or why
+/// none stands there.
+pub fn read_record(bytes: &[u8]) -> Result<(Record, usize), Stop> {
+    well_formed(bytes).ok_or(Stop::before(bytes))
+}
+
+fn well_formed(bytes: &[u8]) -> Option<(Record, usize)> {
     let kind = *bytes.first()?;
     let size = match kind {
         REDO => 7 + *bytes.get(5)? as usize,
@@ -165,18 +201,19 @@ impl Group {
 }
 
 /// The whole group at the front of the bytes, `previous` being the csn
-/// before it.
-pub fn read_group(bytes: &[u8], previous: Csn) -> Option<Group> {
+/// before it; or why none stands there: once a record of it does, it is torn.
+pub fn read_group(bytes: &[u8], previous: Csn) -> Result<Group, Stop> {
     let mut at = 0;
     let mut writes = Vec::new();
     let mut owner = None;
     loop {
-        let (record, size) = read_record(&bytes[at..])?;
+        let read = read_record(&bytes[at..]);
+        let (record, size) = read.map_err(|stop| if at > 0 { Stop::Torn } else { stop })?;
         at += size;
         match record {
             Record::Redo(id, write) => {
                 if owner.is_some_and(|first| first != id) {
-                    return None;
+                    return Err(Stop::Torn);
                 }
                 owner = Some(id);
                 writes.push(write);
@@ -184,9 +221,13 @@ pub fn read_group(bytes: &[u8], previous: Csn) -> Option<Group> {
             Record::Commit(id, csn) => {
                 let one_id = owner.is_none_or(|first| first == id);
                 let goes_on = previous.next() == Some(csn);
-                return (one_id && goes_on).then_some(Group::Commit { id, csn, writes });
+                let whole = (one_id && goes_on).then_some(Group::Commit { id, csn, writes });
+                return whole.ok_or(Stop::Torn);
             }
-            Record::Abort(id) => return writes.is_empty().then_some(Group::Abort { id }),
+            Record::Abort(id) => {
+                let whole = writes.is_empty().then_some(Group::Abort { id });
+                return whole.ok_or(Stop::Torn);
+            }
         }
     }
 }
@@ -199,21 +240,29 @@ pub struct Log {
     pub end: usize,
     /// The last csn found, or the previous one if no commit was read.
     pub last: Csn,
+    /// Why it ends there.
+    pub stop: Stop,
 }
 
 /// Reads groups up to the first place where no whole group stands.
 pub fn read_log(bytes: &[u8], previous: Csn) -> Log {
-    let mut log = Log {
-        groups: Vec::new(),
-        end: 0,
-        last: previous,
-    };
-    while let Some(group) = read_group(&bytes[log.end..], log.last) {
-        log.end += group.size();
-        if let Group::Commit { csn, .. } = group {
-            log.last = csn;
+    let (mut groups, mut end, mut last) = (Vec::new(), 0, previous);
+    let stop = loop {
+        match read_group(&bytes[end..], last) {
+            Ok(group) => {
+                end += group.size();
+                if let Group::Commit { csn, .. } = group {
+                    last = csn;
+                }
+                groups.push(group);
+            }
+            Err(stop) => break stop,
         }
-        log.groups.push(group);
+    };
+    Log {
+        groups,
+        end,
+        last,
+        stop,
     }
-    log
 }

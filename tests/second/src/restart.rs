@@ -7,7 +7,7 @@ use crate::image;
 use crate::layout::{
     DISK_LEN, IMAGE_A, IMAGE_B, IMAGE_LEN, LOG, LOG_LEN, MEMORY_LEN, POINTER, TAIL_LEN,
 };
-use crate::log::{read_log, undo, Csn, Group, Record, TxId, ABORT_SIZE};
+use crate::log::{read_log, undo, Csn, Group, Record, Stop, TxId, ABORT_SIZE};
 use crate::state::{Refusal, State, Tx};
 use crate::stores::{cut_off, make_stores, Store, Stored};
 
@@ -18,6 +18,8 @@ pub struct Recovery {
     pub state: State,
     /// The transactions undone in step 4, in that order.
     pub undone: Vec<TxId>,
+    /// Why the log ends where it does, before step 6.
+    pub stop: Stop,
 }
 
 /// A transaction of the image on the way through the log.
@@ -61,6 +63,7 @@ pub fn recover(disk: &[u8]) -> Result<Recovery, Refusal> {
         memory,
         state,
         undone,
+        stop: log.stop,
     })
 }
 
@@ -126,6 +129,8 @@ pub struct Restarted {
     pub stored: Stored,
     /// 0 when cut.
     pub undone: usize,
+    /// Why the log ended where it did; told only when done.
+    pub stop: Option<Stop>,
 }
 
 /// Restart with the stores allowed. It takes no state and gives one.
@@ -148,14 +153,23 @@ pub fn restart(
     let stored = make_stores(disk, &clear_stores(found.state.log_end), allowed);
     if stored.cut {
         cut_off(&mut state, memory, tail);
-        return (state, Ok(Restarted { stored, undone: 0 }));
+        let cut = Restarted {
+            stored,
+            undone: 0,
+            stop: None,
+        };
+        return (state, Ok(cut));
     }
     memory.copy_from_slice(&found.memory);
     for (place, &id) in tail.chunks_exact_mut(ABORT_SIZE).zip(&found.undone) {
         place.copy_from_slice(&Record::Abort(id).encode());
     }
-    let undone = found.undone.len();
-    (found.state, Ok(Restarted { stored, undone }))
+    let done = Restarted {
+        stored,
+        undone: found.undone.len(),
+        stop: Some(found.stop),
+    };
+    (found.state, Ok(done))
 }
 
 /// What program disklist prints for these bytes.
@@ -167,12 +181,13 @@ pub fn disklist(disk: &[u8]) -> String {
     };
     match found {
         Ok(found) => format!(
-            "pointer={}\nend={}\ncsn={}\nid={}\nundone={}\n",
+            "pointer={}\nend={}\ncsn={}\nid={}\nundone={}\nstop={}\n",
             disk[POINTER],
             found.state.log_end,
             found.state.csn_on_disk.0,
             found.state.last_id.0,
-            found.undone.len()
+            found.undone.len(),
+            found.stop.word()
         ),
         Err(number) => format!("refused={number}\n"),
     }

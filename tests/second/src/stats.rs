@@ -1,8 +1,11 @@
 //! What a stream reaches: counts of each call with each answer, how the stores
-//! allowed compare with the stores needed, and which disks are compared.
+//! allowed compare with the stores needed, where logs stopped, and which disks
+//! are compared.
 
 use std::collections::BTreeMap;
 
+use crate::layout::LOG;
+use crate::log::{read_record, Record, Stop};
 use crate::needs::stores_needed;
 use crate::restart::recover;
 use crate::trace::{calls, Answer, Call, Outcome, World};
@@ -32,12 +35,17 @@ pub fn stats(stream: &[u8]) -> String {
     let mut world = World::fresh();
     for call in calls(stream) {
         let need = stores_needed(&world, &call);
+        let log = log_before(&world, &call);
         let outcome = world.run(&call);
         let name = call_name(&call);
         let mut count = |what: String| *counts.entry(what).or_default() += 1;
         count(format!("{name} {}", answer_name(&call, &outcome)));
         if let Some(need) = need {
             count(format!("{name} {}", allowance_name(&call, need)));
+        }
+        if let Some(stop) = outcome.stop {
+            let rest = &log[world.state.log_end..];
+            count(format!("{name} {}", stop_name(stop, rest)));
         }
         if call == Call::Equal {
             for what in compared_names(&world, &outcome) {
@@ -71,6 +79,27 @@ fn answer_name(call: &Call, outcome: &Outcome) -> String {
         Answer::Part(_) => "part>0".to_string(),
         Answer::Yes => "yes".to_string(),
         Answer::No => "no".to_string(),
+    }
+}
+
+/// The log as a restart finds it.
+fn log_before(world: &World, call: &Call) -> Vec<u8> {
+    match call {
+        Call::Restart { .. } => world.disk[LOG..].to_vec(),
+        _ => Vec::new(),
+    }
+}
+
+/// Why a log stopped; of a group that breaks off after whole redo records,
+/// also what the record there says of itself.
+fn stop_name(stop: Stop, rest: &[u8]) -> String {
+    let mut at = 0;
+    while let Ok((Record::Redo(..), size)) = read_record(&rest[at..]) {
+        at += size;
+    }
+    match read_record(&rest[at..]) {
+        Err(own) if at > 0 => format!("{}, {} inside", stop.word(), own.word()),
+        _ => stop.word().to_string(),
     }
 }
 

@@ -1,7 +1,7 @@
 //! The stream of 64-byte records: parsing, running and printing one line each.
 
 use crate::layout::{be16, be32, DISK_LEN, MEMORY_LEN, TAIL_LEN};
-use crate::log::TxId;
+use crate::log::{Stop, TxId};
 use crate::restart::{equal_in_meaning, restart};
 use crate::state::{Refusal, State};
 use crate::stores::Stored;
@@ -141,6 +141,8 @@ pub struct Outcome {
     /// the Adler-32 of read's part, else 0.
     pub value: u32,
     pub stores: usize,
+    /// Of a restart that is done: why the log ended where it did.
+    pub stop: Option<Stop>,
 }
 
 impl Outcome {
@@ -153,6 +155,7 @@ impl Outcome {
             answer,
             value,
             stores: 0,
+            stop: None,
         }
     }
 
@@ -166,6 +169,7 @@ impl Outcome {
                 },
                 value: value as u32,
                 stores: stored.stores,
+                stop: None,
             },
             Err(number) => Outcome::of_value(Err(number)),
         }
@@ -176,6 +180,7 @@ impl Outcome {
             answer: Answer::Part(part.len()),
             value: adler32(part),
             stores: 0,
+            stop: None,
         }
     }
 
@@ -184,6 +189,7 @@ impl Outcome {
             answer: if equal { Answer::Yes } else { Answer::No },
             value: 0,
             stores: 0,
+            stop: None,
         }
     }
 }
@@ -254,7 +260,10 @@ impl World {
             Call::Restart { allowed } => {
                 let (new, result) = restart(disk, memory, tail, *allowed);
                 *state = new;
-                Outcome::of_stored(result.map(|done| (done.stored, done.undone)))
+                Outcome {
+                    stop: result.ok().and_then(|done| done.stop),
+                    ..Outcome::of_stored(result.map(|done| (done.stored, done.undone)))
+                }
             }
             Call::PowerFails => {
                 memory.fill(JUNK);
@@ -290,7 +299,7 @@ impl World {
             Answer::Yes => "yes".to_string(),
             Answer::No => "no".to_string(),
         };
-        format!(
+        let line = format!(
             "{} {} {} {} {} {} {} {}",
             call.number(),
             answer,
@@ -300,7 +309,11 @@ impl World {
             adler32(&self.memory),
             adler32(&self.tail),
             state_field(&self.state)
-        )
+        );
+        match call {
+            Call::Restart { .. } => format!("{line} {}", outcome.stop.map_or("-", Stop::word)),
+            _ => line,
+        }
     }
 }
 

@@ -11,7 +11,7 @@ numbers-requires : tie.Need-numbers-requires
 numbers-requires c κs = search needs
 
 abbrev filled : ℕ → ℕ → State → Pair → Reply
-filled value stores s p = record { answer = p .0; number = p .1; value = value; stores = stores; state = s }
+filled value stores s p = record { answer = p .0; number = p .1; stop = 0; value = value; stores = stores; state = s }
 
 returns : tie.Need-returns
 returns c = let a = c .before .args in ap (filled (a .value) (a .stores) (a .state)) (c .numbers .ensures)

@@ -5,7 +5,8 @@ use lib.ListN.{length, replicate, length-replicate}
 use borrow.Author.Needs.{needs}
 use Rattle.store.specs.Answer.{Told}
 use Rattle.listing.specs.Lines.{refusedText}
-use Rattle.listing.proofs.Putting.{Short, lines-short, found-short, refused-short, put-front}
+use Rattle.text.proofs.Putting.{put-then}
+use Rattle.listing.proofs.Putting.{Short, lines-short, found-short, text-short, refused-short, put-front}
 use Rattle.listing.proofs.Endings.{few-undone, listing-refused, listing-found, printed}
 use Rattle.listing.proofs.list.Statement.{statement}
 use Rattle.listing.proofs.list.Tie as tie
@@ -14,6 +15,9 @@ use Rattle.listing.proofs.list.Tie as tie
 
 abbrev afterRestartFromPutFoundArg : tie.After-put-found-arg → tie.After-restart
 afterRestartFromPutFoundArg c = c .before .before .before .before .before .before .before .before .before
+
+abbrev foundFromPutStop : tie.After-put-stop → tie.After-put-found
+foundFromPutStop c = c .before .before
 
 abbrev afterRestartFromPutFound : tie.After-put-found → tie.After-restart
 afterRestartFromPutFound c = afterRestartFromPutFoundArg (c .before)
@@ -43,13 +47,13 @@ fill-zero-requires : tie.Need-fill-zero-requires
 fill-zero-requires c κs = search needs
 
 -- out is all zeros then
-zeros : (c : tie.After-fill-zero) → c .fill-zero .last .0 ≡ replicate 64 0
+zeros : (c : tie.After-fill-zero) → c .fill-zero .last .0 ≡ replicate 80 0
 zeros c =
     let l : length (entryFromFillZero c .args .out .now)
-    ≡ 64 = search needs in c .fill-zero .ensures ∙ ap (λ (n : ℕ). replicate n 0) l
+    ≡ 80 = search needs in c .fill-zero .ensures ∙ ap (λ (n : ℕ). replicate n 0) l
 
-zeros-length : (c : tie.After-fill-zero) → length (c .fill-zero .last .0) ≡ 64
-zeros-length c = ap length (zeros c) ∙ length-replicate {A = ℕ} 64 0
+zeros-length : (c : tie.After-fill-zero) → length (c .fill-zero .last .0) ≡ 80
+zeros-length c = ap length (zeros c) ∙ length-replicate {A = ℕ} 80 0
 
 -- the number is a byte
 byte : (c : tie.After-known-told) → c .before .answer .given .0 .0 < 256
@@ -84,7 +88,7 @@ returns c =
     let disk = restarted .before .before .before .before .before .before .before .args .disk .now in
     let x = afterRestartFromPutLine c .restart in
     let n = c .before .before .before .before .answer .given .0 .0 in
-    let e = listing-refused disk (x .result) (x .ensures .0) n (c .before .before .before .before .answer .given .1) in (
+    let e = listing-refused disk (x .result) (x .ensures .0) (x .ensures .1 .1 .1 .1) n (c .before .before .before .before .answer .given .1) in (
       printed (sym e)
           (put-front (zeros (c .before .before .before .before .before .before)) (refused-short n (byte (c .before .before .before)))
           (c .put-line .ensures)),
@@ -107,19 +111,29 @@ short c =
 put-found-requires : tie.Need-put-found-requires
 put-found-requires c κs = (zeros-length (c .before .before .before), few (afterRestartFromPutFoundArg c))
 
+-- the first five lines have been put
+five : (c : tie.After-put-found) → c .put-found .result ≤ 58
+five c = omega (arith, c .put-found .ensures .ends, found-short (short (afterRestartFromPutFound c)))
+
+put-stop-requires : tie.Need-put-stop-requires
+put-stop-requires c κs =
+    let found = c .before in
+    omega (arith, five found, found .put-found .kept .0, zeros-length (found .before .before .before .before))
+
 same-length-2 : tie.Need-same-length-2
 same-length-2 c = search needs
 
 returns-2 : tie.Need-returns-2
 returns-2 c =
-    let restarted = afterRestartFromPutFound c in
+    let found = foundFromPutStop c in
+    let restarted = afterRestartFromPutFound found in
     let disk = restarted .before .before .before .before .before .before .before .args .disk .now in
-    let x = afterRestartFromPutFound c .restart in
-    let p = afterPointerOfFromPutFound c .pointer-of in
-    let e = listing-found disk (x .result) (x .ensures .0) (p .result) (p .ensures) (c .before .before .before .match .keys2) in (
+    let x = restarted .restart in
+    let p = afterPointerOfFromPutFound found .pointer-of in
+    let e = listing-found disk (x .result) (x .ensures .0) (x .ensures .1 .1 .1 .1) (p .result) (p .ensures) (found .before .before .before .match .keys2) in (
       printed (sym e)
-          (put-front (zeros (c .before .before .before .before))
-          (found-short (short (afterRestartFromPutFound c))) (c .put-found .ensures)),
+          (put-front (zeros (found .before .before .before .before))
+          (text-short (short restarted) (x .result .stop)) (put-then (found .put-found .ensures) (c .put-stop .ensures))),
       x .ensures .1 .0,
     )
 
@@ -139,5 +153,6 @@ list-spec =
     same-length
     returns
     put-found-requires
+    put-stop-requires
     same-length-2
     returns-2)

@@ -68,10 +68,11 @@ impl RawImage {
 impl Generator {
     /// Forged disks by turns: an image with a log, a damaged live disk.
     pub fn damage(&mut self) {
-        match self.rng.below(6) {
+        match self.rng.below(7) {
             0..=2 => self.forged_disk(),
             3 => self.damaged_live_disk(),
             4 => self.damaged_pointer(),
+            5 => self.broken_off(),
             _ => self.counters_at_their_end(),
         }
     }
@@ -79,9 +80,10 @@ impl Generator {
     /// Everything, in a fixed round; after the first part, each from an
     /// emptied log.
     pub fn mixed(&mut self) {
-        let parts: [(usize, Scene); 12] = [
+        let parts: [(usize, Scene); 13] = [
             (180, Generator::plain),
             (12, Generator::unrecovered),
+            (80, Generator::broken_off),
             (700, Generator::forged_disk),
             (80, Generator::counters_at_their_end),
             (80, Generator::damaged_pointer),
@@ -130,6 +132,37 @@ impl Generator {
         self.put(LOG + LOG_LEN - left, &[0]);
         self.put(POINTER, &[1]);
         self.recover(10);
+    }
+
+    /// A log whose last group breaks off after whole redo records: with the
+    /// log's last byte, or before zeros.
+    fn broken_off(&mut self) {
+        let id = TxId(self.rng.between(1, 9) as u16);
+        let mut log = Vec::new();
+        if self.rng.percent(50) {
+            log.extend(Record::Commit(id, Csn(1)).encode());
+        }
+        let (address, bytes) = (self.rng.below(SPAN), self.rng.bytes(1));
+        let mut writes = self.forged_writes();
+        writes.push(Write { address, bytes });
+        for write in writes {
+            log.extend(Record::Redo(id, write).encode());
+        }
+        let behind = self.rng.pick(&[0, 0, 1, 8, 300]);
+        let image = RawImage {
+            log_end: (LOG_LEN - behind - log.len()) as u16,
+            on_disk: 0,
+            assigned: 0,
+            last_id: 9,
+            count: 0,
+            txs: Vec::new(),
+        };
+        log.extend(vec![0; behind.min(8)]);
+        self.put(IMAGE_A, &image.header());
+        self.put(LOG + image.log_end as usize, &log);
+        self.put(POINTER, &[1]);
+        self.recover(25);
+        self.live_call(&PLAIN);
     }
 
     fn near_full(&mut self) {

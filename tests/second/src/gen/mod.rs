@@ -174,6 +174,7 @@ impl Generator {
                 answer: Answer::Refused(0),
                 value: 0,
                 stores: 0,
+                stop: None,
             };
         }
         let record = self.encode(&call);

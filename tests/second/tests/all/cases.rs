@@ -2,7 +2,7 @@
 
 use crate::rig::{Rig, ENOUGH};
 use second::layout::LOG;
-use second::log::TxId;
+use second::log::{Stop, TxId};
 use second::restart::disklist;
 use second::trace::Answer;
 
@@ -31,15 +31,17 @@ fn m1_log_bytes_and_17_stores() {
 fn m1_with_16_stores_ends_at_0() {
     let (mut rig, answer, stores) = m1(16);
     assert_eq!((answer, stores), (Answer::Cut, 16));
-    assert_eq!(rig.restart(ENOUGH).answer, Answer::Done);
+    let done = rig.restart(ENOUGH);
+    assert_eq!((done.answer, done.stop), (Answer::Done, Some(Stop::Torn)));
     assert_eq!(rig.world.state.log_end, 0);
     assert_eq!(rig.world.memory[10], 0);
+    assert_eq!(rig.restart(ENOUGH).stop, Some(Stop::Zero));
 }
 
 #[test]
 fn m1_disklist() {
     let (rig, _, _) = m1(17);
-    let text = "pointer=0\nend=17\ncsn=1\nid=1\nundone=0\n";
+    let text = "pointer=0\nend=17\ncsn=1\nid=1\nundone=0\nstop=zero\n";
     assert_eq!(disklist(&rig.world.disk), text);
 }
 
@@ -117,6 +119,9 @@ fn m8_transactions_without_writes_fill_the_log() {
     }
     assert_eq!(rig.world.state.log_end, 16_384);
     assert_eq!(rig.begin(), Err(13));
+    assert_eq!(rig.restart(0).stop, Some(Stop::Full));
+    let text = "pointer=0\nend=16384\ncsn=2048\nid=2048\nundone=0\nstop=full\n";
+    assert_eq!(disklist(&rig.world.disk), text);
 }
 
 #[test]

@@ -5,11 +5,12 @@ use second::log::TxId;
 use second::trace::{Answer, Call, Outcome};
 
 fn feed(ledger: &mut Ledger, call: Call, answer: Answer, value: u32) {
-    let stores = 0;
+    let (stores, stop) = (0, None);
     let outcome = Outcome {
         answer,
         value,
         stores,
+        stop,
     };
     ledger.feed(&call, &outcome);
 }

@@ -6,4 +6,5 @@ mod ledger;
 mod number2;
 mod restart;
 mod rig;
+mod stops;
 mod streams;

@@ -50,7 +50,7 @@ fn one_running(log_end: usize) -> Vec<u8> {
 #[test]
 fn number_5_is_about_the_abort_records() {
     assert_eq!(refused(one_running(LOG_LEN - 3)), (5, true));
-    let text = "pointer=2\nend=16380\ncsn=0\nid=1\nundone=1\n";
+    let text = "pointer=2\nend=16380\ncsn=0\nid=1\nundone=1\nstop=zero\n";
     assert_eq!(disklist(&one_running(LOG_LEN - 4)), text);
 }
 
@@ -65,7 +65,7 @@ fn disklist_refusals() {
 
 #[test]
 fn fresh_disk() {
-    let text = "pointer=0\nend=0\ncsn=0\nid=0\nundone=0\n";
+    let text = "pointer=0\nend=0\ncsn=0\nid=0\nundone=0\nstop=zero\n";
     assert_eq!(disklist(&vec![0; DISK_LEN]), text);
     let mut rig = Rig::fresh();
     rig.world.memory.fill(1);

@@ -35,7 +35,7 @@ fn demand_3_holds_after_every_store() {
 
 #[test]
 fn the_gates_stream_reaches_every_number() {
-    let reached = stats(&stream(1, 4_000, Kind::Mixed));
+    let reached = stats(&stream(3, 4_000, Kind::Mixed));
     for what in [
         "1 begin refused=02",
         "1 begin refused=11",
@@ -70,6 +70,12 @@ fn the_gates_stream_reaches_every_number() {
         "10 restart refused=03",
         "10 restart refused=04",
         "10 restart refused=05",
+        "10 restart full\n",
+        "10 restart zero\n",
+        "10 restart torn\n",
+        "10 restart torn, full inside",
+        "10 restart torn, zero inside",
+        "10 restart torn, torn inside",
         "0 unknown done",
         "7 flush allowed 0\n",
         "7 flush allowed 0 of 0",

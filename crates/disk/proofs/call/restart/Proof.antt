@@ -9,11 +9,12 @@ use Rattle.log.specs.Stores.{apply}
 use Rattle.store.specs.declared.State.{State}
 use Rattle.store.specs.Answer.{done, cut, Told, tells}
 use Rattle.store.proofs.Storing.{leaves}
+use Rattle.disk.specs.declared.call.Stopped.the-variants.{At}
 use Rattle.disk.specs.declared.examine.Examined.{Examined}
 use Rattle.disk.specs.Examine.{examineOf}
 use Rattle.disk.specs.Restart.{recoveredState, refusedRestart, clearing}
 use Rattle.disk.proofs.Examining.{roomy}
-use Rattle.disk.proofs.Restarting.{clearing-length, log-cleared, log-count, restart-1, restart-refused, restart-cut, restart-done}
+use Rattle.disk.proofs.Restarting.{clearing-length, log-cleared, log-count, restart-1, restart-refused, restart-cut, restart-done, stopped-by, stop-found}
 use Rattle.disk.proofs.call.restart.Statement.{statement}
 use Rattle.disk.proofs.call.restart.Tie as tie
 
@@ -25,6 +26,10 @@ then5FromState c = c .before .before .before .before .before .before .before .be
 abbrev afterClearDownFromState : tie.After-state → tie.After-clear-down
 afterClearDownFromState c = c .before .before .before .before .before .before .before .before .before .before .before
 
+-- an outcome's parts, and last the stop told
+with-stop : {A B C D E : Type 0} → A × (B × (C × D)) → E → A × (B × (C × (D × E)))
+with-stop l e = (l .0, (l .1 .0, (l .1 .1 .0, (l .1 .1 .1, e))))
+
 refused-requires : tie.Need-refused-requires
 refused-requires c κs = search needs
 
@@ -32,7 +37,8 @@ returns : tie.Need-returns
 returns c =
     let a = c .before .before .before .before .before .args in
     let e = restart-1 (a .disk .now) (a .memory .now) (a .tail .now) (a .allowed) (rw (ne-eqb (length (a .disk .now)) 33691 (c .before .if1 .taken))) in
-    leaves e (c .refused .ensures) refl refl refl
+    with-stop (leaves e (c .refused .ensures .0) refl refl refl)
+    (c .refused .ensures .1 ∙ sym (stopped-by (a .disk .now) (a .memory .now) (a .tail .now) (a .allowed) e))
 
 refused-requires-2 : tie.Need-refused-requires-2
 refused-requires-2 c κs = search needs
@@ -42,7 +48,8 @@ returns-2 c =
     let a = c .before .before .before .before .before .before .args in
     let e = restart-1 (a .disk .now) (a .memory .now) (a .tail .now) (a .allowed)
     (rw (eq-eqb (length (a .disk .now)) 33691 (c .before .before .if1 .left), ne-eqb (length (a .memory .now)) 4096 (c .before .if2 .taken))) in
-    leaves e (c .refused2 .ensures) refl refl refl
+    with-stop (leaves e (c .refused2 .ensures .0) refl refl refl)
+    (c .refused2 .ensures .1 ∙ sym (stopped-by (a .disk .now) (a .memory .now) (a .tail .now) (a .allowed) e))
 
 refused-requires-3 : tie.Need-refused-requires-3
 refused-requires-3 c κs = search needs
@@ -57,7 +64,8 @@ returns-3 c =
           (c .before .before .if2 .left),
       ne-eqb (length (a .tail .now)) 16384 (c .before .if3 .taken),
     )) in
-    leaves e (c .refused3 .ensures) refl refl refl
+    with-stop (leaves e (c .refused3 .ensures .0) refl refl refl)
+    (c .refused3 .ensures .1 ∙ sym (stopped-by (a .disk .now) (a .memory .now) (a .tail .now) (a .allowed) e))
 
 examine-requires : tie.Need-examine-requires
 examine-requires c κs = search needs
@@ -88,10 +96,22 @@ returns-4 c =
     let w = lent x in
     let a = start x .args in
     let n = ap (λ (r : Examined). r .number) (x .examine .ensures .0) in
-    leaves
-    (restart-refused (a .disk .now) (a .memory .now) (a .tail .now) (a .allowed) (w .before .before .if1 .left) (w .before .if2 .left) (w .if3 .left)
-    (λ z. c .before .if4 .taken (n ∙ z)))
-    (c .refused4 .ensures ∙ ap refusedRestart n) refl (x .examine .ensures .1 .0) (x .examine .ensures .1 .1)
+    let e =
+    restart-refused (a .disk .now) (a .memory .now) (a .tail .now) (a .allowed) (w .before .before .if1 .left) (w .before .if2 .left) (w .if3 .left)
+    (λ z. c .before .if4 .taken (n ∙ z)) in
+    with-stop (leaves e (c .refused4 .ensures .0 ∙ ap refusedRestart n) refl (x .examine .ensures .1 .0) (x .examine .ensures .1 .1))
+    (c .refused4 .ensures .1 ∙ sym (stopped-by (a .disk .now) (a .memory .now) (a .tail .now) (a .allowed) e))
+
+-- ---- once no number refuses: the end lies within the log
+
+found-end : (x : tie.After-examine) → x .examine .result .end ≡ examineOf (start x .args .disk .now) .result .end
+found-end x = ap (λ (r : Examined). r .end) (x .examine .ensures .0)
+
+within : (x : tie.After-examine) → x .examine .result .end ≤ 16384
+within x = omega (arith, roomy (start x .args .disk .now), found-end x)
+
+stop-at-requires : tie.Need-stop-at-requires
+stop-at-requires c κs = let x = c .before .before .before .before .before .before .before in (lent x .before .before .if1 .left, within x)
 
 add-clear-down : tie.Need-add-clear-down
 add-clear-down c = search needs
@@ -111,18 +131,11 @@ clear-down-requires c κs = search needs
 -- ---- once stores are made
 
 abbrev examined : tie.After-clear-down → tie.After-examine
-examined k = k .before .before .before .before .before .before .before .before
-
-found-end : (x : tie.After-examine) → x .examine .result .end ≡ examineOf (start x .args .disk .now) .result .end
-found-end x = ap (λ (r : Examined). r .end) (x .examine .ensures .0)
-
--- the end lies within the log
-within : (x : tie.After-examine) → x .examine .result .end ≤ 16384
-within x = omega (arith, roomy (start x .args .disk .now), found-end x)
+examined k = k .before .before .before .before .before .before .before .before .before .before
 
 -- no number refuses
 taken : (k : tie.After-clear-down) → examineOf (start (examined k) .args .disk .now) .result .number ≡ 0
-taken k = sym (ap (λ (r : Examined). r .number) (examined k .examine .ensures .0)) ∙ k .before .before .if4 .left
+taken k = sym (ap (λ (r : Examined). r .number) (examined k .examine .ensures .0)) ∙ k .before .before .before .before .if4 .left
 
 -- the stores made
 made : (k : tie.After-clear-down) → let a = start (examined k) .args in
@@ -150,14 +163,23 @@ sub-if5 c = within (examined (c .before .before))
 cut-off-requires : tie.Need-cut-off-requires
 cut-off-requires c κs = search needs
 
+-- memory and tail keep their lengths
+kept : (c : tie.After-state)
+    → let x = examined (afterClearDownFromState c) in let off = c .before .before .before .before .before .cut-off in
+    (length (off .last .0) ≡ length (start x .args .memory .now)) × (length (off .last .1 .0) ≡ length (start x .args .tail .now))
+kept c =
+    let x = examined (afterClearDownFromState c) in
+    let off = c .before .before .before .before .before .cut-off in
+    (off .kept .0 ∙ x .examine .kept .1 .0, off .kept .1 .0 ∙ x .examine .kept .1 .1 .0)
+
 same-length-4 : tie.Need-same-length-4
 same-length-4 c = search needs
 
 same-length-5 : tie.Need-same-length-5
-same-length-5 c = search needs
+same-length-5 c = kept c .0
 
 same-length-6 : tie.Need-same-length-6
-same-length-6 c = search needs
+same-length-6 c = kept c .1
 
 returns-5 : tie.Need-returns-5
 returns-5 c =
@@ -167,13 +189,16 @@ returns-5 c =
     let a = start x .args in
     let l = clearing-length (examineOf (a .disk .now) .result .end) in
     let off = c .before .before .before .before .before .cut-off in
-    leaves
-    (restart-cut (a .disk .now) (a .memory .now) (a .tail .now) (a .allowed) (w .before .before .if1 .left) (w .before .if2 .left) (w .if3 .left) (taken k)
-    (omega (arith, made k, found-end x, then5FromState c .if5 .taken)))
+    let e =
+    restart-cut (a .disk .now) (a .memory .now) (a .tail .now) (a .allowed) (w .before .before .if1 .left) (w .before .if2 .left) (w .if3 .left) (taken k)
+    (omega (arith, made k, found-end x, then5FromState c .if5 .taken)) in
+    with-stop
+    (leaves e
     (ap₂ (λ (n : ℕ) (s : State). tells cut 0 n s) (made k) (ap (λ (r : Told). r .state) (off .ensures .0)))
     (emptied k)
     (off .ensures .1 .0 ∙ ap (λ (n : ℕ). replicate n 0) (x .examine .kept .1 .0 ∙ w .before .if2 .left))
-    (off .ensures .1 .1 ∙ ap (λ (n : ℕ). replicate n 0) (x .examine .kept .1 .1 .0 ∙ w .if3 .left))
+    (off .ensures .1 .1 ∙ ap (λ (n : ℕ). replicate n 0) (x .examine .kept .1 .1 .0 ∙ w .if3 .left)))
+    (sym (stopped-by (a .disk .now) (a .memory .now) (a .tail .now) (a .allowed) e))
 
 cast-recovered : tie.Need-cast-recovered
 cast-recovered c = omega (arith, within (examined (c .before .before .before .before .before)))
@@ -197,14 +222,18 @@ returns-6 c =
     let w = lent x in
     let a = start x .args in
     let l = clearing-length (examineOf (a .disk .now) .result .end) in
-    leaves
-    (restart-done (a .disk .now) (a .memory .now) (a .tail .now) (a .allowed) (w .before .before .if1 .left) (w .before .if2 .left) (w .if3 .left) (taken k)
-    (omega (arith, made k, found-end x, c .before .before .before .if5 .left)))
+    let e =
+    restart-done (a .disk .now) (a .memory .now) (a .tail .now) (a .allowed) (w .before .before .if1 .left) (w .before .if2 .left) (w .if3 .left) (taken k)
+    (omega (arith, made k, found-end x, c .before .before .before .if5 .left)) in
+    with-stop
+    (leaves e
     (ap₂ (λ (n : ℕ) (s : State). tells done (x .examine .result .undone) n s) (made k) (c .recovered .ensures)
     ∙ ap (λ (r : Examined). tells done (r .undone) (min (a .allowed) (length (clearing (examineOf (a .disk .now) .result .end))))
     (recoveredState (r .end) (r .csn) (r .last)))
     (x .examine .ensures .0))
-    (emptied k) (x .examine .ensures .1 .0) (x .examine .ensures .1 .1)
+    (emptied k) (x .examine .ensures .1 .0) (x .examine .ensures .1 .1))
+    (ap At (k .before .before .stop-at .ensures ∙ stop-found (a .disk .now) (x .examine .result .end) (found-end x))
+    ∙ sym (stopped-by (a .disk .now) (a .memory .now) (a .tail .now) (a .allowed) e))
 
 pub restart-spec : {M : Type 1} → statement M
 restart-spec =
@@ -222,6 +251,7 @@ restart-spec =
     same-length-2
     same-length-3
     returns-4
+    stop-at-requires
     add-clear-down
     sub-clear-down
     part-clear-down-start

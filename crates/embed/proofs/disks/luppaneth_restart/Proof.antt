@@ -1,7 +1,9 @@
+use Prim.Native.Nat.{ℕ}
 use native.Mathlib.Omega.{arith}
-use mathlib.Core.Path.{ap, _∙_}
+use mathlib.Core.Path.{ap, ap₂, _∙_}
 use borrow.Author.Needs.{needs}
-use Rattle.embed.specs.Reply.{replyOf}
+use Rattle.embed.specs.declared.Reply.{Reply}
+use Rattle.embed.specs.Reply.{stopNumber, replyOf}
 use Rattle.store.specs.Answer.{Told}
 use Rattle.embed.proofs.Replies.{few-undone}
 use Rattle.embed.proofs.disks.luppaneth_restart.Statement.{statement}
@@ -22,6 +24,9 @@ cast-answered c =
 answered-requires : tie.Need-answered-requires
 answered-requires c κs = search needs
 
+stop-number-requires : tie.Need-stop-number-requires
+stop-number-requires c κs = search needs
+
 same-length : tie.Need-same-length
 same-length c = search needs
 
@@ -31,10 +36,17 @@ same-length-2 c = search needs
 same-length-3 : tie.Need-same-length-3
 same-length-3 c = search needs
 
+abbrev withStop : ℕ → Reply → Reply
+withStop n r =
+    record { answer = r .answer; number = r .number; stop = n; value = r .value; stores = r .stores; state = r .state }
+
 returns : tie.Need-returns
 returns c =
-    let x = c .before .before .before .before .before .before .before .before .before .restart in
-    let told = c .answered .ensures ∙ ap replyOf (x .ensures .0) in (told, x .ensures .1)
+    let x = c .before .before .before .before .before .before .before .before .before .before .restart in
+    let e = x .ensures .1 in
+    let told =
+    ap₂ withStop (c .stop-number .ensures ∙ ap stopNumber (e .1 .1 .1)) (c .before .answered .ensures ∙ ap replyOf (x .ensures .0)) in
+    (told, (e .0, (e .1 .0, e .1 .1 .0)))
 
 pub luppaneth-restart-spec : {M : Type 1} → statement M
 luppaneth-restart-spec =
@@ -43,6 +55,7 @@ luppaneth-restart-spec =
     restart-requires
     cast-answered
     answered-requires
+    stop-number-requires
     same-length
     same-length-2
     same-length-3

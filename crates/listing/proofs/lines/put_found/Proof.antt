@@ -29,26 +29,26 @@ short c =
     lines-short (c .args .pointer) (c .args .state .logend) (c .args .state .ondisk .0) (c .args .state .lastid .0) (c .args .undone) (search needs)
     (search needs) (search needs) (search needs) (c .pre .1)
 
--- ---- after each line: how far the text reaches, in a buffer that is still of 64 bytes
+-- ---- after each line: how far the text reaches, in a buffer that is still of 80 bytes
 
-one : (c : tie.After-put-line) → (c .put-line .result ≤ 12) × (length (c .put-line .last .0) ≡ 64)
+one : (c : tie.After-put-line) → (c .put-line .result ≤ 12) × (length (c .put-line .last .0) ≡ 80)
 one c =
     let s = short (entry c) in
     (omega (arith, c .put-line .ensures .ends), omega (arith, c .put-line .kept .0, entry c .pre .0))
 
-two : (c : tie.After-put-line2) → (c .put-line2 .result ≤ 22) × (length (c .put-line2 .last .0) ≡ 64)
+two : (c : tie.After-put-line2) → (c .put-line2 .result ≤ 22) × (length (c .put-line2 .last .0) ≡ 80)
 two c =
     let s = short (entry (first c)) in
     let l = one (first c) in
     (omega (arith, c .put-line2 .ensures .ends, l .0), omega (arith, c .put-line2 .kept .0, l .1))
 
-three : (c : tie.After-put-line3) → (c .put-line3 .result ≤ 37) × (length (c .put-line3 .last .0) ≡ 64)
+three : (c : tie.After-put-line3) → (c .put-line3 .result ≤ 37) × (length (c .put-line3 .last .0) ≡ 80)
 three c =
     let s = short (entry (first (second c))) in
     let l = two (second c) in
     (omega (arith, c .put-line3 .ensures .ends, l .0), omega (arith, c .put-line3 .kept .0, l .1))
 
-four : (c : tie.After-put-line4) → (c .put-line4 .result ≤ 46) × (length (c .put-line4 .last .0) ≡ 64)
+four : (c : tie.After-put-line4) → (c .put-line4 .result ≤ 46) × (length (c .put-line4 .last .0) ≡ 80)
 four c =
     let s = short (entry (first (second (third c)))) in
     let l = three (third c) in

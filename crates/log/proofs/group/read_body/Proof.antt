@@ -5,20 +5,34 @@ use mathlib.Core.Path.{_≡_, sym, ap, _∙_}
 use lib.ListN.{length, drop, length-drop}
 use denote.Ref.{now}
 use mathlib.Core.List.{List}
-use mathlib.Core.Option.{some}
+use mathlib.Core.Option.{none, some}
 use Rattle.log.specs.Record.{redo, commit, readRecord, headOf}
 use Rattle.log.specs.Group.{readBody, committedIf, endOf}
+use Rattle.log.specs.Stop.{stopOf}
+use Rattle.log.specs.declared.group.GroupEnd.the-variants.{NoGroup}
 use Rattle.recovery.specs.Group.{Write}
 use Rattle.log.proofs.Basics.{from, Turned}
 use Rattle.log.proofs.RecordLaws.{record-within}
-use Rattle.log.proofs.GroupLaws.{bodyEnd, body-start, body-none, body-abort, body-other-redo, body-other-commit, body-other-csn, body-turn, body-last}
+use Rattle.log.proofs.GroupLaws.{
+  bodyEnd,
+  body-start,
+  body-none,
+  body-abort,
+  body-other-redo,
+  body-other-commit,
+  body-other-csn,
+  body-turn,
+  body-last,
+  stop-front,
+  stop-inside,
+}
 use Rattle.log.proofs.Inversions.{head-redo, head-commit, head-abort, head-nothing}
 use Rattle.log.proofs.group.read_body.Statement.{statement}
 use Rattle.log.proofs.group.read_body.Tie as tie
 
 abbrev Inv-loop : tie.InvT-loop
 Inv-loop s id prev at₀ at =
-    (at ≤ length s) × (endOf (committedIf (id .0) (prev .0 + 1) (readBody (prev .0) (id .0) s)) ≡ bodyEnd (prev .0) (id .0) at (drop at s))
+    (at ≤ length s) × (endOf (stopOf s) (committedIf (id .0) (prev .0 + 1) (readBody (prev .0) (id .0) s)) ≡ bodyEnd (prev .0) (id .0) at (drop at s))
 
 abbrev μ-loop : tie.MeasureT-loop
 μ-loop s id prev at₀ at = length s - at
@@ -58,7 +72,7 @@ entryFromElse4 c = c .before .before .before .before .before .before .before .be
 loop-holds : tie.Need-loop-holds Inv-loop μ-loop
 loop-holds c =
     let a = c .before .args in
-    (omega arith, body-start (committedIf (a .id .0) (a .prev .0 + 1) (readBody (a .prev .0) (a .id .0) (a .s .now))))
+    (omega arith, body-start (a .s .now) (committedIf (a .id .0) (a .prev .0 + 1) (readBody (a .prev .0) (a .id .0) (a .s .now))))
 
 sub-read-record : tie.Need-sub-read-record Inv-loop μ-loop
 sub-read-record c = search needs
@@ -77,10 +91,11 @@ enum-known-head c = search needs
 
 -- what was read at `at`
 read-at : (c : tie.After-read-record Inv-loop μ-loop)
-    → c .read-record .result ≡ headOf (readRecord (drop (c .before .before .loop .at) (c .before .before .before .before .args .s .now)))
+    → let t = drop (c .before .before .loop .at) (c .before .before .before .before .args .s .now) in
+    c .read-record .result ≡ headOf (stopOf t) (readRecord t)
 read-at c =
     c .read-record .ensures
-    ∙ ap (λ (t : List ℕ). headOf (readRecord t)) (from (c .before .before .before .before .args .s .now) (c .before .before .loop .at))
+    ∙ ap (λ (t : List ℕ). headOf (stopOf t) (readRecord t)) (from (c .before .before .before .before .args .s .now) (c .before .before .loop .at))
 
 redo-at : (c : tie.After-head Inv-loop μ-loop)
     → let s = c .before .before .before .before .before .before .args .s .now in
@@ -88,12 +103,12 @@ redo-at : (c : tie.After-head Inv-loop μ-loop)
     × (readRecord (drop (c .before .before .before .before .loop .at) s) ≡ some (redo (c .head .given .0 .0 .0) w))
     × (w .addr ≡ c .head .given .0 .1 .0)
     × (length (w .bytes) ≡ c .head .given .0 .1 .1 .0)
-redo-at c = head-redo _ _ _ _ (sym (read-at (c .before .before)) ∙ c .head .given .1)
+redo-at c = head-redo _ _ _ _ _ (sym (read-at (c .before .before)) ∙ c .head .given .1)
 
 commit-at : (c : tie.After-head2 Inv-loop μ-loop)
     → readRecord (drop (c .before .before .before .before .loop .at) (c .before .before .before .before .before .before .args .s .now))
     ≡ some (commit (c .head2 .given .0 .0 .0) (c .head2 .given .0 .1 .0 .0))
-commit-at c = head-commit _ _ _ (sym (read-at (c .before .before)) ∙ c .head2 .given .1)
+commit-at c = head-commit _ _ _ _ (sym (read-at (c .before .before)) ∙ c .head2 .given .1)
 
 returns : tie.Need-returns Inv-loop μ-loop
 returns c =
@@ -151,8 +166,8 @@ returns-4 c =
     ∙ body-other-csn _ _ _ _ _ _ (commit-at (afterHead2FromThen4 c))
     (c .before .before .before .before .before .before .if2 .left) (λ e. c .if4 .taken (omega (arith, e))))
 
-add-t19 : tie.Need-add-t19 Inv-loop μ-loop
-add-t19 c =
+add-t24 : tie.Need-add-t24 Inv-loop μ-loop
+add-t24 c =
     let s = entryFromElse4 c .args .s .now in
     let at = turnFromElse4 c .loop .at in
     let l : 8 ≤ length s - at = rw length-drop at
@@ -171,14 +186,27 @@ enum-told c = search needs
 
 returns-6 : tie.Need-returns-6 Inv-loop μ-loop
 returns-6 c = sym (c .before .before .before .before .loop .inv .1
-    ∙ body-abort _ _ _ _ _ (head-abort _ _ (sym (read-at (c .before .before)) ∙ c .enum-told .given .1)))
+    ∙ body-abort _ _ _ _ _ (head-abort _ _ _ (sym (read-at (c .before .before)) ∙ c .enum-told .given .1)))
 
-enum-told-2 : tie.Need-enum-told-2 Inv-loop μ-loop
-enum-told-2 c = search needs
+enum-known-head-3 : tie.Need-enum-known-head-3 Inv-loop μ-loop
+enum-known-head-3 c = search needs
+
+-- no whole record stands at `at`, and why
+nothing-at : (c : tie.After-head3 Inv-loop μ-loop)
+    → let t = drop (c .before .before .before .before .loop .at) (c .before .before .before .before .before .before .args .s .now) in
+    (readRecord t ≡ none) × (c .head3 .given .0 .0 ≡ stopOf t)
+nothing-at c = head-nothing _ _ _ (sym (read-at (c .before .before)) ∙ c .head3 .given .1)
 
 returns-7 : tie.Need-returns-7 Inv-loop μ-loop
-returns-7 c = sym (c .before .before .before .before .loop .inv .1
-    ∙ body-none _ _ _ _ (head-nothing _ (sym (read-at (c .before .before)) ∙ c .enum-told2 .given .1)))
+returns-7 c =
+    let l = c .before .before .before .before .before .before .loop in
+    sym (l .inv .1 ∙ body-none _ _ _ _ (nothing-at (c .before .before) .0) ∙ ap NoGroup (stop-inside (l .at) _ (omega (arith, c .if5 .taken))))
+
+returns-8 : tie.Need-returns-8 Inv-loop μ-loop
+returns-8 c =
+    let l = c .before .before .before .before .before .before .loop in
+    let n = nothing-at (c .before .before) in
+    ap NoGroup (n .1) ∙ sym (l .inv .1 ∙ body-none _ _ _ _ (n .0) ∙ ap NoGroup (stop-front (l .at) _ (c .if5 .left)))
 
 pub read-body-spec : {M : Type 1} → statement M
 read-body-spec =
@@ -203,9 +231,10 @@ read-body-spec =
     returns-3
     sub-if4
     returns-4
-    add-t19
+    add-t24
     returns-5
     enum-told
     returns-6
-    enum-told-2
-    returns-7)
+    enum-known-head-3
+    returns-7
+    returns-8)

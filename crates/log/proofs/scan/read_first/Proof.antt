@@ -5,7 +5,8 @@ use mathlib.Core.List.{List}
 use mathlib.Core.Path.{_≡_, refl, sym, ap, _∙_}
 use lib.ListN.{length, take, drop}
 use Rattle.log.specs.Group.{readGroup, endOf}
-use Rattle.log.specs.Log.{readLog, logEndOf}
+use Rattle.log.specs.Stop.{stopOf}
+use Rattle.log.specs.Log.{readLog, reachedOf}
 use Rattle.log.proofs.Basics.{from, Turned}
 use Rattle.log.proofs.LogLaws.{firstEnd, first-start, first-zero, first-none, first-turn}
 use Rattle.log.proofs.Inversions.{end-aborted, end-committed, end-none}
@@ -13,7 +14,7 @@ use Rattle.log.proofs.scan.read_first.Statement.{statement}
 use Rattle.log.proofs.scan.read_first.Tie as tie
 
 abbrev Inv-loop : tie.InvT-loop
-Inv-loop s k at₀ csn₀ left₀ at csn left = (at ≤ length s) × (logEndOf (csn₀ .0) (take k (readLog (csn₀ .0) s)) ≡ firstEnd at (csn .0) left (drop at s))
+Inv-loop s k at₀ csn₀ left₀ at csn left = (at ≤ length s) × (reachedOf (csn₀ .0) (take k (readLog (csn₀ .0) s)) ≡ firstEnd at (csn .0) left (drop at s))
 
 abbrev μ-loop : tie.MeasureT-loop
 μ-loop s k at₀ csn₀ left₀ at csn left = left
@@ -48,13 +49,13 @@ read-group-requires c κs = search needs
 
 -- what was read at `at`
 read-at : (c : tie.After-read-group Inv-loop μ-loop)
-    → c .read-group .result ≡ endOf
-    (readGroup (c .before .before .before .loop .csn .0)
-    (drop (c .before .before .before .loop .at) (c .before .before .before .before .before .args .s .now)))
+    → let l = c .before .before .before .loop in
+    let t = drop (l .at) (c .before .before .before .before .before .args .s .now) in
+    c .read-group .result ≡ endOf (stopOf t) (readGroup (l .csn .0) t)
 read-at c =
+    let l = c .before .before .before .loop in
     c .read-group .ensures
-    ∙ ap (λ (t : List ℕ). endOf (readGroup (c .before .before .before .loop .csn .0) t))
-    (from (c .before .before .before .before .before .args .s .now) (c .before .before .before .loop .at))
+    ∙ ap (λ (t : List ℕ). endOf (stopOf t) (readGroup (l .csn .0) t)) (from (c .before .before .before .before .before .args .s .now) (l .at))
 
 -- over an abort, over a commit
 over-abort : (c : tie.After-found Inv-loop μ-loop)
@@ -63,7 +64,7 @@ over-abort : (c : tie.After-found Inv-loop μ-loop)
     let next = l .at + c .found .given .0 .1 .0 in
     Turned s (l .at) next (firstEnd (l .at) (l .csn .0) (l .left) (drop (l .at) s)) (firstEnd next (l .csn .0) (l .left - 1) (drop next s))
 over-abort c =
-    let w = end-aborted _ _ _ (sym (read-at (c .before .before)) ∙ c .found .given .1) in
+    let w = end-aborted _ _ _ _ (sym (read-at (c .before .before)) ∙ c .found .given .1) in
     first-turn _ _ _ _ _ _ _ (c .before .before .before .before .before .loop .inv .0) (w .0) (w .1) refl (c .before .before .before .before .loop-test .taken)
 
 over-commit : (c : tie.After-found2 Inv-loop μ-loop)
@@ -73,7 +74,7 @@ over-commit : (c : tie.After-found2 Inv-loop μ-loop)
     let n = c .found2 .given .0 .1 .0 .0 in
     Turned s (l .at) next (firstEnd (l .at) (l .csn .0) (l .left) (drop (l .at) s)) (firstEnd next n (l .left - 1) (drop next s))
 over-commit c =
-    let w = end-committed _ _ _ _ (sym (read-at (c .before .before)) ∙ c .found2 .given .1) in
+    let w = end-committed _ _ _ _ _ (sym (read-at (c .before .before)) ∙ c .found2 .given .1) in
     first-turn _ _ _ _ _ _ _ (c .before .before .before .before .before .loop .inv .0) (w .1) (w .2) refl (c .before .before .before .before .loop-test .taken)
 
 enum-known-found : tie.Need-enum-known-found Inv-loop μ-loop
@@ -105,7 +106,7 @@ enum-told c = search needs
 
 returns : tie.Need-returns Inv-loop μ-loop
 returns c = sym (c .before .before .before .before .before .loop .inv .1
-    ∙ first-none _ _ (c .before .before .before .before .before .loop .left) _ (end-none _ (sym (read-at (c .before .before)) ∙ c .enum-told .given .1)))
+    ∙ first-none _ _ (c .before .before .before .before .before .loop .left) _ (end-none _ _ _ (sym (read-at (c .before .before)) ∙ c .enum-told .given .1) .0))
 
 returns-2 : tie.Need-returns-2 Inv-loop μ-loop
 returns-2 c = sym (c .before .loop .inv .1 ∙ first-zero _ _ (c .before .loop .left) _ (omega (arith, c .loop-test .left)))

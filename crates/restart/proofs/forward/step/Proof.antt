@@ -8,6 +8,7 @@ use borrow.Author.Needs.{needs}
 use Rattle.recovery.specs.Group.{Write, aborted, committed, redoSize}
 use Rattle.recovery.specs.Replay.{redoAll, layBytes}
 use Rattle.log.specs.Group.{readBody, readGroup, endOf}
+use Rattle.log.specs.Stop.{stopOf}
 use Rattle.log.proofs.Basics.{from}
 use Rattle.log.proofs.GroupLaws.{group-inv}
 use Rattle.log.proofs.Inversions.{end-aborted, end-committed, end-none}
@@ -41,23 +42,25 @@ abbrev entryFromPassGroup2 : tie.After-pass-group2 → tie.Start
 entryFromPassGroup2 c = entryFromSliceKnown2 (c .before)
 
 -- what was read at the end reached
-read-at : (c : tie.After-read-group) → let a =
-    c .before .before .before .before .before .args in c .read-group .result ≡ endOf (readGroup (a .p .csn .0) (drop (a .p .end) (a .log .now)))
+read-at : (c : tie.After-read-group)
+    → let a = c .before .before .before .before .before .args in
+    let t = drop (a .p .end) (a .log .now) in
+    c .read-group .result ≡ endOf (stopOf t) (readGroup (a .p .csn .0) t)
 read-at c =
     let a = c .before .before .before .before .before .args in
-    c .read-group .ensures ∙ ap (λ (t : List ℕ). endOf (readGroup (a .p .csn .0) t)) (from (a .log .now) (a .p .end))
+    c .read-group .ensures ∙ ap (λ (t : List ℕ). endOf (stopOf t) (readGroup (a .p .csn .0) t)) (from (a .log .now) (a .p .end))
 
 abort-at : (c : tie.After-group)
     → let a = c .before .before .before .before .before .before .before .args in
     (readGroup (a .p .csn .0) (drop (a .p .end) (a .log .now)) ≡ some (aborted (c .group .given .0 .0 .0))) × (c .group .given .0 .1 .0 ≡ 4)
-abort-at c = end-aborted _ _ _ (sym (read-at (c .before .before)) ∙ c .group .given .1)
+abort-at c = end-aborted _ _ _ _ (sym (read-at (c .before .before)) ∙ c .group .given .1)
 
 commit-at : (c : tie.After-group2)
     → let a = c .before .before .before .before .before .before .before .args in
     (ws : List Write) × (readGroup (a .p .csn .0) (drop (a .p .end) (a .log .now))
     ≡ some (committed (c .group2 .given .0 .0 .0) (c .group2 .given .0 .1 .0 .0) ws))
     × (c .group2 .given .0 .1 .1 .0 ≡ redoSize ws + 8)
-commit-at c = end-committed _ _ _ _ (sym (read-at (c .before .before)) ∙ c .group2 .given .1)
+commit-at c = end-committed _ _ _ _ _ (sym (read-at (c .before .before)) ∙ c .group2 .given .1)
 
 sub-read-group : tie.Need-sub-read-group
 sub-read-group c = search needs
@@ -160,7 +163,7 @@ returns-3 : tie.Need-returns-3
 returns-3 c =
     let a = c .before .before .before .before .before .before .before .args in
     let t = turn-none (a .ids) (a .n) (a .log .now) (wentBy (a .memory .now) (a .p))
-    (end-none _ (sym (read-at (c .before .before)) ∙ c .enum-told .given .1)) in
+    (end-none _ _ _ (sym (read-at (c .before .before)) ∙ c .enum-told .given .1) .0) in
     as-turn (a .ids) (a .n) (a .log .now) (wentBy (a .memory .now) (a .p)) _ _ _ t refl refl
 
 pub step-spec : {M : Type 1} → statement M
