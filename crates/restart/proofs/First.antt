@@ -2,14 +2,14 @@
 use Prim.Native.Nat.{ℕ, zero, suc, _≤_}
 use native.Mathlib.Omega.{arith}
 use mathlib.Core.Bool.{true}
-use mathlib.Core.List.{List, []}
-use mathlib.Core.Path.{_≡_, sym, ap, _∙_}
+use mathlib.Core.List.{List, [], _∷_}
+use mathlib.Core.Path.{_≡_, refl, sym, ap, _∙_}
 use lib.ListN.{length, take}
 use lib.Seq.{take-all}
 use Rattle.recovery.specs.Group.{Group, groupsSize, lastCsn}
 use Rattle.recovery.specs.Replay.{layBytes}
 use Rattle.recovery.specs.Restart.{forward}
-use Rattle.log.proofs.LogLaws.{log-whole}
+use Rattle.log.proofs.LogLaws.{log-within, log-whole}
 use Rattle.image.specs.declared.Image.{Image}
 use Rattle.image.specs.Content.{transactionsIn}
 use Rattle.image.specs.Rules.{keepsRules}
@@ -42,10 +42,18 @@ first-more k image log m = rest-last k image log (startOf image m)
 
 -- ---- in recovery's terms
 
+take-few : (k : ℕ) (gs : List Group) → groupsSize (take k gs) ≤ groupsSize gs
+take-few zero gs = omega arith
+take-few (suc k) [] = omega arith
+take-few (suc k) (g ∷ gs) = omega (arith, take-few k gs)
+
 module _ (k : ℕ) (image : Image) (log m : List ℕ) where
   pub first-end : firstOf k image log m .pass .end ≡ groupsSize (take k (groupsOf image log))
   unfolding firstOf
   first-end = omega (arith, counted image (take k (groupsOf image log)) (startOf image m) .end)
+
+  pub first-within : firstOf k image log m .pass .end ≤ length log
+  first-within = omega (arith, first-end, take-few k (groupsOf image log), log-within (image .ondisk .0) _ log refl)
 
   pub first-csn : firstOf k image log m .pass .csn .0 ≡ lastCsn (image .ondisk .0) (take k (groupsOf image log))
   unfolding firstOf

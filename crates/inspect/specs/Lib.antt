@@ -1,0 +1,2 @@
+-- What is looked up on a disk without a state.
+pub mod Groups
