@@ -1,2 +1,3 @@
--- Laws of what is looked up on a disk: the first groups of its log, by cases and from one number of groups to the next (Applying).
+-- Laws of what is looked up on a disk: the first groups of its log, by cases (Applying), and up to restart (Advancing).
 pub mod Applying
+pub mod Advancing
