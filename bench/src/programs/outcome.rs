@@ -18,6 +18,8 @@ pub fn stored(result: Result<(bool, usize, usize), Refusal>) -> Outcome {
         answer,
         value: value as u32,
         stores,
+        // The tuned program does not look for it.
+        stop: None,
     }
 }
 
@@ -34,5 +36,6 @@ fn answer(answer: Answer) -> Outcome {
         answer,
         value: 0,
         stores: 0,
+        stop: None,
     }
 }
