@@ -1,0 +1,95 @@
+-- One page of a disk's pattern: by cases, and sixteen of them laid together.
+use Prim.Native.Nat.{ℕ, zero, suc, _+_, _*_, _-_, _≤_, _<_}
+use native.Mathlib.Omega.{arith}
+use mathlib.Core.List.{List, _++_}
+use mathlib.Core.Path.{_≡_, refl, sym, ap, ap₂, _∙_}
+use lib.ListN.{length, take, drop, replicate, length-drop}
+use lib.Seq.{sets, length-take-le, take-add, take-all}
+use lib.Dec.{eqb, leb}
+use borrow.Author.Tests.{eq-eqb, ne-eqb, le-leb, lt-leb}
+use Rattle.log.proofs.StoreLaws.{sets-all}
+use Rattle.store.specs.Answer.{Word, done, refused}
+use Rattle.store.specs.Stored.{DiskOutcome}
+use Rattle.disk.specs.Examine.{examineOf}
+use Rattle.disk.specs.Restart.{restartOf}
+use Rattle.disk.proofs.Accepted.{accepted-is, memory-length}
+use Rattle.disk.proofs.Restarting.{Done?, done-inv, done-with, restart-refused}
+use Rattle.inspect.specs.Page.{PageLeft, pageIn, refusedPage, pageOf, laidTogether}
+use Rattle.inspect.proofs.Applying.{and-no}
+
+-- what was told and left is what a definition has, if it is what an equal one has
+pub as-page : {x y : PageLeft} {w : Word} {b : List ℕ} → x ≡ y → w ≡ y .says → b ≡ y .buffer → (w ≡ x .says) × (b ≡ x .buffer)
+as-page e p q = (p ∙ sym (ap (λ (z : PageLeft). z .says) e), q ∙ sym (ap (λ (z : PageLeft). z .buffer) e))
+
+-- ---- by cases
+
+module _ (disk : List ℕ) (page : ℕ) (buffer : List ℕ) where
+  pub page-no-disk : (length disk ≡ 33691 → ⊥) → pageOf disk page buffer ≡ refusedPage 1 buffer
+  unfolding pageOf
+  page-no-disk n = rw (ne-eqb (length disk) 33691 n)
+
+  pub page-no-buffer : (length buffer ≡ 256 → ⊥) → pageOf disk page buffer ≡ refusedPage 1 buffer
+  unfolding pageOf
+  page-no-buffer n = rw (ne-eqb (length buffer) 256 n, and-no (eqb (length disk) 33691))
+
+  module _ (d : length disk ≡ 33691) (b : length buffer ≡ 256) where
+    pub page-above : 16 ≤ page → pageOf disk page buffer ≡ refusedPage 17 buffer
+    unfolding pageOf
+    page-above h = rw (eq-eqb (length disk) 33691 d, eq-eqb (length buffer) 256 b, le-leb 16 page h)
+
+    module _ (h : page < 16) where
+      pub page-refused : (examineOf disk .result .number ≡ 0 → ⊥)
+          → pageOf disk page buffer ≡ record { says = refused (examineOf disk .result .number); buffer = replicate 256 0 }
+      unfolding pageOf
+      page-refused n =
+          rw (eq-eqb (length disk) 33691 d, eq-eqb (length buffer) 256 b, lt-leb 16 page h, ne-eqb (examineOf disk .result .number) 0 n)
+
+      pub page-done : examineOf disk .result .number ≡ 0 → pageOf disk page buffer ≡ record { says = done; buffer = pageIn page (examineOf disk .memory) }
+      unfolding pageOf
+      page-done e =
+          rw (eq-eqb (length disk) 33691 d, eq-eqb (length buffer) 256 b, lt-leb 16 page h, eq-eqb (examineOf disk .result .number) 0 e)
+
+-- ---- a page as it is lent, copied over a whole buffer
+
+pub page-copied : (page : ℕ) (memory buffer : List ℕ) → length memory ≡ 4096 → page < 16 → length buffer ≡ 256
+    → sets buffer 0 (take (page * 256 + 256 - page * 256) (drop (page * 256) memory)) ≡ pageIn page memory
+page-copied page memory buffer m h b =
+    let k : page * 256 + 256 - page * 256 ≡ 256 = omega arith in
+    let l : length (pageIn page memory) ≡ 256 =
+    length-take-le 256 (drop (page * 256) memory) (omega (arith, length-drop (page * 256) memory)) in
+    ap (λ (n : ℕ). sets buffer 0 (take n (drop (page * 256) memory))) k ∙ sets-all (pageIn page memory) buffer (omega arith)
+
+-- ---- sixteen pages
+
+laid-front : (f : ℕ → List ℕ) (m : List ℕ) (k : ℕ) → ((n : ℕ) → n < k → f n ≡ pageIn n m) → laidTogether f k ≡ take (k * 256) m
+laid-front f m zero h = refl
+laid-front f m (suc k) h =
+    let e : k * 256 + 256 ≡ suc k * 256 = omega arith in
+    ap₂ (λ (xs ys : List ℕ). xs ++ ys) (laid-front f m k (λ n l. h n (omega arith))) (h k (omega arith))
+    ∙ sym (take-add (k * 256) 256 m)
+    ∙ ap (λ (j : ℕ). take j m) e
+
+-- of a disk of its length, into whatever buffers of theirs
+module _ (disk : List ℕ) (d : length disk ≡ 33691) (lent : ℕ → List ℕ) (l : (n : ℕ) → length (lent n) ≡ 256) where
+  abbrev pageAt : ℕ → PageLeft
+  pageAt n = pageOf disk n (lent n)
+
+  -- laid together they are the memory of restart's own definition
+  pub pages-memory : examineOf disk .result .number ≡ 0 → laidTogether (λ n. pageAt n .buffer) 16 ≡ examineOf disk .memory
+  pages-memory e =
+      laid-front (λ n. pageAt n .buffer) (examineOf disk .memory) 16 (λ n h. ap (λ (x : PageLeft). x .buffer) (page-done disk n (lent n) d (l n) h e))
+      ∙ take-all 4096 (examineOf disk .memory) (omega (arith, memory-length disk d (accepted-is disk e)))
+
+  module _ (m t : List ℕ) (allowed : ℕ) where
+    -- a restart that is done leaves them
+    pub pages-restart : Done? (restartOf disk m t allowed) → laidTogether (λ n. pageAt n .buffer) 16 ≡ restartOf disk m t allowed .memory
+    pages-restart r =
+        let w = done-inv disk m t allowed r in
+        pages-memory (w .number) ∙ sym (ap (λ (o : DiskOutcome). o .memory) (done-with disk m t allowed w))
+
+    -- one that is refused by 3, 4 or 5 is refused as each of them is
+    pub pages-refused : length m ≡ 4096 → length t ≡ 16384 → (examineOf disk .result .number ≡ 0 → ⊥) → (n : ℕ) → n < 16
+        → pageAt n .says ≡ restartOf disk m t allowed .result .says
+    pages-refused u v z n h =
+        ap (λ (x : PageLeft). x .says) (page-refused disk n (lent n) d (l n) h z)
+        ∙ sym (ap (λ (o : DiskOutcome). o .result .says) (restart-refused disk m t allowed d u v z))
