@@ -1,10 +1,11 @@
-//! The fourteen refusals of document 01 by name.
+//! The refusals of documents 01 and 02 by name.
 
 use std::fmt;
 
 /// Why a call was refused. Refused, a call has changed nothing; restart alone zeroes memory and tail where it refuses a disk.
 ///
-/// The variants stand in document 01's order, which is the order in which a call tests them.
+/// Up to 14 the variants stand in document 01's order, which is the order in which a call tests them; what requests of document 02 add says
+/// itself where it is tested.
 #[derive(Clone, Copy, Debug, PartialEq, Eq, Hash)]
 pub enum Refusal {
     /// 1: a lent buffer hasn't its length. The types of this crate keep it away.
@@ -35,11 +36,13 @@ pub enum Refusal {
     LogFull = 13,
     /// 14: the transaction is running, or its commit isn't on disk.
     NotDurable = 14,
+    /// 17, after 1: there is no page above 15.
+    BadPage = 17,
 }
 
 impl Refusal {
-    /// All of them, in document 01's order.
-    pub const ALL: [Refusal; 14] = [
+    /// All of them, by their numbers.
+    pub const ALL: [Refusal; 15] = [
         Refusal::WrongLength,
         Refusal::Unfit,
         Refusal::BadPointer,
@@ -54,17 +57,19 @@ impl Refusal {
         Refusal::CounterAtEnd,
         Refusal::LogFull,
         Refusal::NotDurable,
+        Refusal::BadPage,
     ];
 
-    /// Document 01's number, 1 to 14.
+    /// The documents' number.
     pub fn number(self) -> u8 {
         self as u8
     }
 
     /// The refusal with that number.
     pub fn from_number(number: u8) -> Option<Refusal> {
-        let index = usize::from(number).checked_sub(1)?;
-        Refusal::ALL.get(index).copied()
+        Refusal::ALL
+            .into_iter()
+            .find(|refusal| refusal.number() == number)
     }
 
     fn wrong(self) -> &'static str {
@@ -83,6 +88,7 @@ impl Refusal {
             Refusal::CounterAtEnd => "the last transaction id or the last commit number was given",
             Refusal::LogFull => "the log is full: this needs more than is left of its 16,384 bytes",
             Refusal::NotDurable => "the transaction is running, or its commit isn't on disk yet",
+            Refusal::BadPage => "the page's number is above 15",
         }
     }
 
@@ -104,6 +110,7 @@ impl Refusal {
                 "the log never empties, so carry the pattern over to a fresh disk (`Store::renew`); what is booked stays, and a smaller step may still fit"
             }
             Refusal::NotDurable => "flush first",
+            Refusal::BadPage => "the pattern has sixteen pages of 256 bytes, counted from 0",
         }
     }
 }

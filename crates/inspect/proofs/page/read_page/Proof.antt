@@ -59,7 +59,7 @@ returns-4 c =
     let a = entry j .args in
     let d = j .before .before .before .before .if1 .left in
     let b = j .before .before .before .if2 .left in
-    as-page (page-refused (a .disk .now) (a .page) (a .buffer .now) d b (low j) (λ z. c .before .before .before .before .if4 .taken (number j ∙ z)))
+    as-page (page-refused (a .disk .now) (a .page) (a .buffer .now) d b (low j) (λ z. omega (arith, z, number j, c .before .before .before .before .if4 .taken)))
     (ap refused (number j)) (c .before .before .fill-zero .ensures ∙ ap (λ (n : ℕ). replicate n 0) b)
 
 mul-at : tie.Need-mul-at
