@@ -1,3 +1,5 @@
 -- What is looked up on a disk without a state.
 pub mod Groups
 pub mod Page
+pub mod Outcomes
+pub mod Walk
