@@ -76,7 +76,8 @@ enum luppaneth_number {
     LUPPANETH_COUNTER_AT_END = 12,        /* begin: id 65,535 was given. Precommit: commit number 4,294,967,295 was given */
     LUPPANETH_LOG_FULL = 13,              /* begin, write: the log has no room for it */
     LUPPANETH_NOT_DURABLE = 14,           /* settle: it is running, or its commit isn't on disk yet */
-    LUPPANETH_BAD_PAGE = 17               /* a page above 15; tested after 1 */
+    LUPPANETH_BAD_PAGE = 17,              /* a page above 15; tested after 1 */
+    LUPPANETH_BAD_LIST = 20               /* outcomes: the ids do not rise, or the lists have two lengths; tested after 1 */
 };
 
 /* A reply's `stop`: why the log ended where it did, as a restart that is done found it. */
@@ -110,6 +111,20 @@ struct luppaneth_groups_reply {
     uint8_t number; /* enum luppaneth_number where refused, else 0 */
     uint32_t csn;   /* the last commit number reached; 0 where refused */
     size_t end;     /* the log's end reached, counted from its first byte; 0 where refused */
+};
+
+/* Of luppaneth_outcomes. */
+struct luppaneth_outcomes_reply {
+    uint8_t answer; /* enum luppaneth_answer */
+    uint8_t number; /* enum luppaneth_number where refused, else 0 */
+    size_t groups;  /* the groups of the log, all of them walked once; 0 where refused */
+};
+
+/* What luppaneth_outcomes tells of an id, by its last group in the log. */
+enum luppaneth_outcome {
+    LUPPANETH_NEITHER = 0,   /* the log has no group of it */
+    LUPPANETH_COMMITTED = 1, /* it went through */
+    LUPPANETH_ABORTED = 2    /* it was taken back */
 };
 
 /* ---- The library's calls. memory, tail and disk have to have the lengths above, else number 1. */
@@ -168,6 +183,11 @@ struct luppaneth_groups_reply luppaneth_first_groups(const unsigned char *disk, 
 /* The buffer of 256 bytes becomes one of the pattern's sixteen pages, counted from 0, as a restart would leave it; nothing is stored on the disk.
  * Returns 0, or the number that refuses: 1 or 17 (the buffer stays), 3, 4 or 5 as a restart would give (the buffer is zeroed). */
 uint8_t luppaneth_read_page(const unsigned char *disk, size_t disk_len, size_t page, unsigned char *buffer, size_t buffer_len);
+
+/* Of each id its enum luppaneth_outcome, in the same place of the second list: by one walk over the log from its first byte, whatever the images
+ * hold. The ids have to rise, each above the one before it. Refused by 1 or 20, the list of outcomes stays. */
+struct luppaneth_outcomes_reply luppaneth_outcomes(const unsigned char *disk, size_t disk_len, const uint16_t *ids, size_t ids_len,
+                                                   unsigned char *outcomes, size_t outcomes_len);
 
 /* Whether a restart accepts both disks and leaves the same memory. Neither is changed. */
 bool luppaneth_equal(const unsigned char *a, size_t a_len, const unsigned char *b, size_t b_len);
@@ -235,6 +255,14 @@ static inline int lup_first_groups(struct luppaneth *l, size_t groups, size_t *e
 static inline int lup_read_page(const struct luppaneth *l, size_t page, unsigned char buffer[LUPPANETH_PAGE_LEN])
 {
     return luppaneth_read_page(l->disk, sizeof l->disk, page, buffer, LUPPANETH_PAGE_LEN);
+}
+
+/* The outcomes of count ids, which have to rise, in l->disk's log. *groups: those of the log. */
+static inline int lup_outcomes(const struct luppaneth *l, const uint16_t *ids, size_t count, unsigned char *outcomes, size_t *groups)
+{
+    struct luppaneth_outcomes_reply r = luppaneth_outcomes(l->disk, sizeof l->disk, ids, count, outcomes, count);
+    *groups = r.groups;
+    return r.number;
 }
 
 static inline int lup_begin(struct luppaneth *l, uint16_t *id)
@@ -320,6 +348,9 @@ static inline const char *lup_text(int answer)
         NULL,
         NULL,
         "the page is above 15",
+        NULL,
+        NULL,
+        "the ids do not rise, or the lists have two lengths",
     };
     if (answer == LUP_CUT)
         return "cut short";

@@ -38,11 +38,13 @@ pub enum Refusal {
     NotDurable = 14,
     /// 17, after 1: there is no page above 15.
     BadPage = 17,
+    /// 20, after 1: the ids do not rise, each above the one before it, or the two lists differ in length.
+    BadList = 20,
 }
 
 impl Refusal {
     /// All of them, by their numbers.
-    pub const ALL: [Refusal; 15] = [
+    pub const ALL: [Refusal; 16] = [
         Refusal::WrongLength,
         Refusal::Unfit,
         Refusal::BadPointer,
@@ -58,6 +60,7 @@ impl Refusal {
         Refusal::LogFull,
         Refusal::NotDurable,
         Refusal::BadPage,
+        Refusal::BadList,
     ];
 
     /// The documents' number.
@@ -89,6 +92,7 @@ impl Refusal {
             Refusal::LogFull => "the log is full: this needs more than is left of its 16,384 bytes",
             Refusal::NotDurable => "the transaction is running, or its commit isn't on disk yet",
             Refusal::BadPage => "the page's number is above 15",
+            Refusal::BadList => "the ids do not rise, or the two lists differ in length",
         }
     }
 
@@ -111,6 +115,7 @@ impl Refusal {
             }
             Refusal::NotDurable => "flush first",
             Refusal::BadPage => "the pattern has sixteen pages of 256 bytes, counted from 0",
+            Refusal::BadList => "sort the ids and leave out those that are there twice",
         }
     }
 }
