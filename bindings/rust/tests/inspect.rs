@@ -230,10 +230,20 @@ fn abort(id: u8) -> Vec<u8> {
 #[test]
 fn the_last_group_of_an_id_counts() {
     use Outcome::{Aborted, Committed, Neither};
-    let disk = logged(&[&commit(7, 1), &abort(3), &abort(7), &commit(9, 2), &abort(5), &commit(5, 3)]);
+    let disk = logged(&[
+        &commit(7, 1),
+        &abort(3),
+        &abort(7),
+        &commit(9, 2),
+        &abort(5),
+        &commit(5, 3),
+    ]);
     let found = outcomes(&disk, &[0, 3, 5, 7, 8, 9, 65_535]).unwrap();
     assert_eq!(found.groups, 6);
-    assert_eq!(found.outcomes, [Neither, Aborted, Committed, Aborted, Neither, Committed, Neither]);
+    assert_eq!(
+        found.outcomes,
+        [Neither, Aborted, Committed, Aborted, Neither, Committed, Neither]
+    );
     let none = outcomes(&disk, &[]).unwrap();
     assert_eq!((none.groups, none.outcomes), (6, vec![]));
 }
@@ -245,7 +255,10 @@ fn ids_have_to_rise() {
     assert_eq!(outcomes(&disk, &[4, 3]), Err(Refusal::BadList));
     assert_eq!(outcomes(&disk, &[3, 4, 9, 5]), Err(Refusal::BadList));
     let all: Vec<u16> = (0..=65_535).collect();
-    assert_eq!(outcomes(&disk, &all).unwrap().outcomes, [Outcome::Neither; 65_536]);
+    assert_eq!(
+        outcomes(&disk, &all).unwrap().outcomes,
+        [Outcome::Neither; 65_536]
+    );
 }
 
 /// What the office is told is what a restart keeps: the booking that got to the disk, not the one that did not.
@@ -259,7 +272,10 @@ fn a_booking_that_was_cut_off_is_neither() {
     let (d, m, t) = (&mut b.disk, &mut b.memory, &mut b.tail);
     assert!(b.state.flush(d, m, t, ALL, 31).unwrap().cut);
     let found = outcomes(&b.disk, &[one.0, two.0]).unwrap();
-    assert_eq!((found.groups, found.outcomes), (1, vec![Outcome::Committed, Outcome::Neither]));
+    assert_eq!(
+        (found.groups, found.outcomes),
+        (1, vec![Outcome::Committed, Outcome::Neither])
+    );
     b.restart();
     assert_eq!(b.memory[10], 5);
 }
