@@ -32,7 +32,7 @@ shared-slice-read-next c = search needs
 returns-2 : tie.Need-returns-2 Inv-loop μ-loop
 returns-2 c =
     let l = c .before .before .before .loop in
-    sym (l .inv .1 ∙ rising-stop (c .before .before .before .before .before .before .args .ids .now) (l .last) (l .i) (c .before .before .loop-test .taken) (c .if2 .taken))
+    sym (l .inv .1 ∙ rising-stop (c .before .before .before .before .before .before .args .ids .now) (l .last) (l .i) (c .before .before .loop-test .taken) (omega (arith, c .if2 .taken)))
 
 add-i : tie.Need-add-i Inv-loop μ-loop
 add-i c = search needs

@@ -35,7 +35,7 @@ refused-requires-2 c κs = search needs
 returns-2 : tie.Need-returns-2
 returns-2 c =
     let a = c .before .before .before .before .before .before .args in
-    as-outcomes (outcomes-unequal (a .disk .now) (a .ids .now) (a .out .now) (c .before .before .if1 .left) (c .before .if2 .taken)) (c .refused2 .ensures) refl
+    as-outcomes (outcomes-unequal (a .disk .now) (a .ids .now) (a .out .now) (c .before .before .if1 .left) (λ z. omega (arith, z, c .before .if2 .taken))) (c .refused2 .ensures) refl
 
 is-rising-requires : tie.Need-is-rising-requires
 is-rising-requires c κs = search needs
