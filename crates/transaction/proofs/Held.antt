@@ -2,10 +2,10 @@
 use Prim.Native.Nat.{ℕ, _+_, _≤_, _<_}
 use native.Mathlib.Decide.{decLe}
 use native.Mathlib.Omega.{arith}
-use mathlib.Core.Bool.{Bool, true, false, _||_}
+use mathlib.Core.Bool.{Bool, true, false, not, _&&_, _||_}
 use mathlib.Core.List.{List, [], _∷_, _++_}
-use mathlib.Core.Path.{_≡_, refl, ap, _∙_}
-use lib.Dec.{ltb}
+use mathlib.Core.Path.{_≡_, refl, sym, _∙_}
+use lib.Dec.{eqb, ltb}
 use borrow.Author.Tests.{ltb-true, lt-ltb, eq-eqb, ne-eqb}
 use Rattle.recovery.specs.Lists.{any}
 use Rattle.log.proofs.Basics.{and-left, and-right}
@@ -61,3 +61,14 @@ module _ (t : Tx) (a n : ℕ) where
 
   pub from-reads : any (meets a n) (writtenBy t) ≡ false → any (meets a n) (heldFrom true t) ≡ any (meets a n) (readsOf t)
   from-reads e = or-any (meets a n) (writtenBy t) (readsOf t) ∙ rw e
+
+  -- what is free to write is free to read
+  pub free-read : (id : ℕ) → heldAgainst true id a n t ≡ false → heldAgainst false id a n t ≡ false
+  unfolding heldAgainst
+  free-read id = go (not (eqb id (t .id .0))) (eqb (t .status) 1) (any (meets a n) (writtenBy t)) refl
+    where
+      go : (o r x : Bool) → any (meets a n) (writtenBy t) ≡ x → o && (r && any (meets a n) (heldFrom true t)) ≡ false → o && (r && x) ≡ false
+      go false r x e h = refl
+      go true false x e h = refl
+      go true true false e h = refl
+      go true true true e h = let y : true ≡ false = sym (from-written true e) ∙ h in cc

@@ -1,84 +1,80 @@
 use borrow.Author.Needs.{needs}
-use Prim.Native.Nat.{ℕ, _+_, _-_}
-use native.Mathlib.Omega.{arith}
-use mathlib.Core.Path.{_≡_, sym, ap, _∙_}
-use lib.ListN.{length, take, drop}
-use Rattle.store.specs.Numbers.{readChecks}
-use Rattle.store.specs.Calls.{readNumber}
-use Rattle.store.specs.Admission.{admission, choice}
-use Rattle.store.proofs.Admitting.{seen}
-use Rattle.store.proofs.SameNumbers.{read-first}
-use Rattle.store.proofs.Bare.{judged, admitted-by, seen-by, chosen-by}
-use Rattle.store.proofs.Calling.{chosen-number, read-refused, read-done}
-use Rattle.store.proofs.Passing.{ReadPassed, read-passed}
 use Rattle.store.proofs.State.read.Statement.{statement}
 use Rattle.store.proofs.State.read.Tie as tie
+use Rattle.store.proofs.State.read.Reads as reads
+use Rattle.store.proofs.State.read.Lts as lts
+use Rattle.store.proofs.State.extents.Reads as extents-reads
+use Rattle.store.proofs.extents.StateExtents.admit.Reads as admit-reads
+use Rattle.store.proofs.extents.StateExtents.choose_read.Reads as choose-read-reads
+use Rattle.store.proofs.extents.StateExtents.covers.Reads as covers-reads
 
+-- src/call.rt:90:13
 extents-requires : tie.Need-extents-requires
 extents-requires c κs = search needs
 
--- what is decided by the state's extents is decided of the state
-admitted : (c : tie.After-admit) → let a = c .before .before .before .before .args in c .admit .result ≡ admission (a .self) (length (a .memory .now)) (a .tail .now)
-admitted c = let a = c .before .before .before .before .args in admitted-by (a .self) _ (c .before .extents .ensures) (length (a .memory .now)) (a .tail .now) _ (c .admit .ensures)
-
-chosen : (c : tie.After-choose-read) → let a = c .before .before .before .before .before .args in
-    c .choose-read .result ≡ choice (a .self) (c .before .admit .result) (a .id .0) (readChecks (a .self) (a .id .0) (a .addr) (a .len))
-chosen c =
-    let a = c .before .before .before .before .before .args in
-    let h = judged (a .self) _ (c .before .before .extents .ensures) in
-    chosen-by (a .self) _ (c .before .before .extents .ensures) _ (a .id .0) _ _ (read-first _ _ h (a .id .0) (a .addr) (a .len)) _ (c .choose-read .ensures)
-
+-- src/call.rt:91:13
 admit-requires : tie.Need-admit-requires
 admit-requires c κs = search needs
 
+-- src/call.rt:92:13
 choose-read-requires : tie.Need-choose-read-requires
-choose-read-requires c κs = seen-by (c .before .before .before .before .args .self) _ (c .before .extents .ensures) (c .admit .result) (seen _ _ _ _ (admitted c))
+choose-read-requires c κs = ?
 
+-- src/call.rt:94:20
 sub-result : tie.Need-sub-result
 sub-result c = search needs
 
+-- src/call.rt:94:20
 part-result-start : tie.Need-part-result-start
 part-result-start c = search needs
 
+-- src/call.rt:94:20
 part-result-end : tie.Need-part-result-end
 part-result-end c = search needs
 
--- the number is read's own
-own : (c : tie.After-choose-read) → let a = c .before .before .before .before .before .args in
-    readNumber (a .self) (a .memory .now) (a .tail .now) (a .id) (a .addr) (a .len) ≡ c .choose-read .result .number
-own c =
-    let a = c .before .before .before .before .before .args in
-    chosen-number _ _ _ _ _ _ (λ n. readChecks (a .self) (a .id .0) (a .addr) (a .len)) (admitted (c .before)) (chosen c)
-
+-- src/call.rt:94:13
 returns : tie.Need-returns
-returns c =
-    let a = c .before .before .before .before .before .before .before .before .args in
-    sym (read-refused (a .self) (a .memory .now) (a .tail .now) (a .id) (a .addr) (a .len) _ (own (c .before .before .before)) (c .before .if1 .taken))
+returns c = ?
 
-found : (c : tie.Else1) → let a = c .before .before .before .before .before .before .before .args in
-    ReadPassed (a .self) (a .memory .now) (a .tail .now) (a .id .0) (a .addr) (a .len)
-found c =
-    let a = c .before .before .before .before .before .before .before .args in
-    read-passed (a .self) (a .memory .now) (a .tail .now) (a .id) (a .addr) (a .len) (own (c .before .before) ∙ c .if1 .left)
+-- src/call.rt:96:13
+covers-requires : tie.Need-covers-requires
+covers-requires c κs = ?
 
-add-result : tie.Need-add-result
-add-result c = omega (arith, found c .range .within)
-
+-- src/call.rt:97:20
 sub-result-2 : tie.Need-sub-result-2
-sub-result-2 c = omega arith
+sub-result-2 c = search needs
 
+-- src/call.rt:97:20
 part-result-start-2 : tie.Need-part-result-start-2
-part-result-start-2 c = omega arith
+part-result-start-2 c = search needs
 
+-- src/call.rt:97:20
 part-result-end-2 : tie.Need-part-result-end-2
-part-result-end-2 c = omega (arith, found c .range .within, found c .runs .memory)
+part-result-end-2 c = search needs
 
+-- src/call.rt:97:13
 returns-2 : tie.Need-returns-2
-returns-2 c =
-    let a = c .before .before .before .before .before .before .before .before .args in
-    let e : a .addr + a .len - a .addr ≡ a .len = omega arith in
-    ap (λ (k : ℕ). take k (drop (a .addr) (a .memory .now))) e
-    ∙ sym (read-done (a .self) (a .memory .now) (a .tail .now) (a .id) (a .addr) (a .len) (own (c .before .before .before) ∙ c .before .if1 .left))
+returns-2 c = ?
+
+-- src/call.rt:99:23
+add-result : tie.Need-add-result
+add-result c = ?
+
+-- src/call.rt:99:9
+sub-result-3 : tie.Need-sub-result-3
+sub-result-3 c = search needs
+
+-- src/call.rt:99:9
+part-result-start-3 : tie.Need-part-result-start-3
+part-result-start-3 c = search needs
+
+-- src/call.rt:99:9
+part-result-end-3 : tie.Need-part-result-end-3
+part-result-end-3 c = ?
+
+-- src/call.rt:80:5
+returns-3 : tie.Need-returns-3
+returns-3 c = ?
 
 pub read-spec : {M : Type 1} → statement M
 read-spec =
@@ -91,8 +87,13 @@ read-spec =
     part-result-start
     part-result-end
     returns
-    add-result
+    covers-requires
     sub-result-2
     part-result-start-2
     part-result-end-2
-    returns-2)
+    returns-2
+    add-result
+    sub-result-3
+    part-result-start-3
+    part-result-end-3
+    returns-3)

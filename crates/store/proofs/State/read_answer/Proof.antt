@@ -1,52 +1,44 @@
 use borrow.Author.Needs.{needs}
-use mathlib.Core.Path.{_≡_, sym, _∙_}
-use lib.ListN.{length}
-use Rattle.store.specs.Numbers.{readChecks}
-use Rattle.store.specs.Calls.{readNumber}
-use Rattle.store.specs.Admission.{admission, choice}
-use Rattle.store.proofs.Admitting.{seen}
-use Rattle.store.proofs.SameNumbers.{read-first}
-use Rattle.store.proofs.Bare.{judged, admitted-by, seen-by, chosen-by}
-use Rattle.store.proofs.Calling.{chosen-number, answer-refused, answer-done}
 use Rattle.store.proofs.State.read_answer.Statement.{statement}
 use Rattle.store.proofs.State.read_answer.Tie as tie
+use Rattle.store.proofs.State.read_answer.Reads as reads
+use Rattle.store.proofs.State.read_answer.Lts as lts
+use Rattle.store.proofs.State.extents.Reads as extents-reads
+use Rattle.store.proofs.State.read_step.Reads as read-step-reads
+use Rattle.store.proofs.extents.StateExtents.admit.Reads as admit-reads
+use Rattle.store.proofs.extents.StateExtents.choose_answer.Reads as choose-answer-reads
 
+-- src/call.rt:113:13
 extents-requires : tie.Need-extents-requires
 extents-requires c κs = search needs
 
--- what is decided by the state's extents is decided of the state
-admitted : (c : tie.After-admit) → let a = c .before .before .before .before .args in c .admit .result ≡ admission (a .self) (length (a .memory .now)) (a .tail .now)
-admitted c = let a = c .before .before .before .before .args in admitted-by (a .self) _ (c .before .extents .ensures) (length (a .memory .now)) (a .tail .now) _ (c .admit .ensures)
-
-chosen : (c : tie.After-choose-read) → let a = c .before .before .before .before .before .args in
-    c .choose-read .result ≡ choice (a .self) (c .before .admit .result) (a .id .0) (readChecks (a .self) (a .id .0) (a .addr) (a .len))
-chosen c =
-    let a = c .before .before .before .before .before .args in
-    let h = judged (a .self) _ (c .before .before .extents .ensures) in
-    chosen-by (a .self) _ (c .before .before .extents .ensures) _ (a .id .0) _ _ (read-first _ _ h (a .id .0) (a .addr) (a .len)) _ (c .choose-read .ensures)
-
+-- src/call.rt:114:13
 admit-requires : tie.Need-admit-requires
 admit-requires c κs = search needs
 
-choose-read-requires : tie.Need-choose-read-requires
-choose-read-requires c κs = seen-by (c .before .before .before .before .args .self) _ (c .before .extents .ensures) (c .admit .result) (seen _ _ _ _ (admitted c))
+-- src/call.rt:115:13
+choose-answer-requires : tie.Need-choose-answer-requires
+choose-answer-requires c κs = ?
 
--- the number is read's own
-own : (c : tie.After-choose-read) → let a = c .before .before .before .before .before .args in
-    readNumber (a .self) (a .memory .now) (a .tail .now) (a .id) (a .addr) (a .len) ≡ c .choose-read .result .number
-own c =
-    let a = c .before .before .before .before .before .args in
-    chosen-number _ _ _ _ _ _ (λ n. readChecks (a .self) (a .id .0) (a .addr) (a .len)) (admitted (c .before)) (chosen c)
-
+-- src/call.rt:117:13
 returns : tie.Need-returns
-returns c =
-    let a = c .before .before .before .before .before .before .before .args in
-    sym (answer-refused (a .self) (a .memory .now) (a .tail .now) (a .id) (a .addr) (a .len) _ (own (c .before .before)) (c .if1 .taken))
+returns c = ?
 
+-- src/call.rt:122:13
+read-step-requires : tie.Need-read-step-requires
+read-step-requires c κs = ?
+
+-- src/call.rt:103:5
 returns-2 : tie.Need-returns-2
-returns-2 c =
-    let a = c .before .before .before .before .before .before .before .args in
-    sym (answer-done (a .self) (a .memory .now) (a .tail .now) (a .id) (a .addr) (a .len) (own (c .before .before) ∙ c .if1 .left))
+returns-2 c = ?
 
 pub read-answer-spec : {M : Type 1} → statement M
-read-answer-spec = tie.close (tie.spec extents-requires admit-requires choose-read-requires returns returns-2)
+read-answer-spec =
+    tie.close
+    (tie.spec
+    extents-requires
+    admit-requires
+    choose-answer-requires
+    returns
+    read-step-requires
+    returns-2)
