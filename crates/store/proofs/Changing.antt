@@ -116,7 +116,7 @@ module _ (s : State) (t : List ℕ) (f : Fit s t) where
         ]
 
     -- which slot of s a slot of r was
-    was : (i : ℕ) → i < r .count → (k : ℕ) × (txAt r i ≡ txAt s k) × (k < s .count) × (i ≤ k) × (k ≤ i + 1) × (i < j → k ≡ i) × (j ≤ i → k ≡ i + 1)
+    pub was : (i : ℕ) → i < r .count → (k : ℕ) × (txAt r i ≡ txAt s k) × (k < s .count) × (i ≤ k) × (k ≤ i + 1) × (i < j → k ≡ i) × (j ≤ i → k ≡ i + 1)
     was i l =
         elim (decLt i j) [
           | yes a ↦ (i, d .before i a, omega (arith, l, count), omega arith, omega arith, λ q. refl, λ q. absurd (omega (arith, a, q)))

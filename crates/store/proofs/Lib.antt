@@ -22,6 +22,7 @@ pub mod ReadFits
 pub mod PrecommittedFits
 pub mod DroppedFits
 pub mod Keeping
+pub mod Apart
 pub mod Storing
 pub mod Flushing
 pub mod Checkpointing

@@ -33,7 +33,7 @@ module _ (a n b m : ℕ) where
 
 -- ---- held by a transaction, or not
 
-or-any : {A : Type 0} (p : A → Bool) (xs ys : List A) → any p (xs ++ ys) ≡ any p xs || any p ys
+pub or-any : {A : Type 0} (p : A → Bool) (xs ys : List A) → any p (xs ++ ys) ≡ any p xs || any p ys
 or-any p [] ys = refl
 or-any p (x ∷ xs) ys = go (p x) (or-any p xs ys)
   where
