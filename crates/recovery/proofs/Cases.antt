@@ -30,10 +30,10 @@ memory10 b = set zeros 10 b
 
 -- a transaction that wrote at address 10, over these old bytes, oldest first
 abbrev ran : ℕ → List Write → Tx
-ran id old = record { id = id; committing = false; csn = 0; undo = old; redo = [] }
+ran id old = record { id = id; committing = false; csn = 0; undo = old; redo = []; savepoints = [] }
 
 abbrev precommitted : ℕ → ℕ → List Write → Tx
-precommitted id csn old = record { id = id; committing = true; csn = csn; undo = old; redo = [] }
+precommitted id csn old = record { id = id; committing = true; csn = csn; undo = old; redo = []; savepoints = [] }
 
 unfoldable pub rows : List Row
 rows =

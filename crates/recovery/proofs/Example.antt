@@ -6,10 +6,9 @@ use lib.ListN.{replicate, set}
 use Rattle.recovery.specs.Group.{Write}
 use Rattle.recovery.specs.Lists.{nil}
 use Rattle.recovery.specs.Restart.{undoOrder}
-use Rattle.recovery.specs.Ledger.{Commit, Ledger}
+use Rattle.recovery.specs.Ledger.{Commit, Ledger, layCommits}
 use Rattle.recovery.specs.Machine.{Opening, freshOpening, standingBefore, System, diskOf, recovered, newTx, withWrite, inCommit, begins, writes}
 use Rattle.recovery.specs.Machine.{precommits, rollsBack, flushes, flushIsCut, settles, checkpoints, restarts, Run, opened, next}
-use Rattle.recovery.specs.Claim.{layCommits}
 use Rattle.recovery.proofs.Cases.{byte10}
 use Rattle.recovery.proofs.Theorem.{theorem}
 

@@ -11,10 +11,10 @@ use Rattle.recovery.specs.Group.{Group, groupsSize}
 use Rattle.recovery.specs.Lists.{nil}
 use Rattle.recovery.specs.Transaction.{Tx}
 use Rattle.recovery.specs.Restart.{undoOrder}
-use Rattle.recovery.specs.Ledger.{Event, Commit, Ledger, noLedger, committedIn, enter}
+use Rattle.recovery.specs.Ledger.{Event, Commit, Ledger, noLedger, committedIn, layCommits, enter}
 use Rattle.recovery.specs.Machine.{Opening, Disk, historyOf, standingBefore, Live, System, down, up, diskOf, openingDisk, Listed, Step, stays, begins}
 use Rattle.recovery.specs.Machine.{writes, precommits, rollsBack, flushes, flushIsCut, settles, checkpoints, checkpointIsCut, restarts, restartIsCut, Run, opened, next}
-use Rattle.recovery.specs.Claim.{commits, layCommits, Claim}
+use Rattle.recovery.specs.Claim.{commits, Claim}
 use Rattle.recovery.proofs.Lists.{prefix-whole}
 use Rattle.recovery.proofs.Distinct.{empty}
 use Rattle.recovery.proofs.Groups.{groupsSize-append, replay-append}
@@ -53,7 +53,7 @@ module _ (o : Opening) where
   keeps s t e k (restarts s′ lastId image-ids group-ids) v = restart-keeps o (diskOf s′) k lastId image-ids group-ids (lasts s′ k v)
   keeps s t e k (restartIsCut s′) v = down-emptied o (diskOf s′) k (lasts s′ k v)
 
-  start : Down o (openingDisk o) noLedger
+  start : Down o (openingDisk o) (noLedger (o .memory))
   unfolding undoOrder baseAt
   start = record {
     imageDistinct = empty;

@@ -13,9 +13,9 @@ use borrow.Author.Tests.{eqb-true}
 use Rattle.recovery.specs.Group.{Write}
 use Rattle.recovery.specs.Lists.{All}
 use Rattle.recovery.specs.Transaction.{Tx, running, committing, heldByOther, reserved}
-use Rattle.recovery.specs.Replay.{replay, layBytes}
-use Rattle.recovery.specs.Ledger.{Ledger, OpenTx, addWrite, enterWrote}
-use Rattle.recovery.specs.Machine.{Opening, Disk, Live, Listed, roomUsed, oldBytes, withWrite, afterWrite}
+use Rattle.recovery.specs.Replay.{replay, layBytes, oldBytes}
+use Rattle.recovery.specs.Ledger.{Ledger, OpenTx, editOpen, addWrites, enterWrote}
+use Rattle.recovery.specs.Machine.{Opening, Disk, Live, Listed, roomUsed, withWrite, afterWrite}
 use Rattle.recovery.proofs.Bool.{some-none}
 use Rattle.recovery.proofs.Lists.{all-map, all-zip, all-less, all-edit}
 use Rattle.recovery.proofs.Distinct.{distinct-edit}
@@ -26,7 +26,7 @@ use Rattle.recovery.proofs.LiveByte.{Quiet, RunningAt, Touch, miss, hit
 use Rattle.recovery.proofs.Held.{unheld}
 use Rattle.recovery.proofs.TailFit.{foreign-map}
 use Rattle.recovery.proofs.Follows.{Over, Linked, here, there}
-use Rattle.recovery.proofs.Ledger.{opens, add-one}
+use Rattle.recovery.proofs.Ledger.{opens, edit-one}
 use Rattle.recovery.proofs.Invariant.{Standing, AtByte, Up, baseAt}
 
 linked-edit : {t : Tx} (xs : List Tx) (r r′ : Tx) (ys : List Tx) → r′ .id ≡ r .id → (Over t r → Over t r′) → Linked t (xs ++ r ∷ ys) → Linked t (xs ++ r′ ∷ ys)
@@ -171,8 +171,8 @@ module _ (o : Opening) (d : Disk) (l : Live) (k : Ledger) (r : Tx) (w : Write) (
       durable = u .ledger .durable;
       assigned = u .ledger .assigned;
       queue = u .ledger .queue;
-      active = ap (λ (ss : List OpenTx). map (addWrite (r .id) w) ss) (u .ledger .active ∙ ap opens runnings)
-          ∙ (add-one r old w xs ys apart ∙ ap opens (sym runnings′));
+      active = ap (λ (ss : List OpenTx). editOpen (r .id) (addWrites (w ∷ [])) ss) (u .ledger .active ∙ ap opens runnings)
+          ∙ (edit-one r (addWrites (w ∷ [])) r′ xs ys apart refl ∙ ap opens (sym runnings′));
       settled = u .ledger .settled;
       latests = rw committings (u .ledger .latests);
     };
