@@ -11,6 +11,7 @@ pub mod Finished
 pub mod AbortLaw
 pub mod Byte
 pub mod LiveByte
+pub mod Records
 pub mod Held
 pub mod TailFit
 pub mod CheckpointLaw
@@ -23,6 +24,7 @@ pub mod Ledger
 pub mod Invariant
 pub mod NoRedo
 pub mod BeginStep
+pub mod EditStep
 pub mod WriteStep
 pub mod EndSteps
 pub mod FlushStep

@@ -1,6 +1,6 @@
 -- The live store at one byte: no two running transactions hold it, and what undoing, committing or aborting one of them does to it.
 use mathlib.Core.Path.{_≡_, refl, ap, _∙_}
-use mathlib.Core.Logic.{_⊎_, inl, inr}
+use mathlib.Core.Logic.{_≢_, _⊎_, inl, inr}
 use mathlib.Core.Option.{Option, none, some}
 use mathlib.Core.List.{List, [], _∷_, _++_}
 use Prim.Native.Nat.{ℕ}
@@ -66,6 +66,35 @@ module _ (a x mem : ℕ) where
       further (off q h′) = off q (passes k h′)
       further (on o n q) = on o n (cons k q)
   side (t ∷ xs) r ys (holds o n k) = off (all-here xs r ys k) (holds o n (all-less xs r ys k))
+
+  -- where no other has a record over the byte, memory has the newest value of r, or that of the commits
+  pub own-byte : (xs : List Tx) (r : Tx) (ys : List Tx) → RunningAt a x mem (xs ++ r ∷ ys) → All (Quiet a) (xs ++ ys) → mem ≡ act (newest a (r .redo)) x
+  own-byte xs r ys h q = go (side xs r ys h)
+    where
+      go : Side a x mem r (xs ++ ys) → mem ≡ act (newest a (r .redo)) x
+      go (off k h′) = rw (k .1) (quiet-memory q h′)
+      go (on o n k) = rw n refl
+
+  -- where r has an undo record over the byte, no other has one
+  pub own-alone : (xs : List Tx) (r : Tx) (ys : List Tx) → RunningAt a x mem (xs ++ r ∷ ys) → oldest a (r .undo) ≢ none → All (Quiet a) (xs ++ ys)
+  own-alone xs r ys h s = go (side xs r ys h)
+    where
+      go : Side a x mem r (xs ++ ys) → All (Quiet a) (xs ++ ys)
+      go (off k h′) = absurd (s (k .0))
+      go (on o n k) = k
+
+  -- where another has a redo record over the byte, r has none
+  pub others-alone : (xs : List Tx) (r : Tx) (ys : List Tx) → RunningAt a x mem (xs ++ r ∷ ys)
+      → All (λ t. newest a (t .redo) ≢ none → newest a (r .redo) ≡ none) (xs ++ ys)
+  others-alone xs r ys h = go (side xs r ys h)
+    where
+      each : (ts : List Tx) → newest a (r .redo) ≡ none → All (λ t. newest a (t .redo) ≢ none → newest a (r .redo) ≡ none) ts
+      each [] e = nil
+      each (t ∷ ts) e = cons {x = t} (λ _. e) (each ts e)
+
+      go : Side a x mem r (xs ++ ys) → All (λ t. newest a (t .redo) ≢ none → newest a (r .redo) ≡ none) (xs ++ ys)
+      go (off k h′) = each (xs ++ ys) (k .1)
+      go (on o n k) = all-map (λ t q s. absurd (s (q .1))) k
 
   -- a transaction without an undo record over the byte has no redo record there either
   pub quiet-by-undo : {rs : List Tx} → RunningAt a x mem rs → All (λ r. oldest a (r .undo) ≡ none → Quiet a r) rs

@@ -64,6 +64,7 @@ module _ (o : Opening) where
     durable = refl;
     assigned = ([], refl);
     settled = nil;
+    opening = refl;
   }
 
   pub holds : {s : System} {k : Ledger} → Run o s k → Inv o s k
