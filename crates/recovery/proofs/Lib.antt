@@ -26,6 +26,8 @@ pub mod NoRedo
 pub mod BeginStep
 pub mod EditStep
 pub mod WriteStep
+pub mod SavepointStep
+pub mod GoBackStep
 pub mod EndSteps
 pub mod FlushStep
 pub mod SettleStep

@@ -8,9 +8,9 @@ use Rattle.recovery.specs.Group.{Write}
 use Rattle.recovery.specs.Lists.{All, nil, cons, orElse}
 use Rattle.recovery.specs.Transaction.{Tx}
 use Rattle.recovery.specs.Replay.{undoAll, undoEach}
-use Rattle.recovery.specs.Machine.{withWrite}
+use Rattle.recovery.specs.Machine.{withWrite, withSavepoint}
 use Rattle.recovery.proofs.Bool.{some-none}
-use Rattle.recovery.proofs.Lists.{all-map, all-here, all-less, all-more}
+use Rattle.recovery.proofs.Lists.{all-map, all-here, all-less, all-more, all-edit}
 use Rattle.recovery.proofs.Byte.{act, seen, layByte, oldest, newest, undo-oldest, oldest-append, newest-append}
 
 -- the transaction has no undo record over the byte
@@ -51,6 +51,14 @@ module _ (a x mem : ℕ) where
   put-off [] r ys q h = passes q h
   put-off (t ∷ xs) r ys q (passes k h) = passes k (put-off xs r ys q h)
   put-off (t ∷ xs) r ys q (holds o n k) = holds o n (all-more xs r ys q k)
+
+  -- savepoints are no records
+  pub savepoint-byte : (name : ℕ) (xs : List Tx) (r : Tx) (ys : List Tx) → RunningAt a x mem (xs ++ r ∷ ys)
+      → RunningAt a x mem (xs ++ withSavepoint name r ∷ ys)
+  savepoint-byte name [] r ys (passes k h) = passes k h
+  savepoint-byte name [] r ys (holds o n k) = holds o n k
+  savepoint-byte name (t ∷ xs) r ys (passes k h) = passes k (savepoint-byte name xs r ys h)
+  savepoint-byte name (t ∷ xs) r ys (holds o n k) = holds o n (all-edit xs r (withSavepoint name r) ys (λ q. q) k)
 
   put-on : (xs : List Tx) (r : Tx) (ys : List Tx) → oldest a (r .undo) ≡ some x → newest a (r .redo) ≡ some mem → All (Quiet a) (xs ++ ys)
       → RunningAt a x mem (xs ++ r ∷ ys)

@@ -13,7 +13,7 @@ use Rattle.recovery.specs.Transaction.{Tx}
 use Rattle.recovery.specs.Restart.{undoOrder}
 use Rattle.recovery.specs.Ledger.{Event, Commit, Ledger, noLedger, committedIn, layCommits, enter}
 use Rattle.recovery.specs.Machine.{Opening, Disk, historyOf, standingBefore, Live, System, down, up, diskOf, openingDisk, Listed, Step, stays, begins}
-use Rattle.recovery.specs.Machine.{writes, precommits, rollsBack, flushes, flushIsCut, settles, checkpoints, checkpointIsCut, restarts, restartIsCut, Run, opened, next}
+use Rattle.recovery.specs.Machine.{writes, setsSavepoint, goesBack, precommits, rollsBack, flushes, flushIsCut, settles, checkpoints, checkpointIsCut, restarts, restartIsCut, Run, opened, next}
 use Rattle.recovery.specs.Claim.{commits, Claim}
 use Rattle.recovery.proofs.Lists.{prefix-whole}
 use Rattle.recovery.proofs.Distinct.{empty}
@@ -26,6 +26,8 @@ use Rattle.recovery.proofs.Ledger.{Settles, replay-commits}
 use Rattle.recovery.proofs.Invariant.{Down, Inv, ImageAt, baseAt, crash, down-emptied}
 use Rattle.recovery.proofs.BeginStep.{begin-keeps}
 use Rattle.recovery.proofs.WriteStep.{write-keeps}
+use Rattle.recovery.proofs.SavepointStep.{savepoint-keeps}
+use Rattle.recovery.proofs.GoBackStep.{go-back-keeps}
 use Rattle.recovery.proofs.EndSteps.{precommit-keeps, abort-keeps}
 use Rattle.recovery.proofs.FlushStep.{flush-keeps, cut-flush-keeps}
 use Rattle.recovery.proofs.SettleStep.{settle-finds, settle-keeps}
@@ -43,6 +45,8 @@ module _ (o : Opening) where
   keeps s t e k (stays s′) v = v
   keeps s t e k (begins d l room) v = begin-keeps o d l k room v
   keeps s t e k (writes d l r w listed run within free room) v = write-keeps o d l k r w listed run v within free room
+  keeps s t e k (setsSavepoint d l r name listed run) v = savepoint-keeps o d l k r name listed run v
+  keeps s t e k (goesBack d l r name n listed run set room) v = go-back-keeps o d l k v r listed run name n set room
   keeps s t e k (precommits d l r listed run) v = precommit-keeps o d l k r listed run v
   keeps s t e k (rollsBack d l r listed run) v = abort-keeps o d l k r listed run v
   keeps s t e k (flushes d l q allowed enough) v = flush-keeps o d l k q allowed v enough
