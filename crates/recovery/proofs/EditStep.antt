@@ -23,7 +23,7 @@ use Rattle.recovery.proofs.Records.{Recorded}
 use Rattle.recovery.proofs.TailFit.{foreign-map}
 use Rattle.recovery.proofs.Follows.{Over, Linked, here, there}
 use Rattle.recovery.proofs.Ledger.{openOf, opens, edit-one}
-use Rattle.recovery.proofs.Invariant.{Standing, AtByte, Up, baseAt, committedMemory}
+use Rattle.recovery.proofs.Invariant.{Standing, AtByte, Up, baseAt, baseMemory}
 
 linked-edit : {t : Tx} (xs : List Tx) (r r′ : Tx) (ys : List Tx) → r′ .id ≡ r .id → (Over t r → Over t r′) → Linked t (xs ++ r ∷ ys) → Linked t (xs ++ r′ ∷ ys)
 linked-edit [] r r′ ys e f (here p o) = here (p ∙ sym e) (f o)
@@ -101,7 +101,7 @@ module _ (o : Opening) (d : Disk) (l : Live) (k : Ledger) (r : Tx) (f : Found (r
     -- what is left to show: memory, the running transactions at each byte, room, and the records of the changed one
     pub edited-keeps : length m′ ≡ o .size
         → ((a : ℕ) → a < o .size → RunningAt a (replay (layByte a) (d .after ++ l .tail) (baseAt o (d .before) a)) (getD m′ a 0) (xs ++ h r ∷ ys))
-        → roomUsed d l′ ≤ o .capacity → Recorded (o .size) (committedMemory o d l) (h r) → Up o d l′ (withActive (editOpen (r .id) g (k .active)) k)
+        → roomUsed d l′ ≤ o .capacity → Recorded (o .size) (baseMemory o d l) (h r) → Up o d l′ (withActive (editOpen (r .id) g (k .active)) k)
     edited-keeps long live used recorded = record {
       late = u .late;
       standing = edited-standing;

@@ -33,7 +33,7 @@ use Rattle.recovery.proofs.Follows.{Follows, follows-next}
 use Rattle.recovery.proofs.GrowthLaw.{growth-commit, growth-abort}
 use Rattle.recovery.proofs.Room.{Roomy, roomy-now}
 use Rattle.recovery.proofs.Ledger.{entryOf, opens, HasLatest, commits-append, others-one, writes-one, latest-own, latest-other}
-use Rattle.recovery.proofs.Invariant.{Standing, AtByte, Up, baseAt, ImageAt, committedMemory, committed-length}
+use Rattle.recovery.proofs.Invariant.{Standing, AtByte, Up, baseAt, ImageAt, baseMemory, base-length}
 
 module _ (o : Opening) (d : Disk) (l : Live) (k : Ledger) (r : Tx) (listed : Listed r (l .txs)) (run : r .committing ≡ false) (u : Up o d l k) where
   found : Found (r .id) r (l .txs)
@@ -137,12 +137,12 @@ module _ (o : Opening) (d : Disk) (l : Live) (k : Ledger) (r : Tx) (listed : Lis
   actives-less = ap (λ (ss : List OpenTx). others (r .id) ss) actives ∙ others-one r xs ys apart
 
   -- the commits leave what they left, with the writes of the group over it
-  end-memory : (g : Group) → replay layBytes (historyOf d ++ (l .tail ++ (g ∷ []))) (o .memory) ≡ replay layBytes (g ∷ []) (committedMemory o d l)
+  end-memory : (g : Group) → replay layBytes (historyOf d ++ (l .tail ++ (g ∷ []))) (o .memory) ≡ replay layBytes (g ∷ []) (baseMemory o d l)
   end-memory g =
       ap (λ (gs : List Group). replay layBytes gs (o .memory)) (sym (append-assoc (historyOf d) (l .tail) (g ∷ [])))
       ∙ replay-append layBytes (historyOf d ++ l .tail) (g ∷ []) (o .memory)
 
-  others-recorded : All (Recorded (o .size) (committedMemory o d l)) (xs ++ ys)
+  others-recorded : All (Recorded (o .size) (baseMemory o d l)) (xs ++ ys)
   others-recorded = all-less xs r ys (rw runnings at (u .records))
 
   -- Abort.
@@ -314,11 +314,11 @@ module _ (o : Opening) (d : Disk) (l : Live) (k : Ledger) (r : Tx) (listed : Lis
       let b : AtByte o d l (u .late) a = u .bytes a h in
       others-alone a (replay (layByte a) (d .after ++ l .tail) (baseAt o (d .before) a)) (getD (l .memory) a 0) xs r ys (live-before a b))
 
-  precommit-records : All (Recorded (o .size) (redoAll layBytes (r .redo) (committedMemory o d l))) (xs ++ ys)
+  precommit-records : All (Recorded (o .size) (redoAll layBytes (r .redo) (baseMemory o d l))) (xs ++ ys)
   precommit-records =
       all-map
       (λ t p. record {
-        olds = p .0 .olds ∙ olds-beside (o .size) (t .redo) (r .redo) (committedMemory o d l) (committed-length o d l) (p .0 .within) (p .1);
+        olds = p .0 .olds ∙ olds-beside (o .size) (t .redo) (r .redo) (baseMemory o d l) (base-length o d l) (p .0 .within) (p .1);
         within = p .0 .within;
       }) (all-zip others-recorded others-beside)
 

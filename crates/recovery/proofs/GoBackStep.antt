@@ -13,7 +13,8 @@ use Rattle.recovery.specs.Lists.{All, nil, cons}
 use Rattle.recovery.specs.Transaction.{Tx, running}
 use Rattle.recovery.specs.Savepoint.{countAt}
 use Rattle.recovery.specs.Replay.{redoAll, undoAll, layBytes, oldBytes, oldsOf}
-use Rattle.recovery.specs.Ledger.{Commit, Ledger, OpenTx, committedIn, layCommits, editOpen, addWrites, takenBack, withActive, enterWrote, enterWentBack}
+use Rattle.recovery.specs.Ledger.{Commit, Ledger, OpenTx, committedIn, layCommits, committedMemory, editOpen, addWrites, takenBack, addReturn, withActive}
+use Rattle.recovery.specs.Ledger.{enterWrote, enterWentBack}
 use Rattle.recovery.specs.Machine.{Opening, Disk, historyOf, Live, Listed, roomUsed, withWrite, afterWrite, afterWrites, afterGoBack}
 use Rattle.recovery.specs.Claim.{commits}
 use Rattle.recovery.proofs.Lists.{all-map, all-zip, all-here, all-right, all-reverse}
@@ -21,7 +22,7 @@ use Rattle.recovery.proofs.Transactions.{Found, find, found-running, fo
 use Rattle.recovery.proofs.Groups.{redoSize-append}
 use Rattle.recovery.proofs.Records.{Within, Covers, covers-more, covers-own, olds-within, Recorded, olds-drop}
 use Rattle.recovery.proofs.Ledger.{openOf, opens, edit-one, commits-append, commits-entries, replay-commits}
-use Rattle.recovery.proofs.Invariant.{Up, committedMemory, committed-length}
+use Rattle.recovery.proofs.Invariant.{Up, baseMemory, base-length}
 use Rattle.recovery.proofs.WriteStep.{written-room, written-listed, rewrite-keeps}
 
 -- ---- writes one after the other
@@ -79,7 +80,7 @@ writes-entered i (w ∷ ws) k = writes-entered i ws (enterWrote i w k) ∙ ap (�
 
 module _ (o : Opening) (d : Disk) (l : Live) (k : Ledger) (u : Up o d l k) where
   -- what the opening memory, the durable ones and the queue leave is what the commits of history and tail leave
-  pub ledger-memory : layCommits (k .durable ++ committedIn (k .queue)) (k .opening) ≡ committedMemory o d l
+  pub ledger-memory : committedMemory k ≡ baseMemory o d l
   ledger-memory =
       let queued : committedIn (k .queue) ≡ commits (l .tail) = ap committedIn (u .ledger .queue) ∙ commits-entries (l .tail) in
       let all : k .durable ++ committedIn (k .queue) ≡ commits (historyOf d ++ l .tail) =
@@ -94,14 +95,14 @@ module _ (o : Opening) (d : Disk) (l : Live) (k : Ledger) (u : Up o d l k) where
     runnings : running (l .txs) ≡ running (f .before) ++ r ∷ running (f .after)
     runnings = found-running r run f
 
-    pub recorded : Recorded (o .size) (committedMemory o d l) r
+    pub recorded : Recorded (o .size) (baseMemory o d l) r
     recorded = all-here (running (f .before)) r (running (f .after)) (rw runnings at (u .records))
 
     -- the bytes that the ledger computes are those of the undo records
-    pub taken-back : (n : ℕ) → takenBack (layCommits (k .durable ++ committedIn (k .queue)) (k .opening)) (some n) (r .redo) ≡ reverse (drop n (r .undo))
+    pub taken-back : (n : ℕ) → takenBack (committedMemory k) (some n) (r .redo) ≡ reverse (drop n (r .undo))
     taken-back n =
         ap (λ (m : List ℕ). takenBack m (some n) (r .redo)) ledger-memory
-        ∙ ap reverse (sym (ap (drop n) (recorded .olds) ∙ olds-drop n (r .redo) (committedMemory o d l)))
+        ∙ ap reverse (sym (ap (drop n) (recorded .olds) ∙ olds-drop n (r .redo) (baseMemory o d l)))
 
     module _ (name n : ℕ) (set : countAt name (r .savepoints) ≡ some n) where
       abbrev back : List Write
@@ -110,8 +111,8 @@ module _ (o : Opening) (d : Disk) (l : Live) (k : Ledger) (u : Up o d l k) where
       -- going back is told to the ledger as its writes one by one
       went-back : enterWentBack (r .id) name k ≡ enterWrites (r .id) back k
       went-back =
-          let m : List ℕ = layCommits (k .durable ++ committedIn (k .queue)) (k .opening) in
-          let g : OpenTx → OpenTx = λ s. addWrites (takenBack m (countAt name (s .savepoints)) (s .writes)) s in
+          let m : List ℕ = committedMemory k in
+          let g : OpenTx → OpenTx = addReturn m name in
           let r′ : Tx =
           record { id = r .id; committing = r .committing; csn = r .csn; undo = r .undo; redo = r .redo ++ back; savepoints = r .savepoints } in
           let active : k .active ≡ opens (running (f .before) ++ r ∷ running (f .after)) = u .ledger .active ∙ ap opens runnings in
@@ -127,7 +128,7 @@ module _ (o : Opening) (d : Disk) (l : Live) (k : Ledger) (u : Up o d l k) where
       back-again : All (Again (o .size) r) back
       back-again =
           let within : All (Within (o .size)) (r .undo) =
-          rw (recorded .olds) (olds-within (o .size) (r .redo) (committedMemory o d l) (committed-length o d l) (recorded .within)) in
+          rw (recorded .olds) (olds-within (o .size) (r .redo) (baseMemory o d l) (base-length o d l) (recorded .within)) in
           all-reverse (all-right (take n (r .undo)) (subst (All (Again (o .size) r)) (sym (take-append-drop n (r .undo))) (all-zip within (covers-own (r .undo)))))
 
       pub go-back-keeps : roomUsed d l + redoSize (drop n (r .undo)) ≤ o .capacity → Up o d (afterGoBack r n l) (enterWentBack (r .id) name k)

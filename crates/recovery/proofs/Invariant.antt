@@ -56,16 +56,16 @@ pub record AtByte (o : Opening) (d : Disk) (l : Live) (late : List Tx) (a : ℕ)
   pub live : RunningAt a (replay (layByte a) (d .after ++ l .tail) (baseAt o (d .before) a)) (getD (l .memory) a 0) (running (l .txs))
 
 -- the memory by the commits of history and tail
-abbrev pub committedMemory : Opening → Disk → Live → List ℕ
-committedMemory o d l = replay layBytes (historyOf d ++ l .tail) (o .memory)
+abbrev pub baseMemory : Opening → Disk → Live → List ℕ
+baseMemory o d l = replay layBytes (historyOf d ++ l .tail) (o .memory)
 
-pub committed-length : (o : Opening) (d : Disk) (l : Live) → length (committedMemory o d l) ≡ o .size
-committed-length o d l = replay-length (o .size) (o .memory) (o .sized) (historyOf d ++ l .tail)
+pub base-length : (o : Opening) (d : Disk) (l : Live) → length (baseMemory o d l) ≡ o .size
+base-length o d l = replay-length (o .size) (o .memory) (o .sized) (historyOf d ++ l .tail)
 
-pub committed-byte : (o : Opening) (d : Disk) (l : Live) (a : ℕ) → a < o .size
-    → getD (committedMemory o d l) a 0 ≡ replay (layByte a) (d .after ++ l .tail) (baseAt o (d .before) a)
+pub base-byte : (o : Opening) (d : Disk) (l : Live) (a : ℕ) → a < o .size
+    → getD (baseMemory o d l) a 0 ≡ replay (layByte a) (d .after ++ l .tail) (baseAt o (d .before) a)
 unfolding baseAt
-committed-byte o d l a h =
+base-byte o d l a h =
     replay-byte (o .size) (o .memory) (o .sized) a h (historyOf d ++ l .tail)
     ∙ (ap (λ (gs : List Group). replay (layByte a) gs (getD (o .memory) a 0)) (append-assoc (d .before) (d .after) (l .tail))
     ∙ replay-append (layByte a) (d .before) (d .after ++ l .tail) (getD (o .memory) a 0))
@@ -76,7 +76,7 @@ pub record Up (o : Opening) (d : Disk) (l : Live) (k : Ledger) : Type 0 where
   pub imageLength : length (d .image .memory) ≡ o .size
   pub liveLength : length (l .memory) ≡ o .size
   pub bytes : (a : ℕ) → a < o .size → AtByte o d l late a
-  pub records : All (Recorded (o .size) (committedMemory o d l)) (running (l .txs))
+  pub records : All (Recorded (o .size) (baseMemory o d l)) (running (l .txs))
   pub room : Room o d l
   pub numbers : Numbers o d
   pub ledger : Agrees d l k

@@ -28,6 +28,7 @@ pub mod EditStep
 pub mod WriteStep
 pub mod SavepointStep
 pub mod GoBackStep
+pub mod Returns
 pub mod EndSteps
 pub mod FlushStep
 pub mod SettleStep

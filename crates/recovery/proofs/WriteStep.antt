@@ -25,7 +25,7 @@ use Rattle.recovery.proofs.LiveByte.{Quiet, RunningAt, own-byte, own-al
 use Rattle.recovery.proofs.Records.{Within, Covers, old-length, old-same, Recorded, olds-append}
 use Rattle.recovery.proofs.Held.{unheld}
 use Rattle.recovery.proofs.Follows.{Over}
-use Rattle.recovery.proofs.Invariant.{Up, baseAt, committedMemory, committed-length, committed-byte}
+use Rattle.recovery.proofs.Invariant.{Up, baseAt, baseMemory, base-length, base-byte}
 use Rattle.recovery.proofs.EditStep.{edited-listed, edited-room, edited-keeps}
 
 -- one more undo record covers no less
@@ -52,7 +52,7 @@ whereabouts a i (b ∷ bs) (x ∷ es) e = go (eqb a i) refl (whereabouts a (suc 
     go false p (out q r) = out (rw p q) (rw p r)
     go false p (at j q l r s) = at (suc j) (omega arith) (omega arith) (rw p r) (rw p s)
 
-touch : (a : ℕ) (m : List ℕ) (w : Write) (others : List Tx) → a < length m → w .addr + length (w .bytes) ≤ length m → (seen a w ≢ none → All (Quiet a) others)
+pub touch : (a : ℕ) (m : List ℕ) (w : Write) (others : List Tx) → a < length m → w .addr + length (w .bytes) ≤ length m → (seen a w ≢ none → All (Quiet a) others)
     → Touch a (getD m a 0) (getD (layBytes w m) a 0) (oldBytes w m) w others
 touch a m w others ha hw q = go (whereabouts a (w .addr) (oldBytes w m .bytes) (w .bytes) same-length)
   where
@@ -120,15 +120,15 @@ module _ (o : Opening) (d : Disk) (l : Live) (k : Ledger) (r : Tx) (w : Write) (
 
   module _ (within : Within (o .size) w) (alone : Alone) where
     -- the undo record has the bytes that the commits and the transaction's earlier writes leave on the range
-    written-recorded : Recorded (o .size) (committedMemory o d l) r′
+    written-recorded : Recorded (o .size) (baseMemory o d l) r′
     written-recorded =
-        let m : List ℕ = committedMemory o d l in
-        let lm : length (committedMemory o d l) ≡ o .size = committed-length o d l in
-        let before : Recorded (o .size) (committedMemory o d l) r = all-here xs r ys (rw runnings at (u .records)) in
+        let m : List ℕ = baseMemory o d l in
+        let lm : length (baseMemory o d l) ≡ o .size = base-length o d l in
+        let before : Recorded (o .size) (baseMemory o d l) r = all-here xs r ys (rw runnings at (u .records)) in
         let new : old ≡ oldBytes w (redoAll layBytes (r .redo) m) =
         old-same (o .size) w (l .memory) (redoAll layBytes (r .redo) m) (u .liveLength) (redo-length (o .size) m lm (r .redo)) within
         (λ a h s. own-byte a (byCommits a) (getD (l .memory) a 0) xs r ys (live-before a h) (alone a h s)
-        ∙ sym (redo-byte (o .size) m lm a h (r .redo) ∙ (redo-newest a (r .redo) (getD m a 0) ∙ ap (λ (x : ℕ). act (newest a (r .redo)) x) (committed-byte o d l a h)))) in
+        ∙ sym (redo-byte (o .size) m lm a h (r .redo) ∙ (redo-newest a (r .redo) (getD m a 0) ∙ ap (λ (x : ℕ). act (newest a (r .redo)) x) (base-byte o d l a h)))) in
         record {
           olds = ap (λ (us : List Write). us ++ (old ∷ [])) (before .olds) ∙ (ap (λ (v : Write). oldsOf m (r .redo) ++ (v ∷ [])) new
               ∙ sym (olds-append (r .redo) (w ∷ []) m));

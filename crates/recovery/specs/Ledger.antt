@@ -85,6 +85,9 @@ abbrev pub takenBack : List ℕ → Option ℕ → List Write → List Write
 takenBack m none ws = []
 takenBack m (some n) ws = reverse (oldsOf (redoAll layBytes (take n ws) m) (drop n ws))
 
+abbrev pub addReturn : List ℕ → ℕ → OpenTx → OpenTx
+addReturn m name s = addWrites (takenBack m (countAt name (s .savepoints)) (s .writes)) s
+
 -- the latest of an id
 abbrev pub latest : ℕ → List Commit → Option Commit
 latest i [] = none
@@ -126,11 +129,13 @@ enterWrote i w l = withActive (editOpen i (addWrites (w ∷ [])) (l .active)) l
 abbrev pub enterSavepointSet : ℕ → ℕ → Ledger → Ledger
 enterSavepointSet i name l = withActive (editOpen i (noteSavepoint name) (l .active)) l
 
+-- what the opening memory, the durable ones and the queue leave
+abbrev pub committedMemory : Ledger → List ℕ
+committedMemory l = layCommits (l .durable ++ committedIn (l .queue)) (l .opening)
+
 -- Gone back (document 02, A.7): the writes of the return go last in that id's write set. Its savepoints stay.
 abbrev pub enterWentBack : ℕ → ℕ → Ledger → Ledger
-enterWentBack i name l =
-    let m : List ℕ = layCommits (l .durable ++ committedIn (l .queue)) (l .opening) in
-    withActive (editOpen i (λ s. addWrites (takenBack m (countAt name (s .savepoints)) (s .writes)) s) (l .active)) l
+enterWentBack i name l = withActive (editOpen i (addReturn (committedMemory l) name) (l .active)) l
 
 -- Precommit: the write set goes last in the queue, as a committed transaction with that number; it is assigned from now on.
 abbrev pub enterPrecommitted : ℕ → ℕ → Ledger → Ledger

@@ -1,0 +1,104 @@
+-- What going back leaves in memory: each byte written since the savepoint reads as just before the first such write, every other byte as before.
+use mathlib.Core.Path.{_≡_, refl, sym, ap, _∙_, subst}
+use mathlib.Core.Logic.{_≢_}
+use mathlib.Core.Bool.{false}
+use mathlib.Core.Option.{Option, none, some}
+use mathlib.Core.List.{List, [], _∷_, _++_, reverse, reverse-cons}
+use Prim.Native.Nat.{ℕ, _<_}
+use lib.ListN.{length, getD, take, drop, take-append-drop}
+use lib.Seq.{length-sets}
+use Rattle.recovery.specs.Group.{Write}
+use Rattle.recovery.specs.Lists.{All, nil, cons}
+use Rattle.recovery.specs.Transaction.{Tx}
+use Rattle.recovery.specs.Replay.{redoAll, undoAll, layBytes, oldBytes, oldsOf}
+use Rattle.recovery.specs.Ledger.{Ledger, committedMemory}
+use Rattle.recovery.specs.Machine.{Opening, Disk, Live, Listed, withWrite, afterWrite, afterWrites, afterGoBack}
+use Rattle.recovery.proofs.Bool.{some-none}
+use Rattle.recovery.proofs.Lists.{else-none, else-next, all-right}
+use Rattle.recovery.proofs.Byte.{act, seen, oldest, newest, undo-oldest, redo-length, undo-byte}
+use Rattle.recovery.proofs.LiveByte.{Touch, miss, hit}
+use Rattle.recovery.proofs.Records.{Within, Recorded, redo-append, olds-drop}
+use Rattle.recovery.proofs.Invariant.{Up, baseMemory, base-length}
+use Rattle.recovery.proofs.WriteStep.{touch}
+use Rattle.recovery.proofs.GoBackStep.{ledger-memory, recorded}
+
+-- ---- memory after a return
+
+redo-reverse : {M : Type 0} (lay : Write → M → M) (us : List Write) (m : M) → redoAll lay (reverse us) m ≡ undoAll lay us m
+redo-reverse lay [] m = refl
+redo-reverse {M = M} lay (u ∷ us) m =
+    ap (λ (ws : List Write). redoAll lay ws m) (reverse-cons u us) ∙ (redo-append lay (reverse us) (u ∷ []) m ∙ ap (λ (x : M). lay u x) (redo-reverse lay us m))
+
+writes-memory : (ws : List Write) (r : Tx) (l : Live) → afterWrites r ws l .memory ≡ redoAll layBytes ws (l .memory)
+writes-memory [] r l = refl
+writes-memory (w ∷ ws) r l = writes-memory ws (withWrite (oldBytes w (l .memory)) w r) (afterWrite r w l)
+
+-- it is as if the later writes were undone
+pub return-memory : (r : Tx) (n : ℕ) (l : Live) → afterGoBack r n l .memory ≡ undoAll layBytes (drop n (r .undo)) (l .memory)
+return-memory r n l = writes-memory (reverse (drop n (r .undo))) r l ∙ redo-reverse layBytes (drop n (r .undo)) (l .memory)
+
+-- A byte reads as the first later write over it found it, which its undo record says; or as before, where there is none.
+pub return-byte : (r : Tx) (n : ℕ) (l : Live) (a : ℕ) → a < length (l .memory)
+    → getD (afterGoBack r n l .memory) a 0 ≡ act (oldest a (drop n (r .undo))) (getD (l .memory) a 0)
+return-byte r n l a h =
+    ap (λ (m : List ℕ). getD m a 0) (return-memory r n l)
+    ∙ (undo-byte (length (l .memory)) (l .memory) refl a h (drop n (r .undo)) ∙ undo-oldest a (drop n (r .undo)) (getD (l .memory) a 0))
+
+-- ---- and that is what the commits and the writes up to the savepoint leave there
+
+module _ (k a : ℕ) (h : a < k) where
+  -- the oldest of the old bytes of writes over a byte is what stood there first
+  olds-first : (ws : List Write) (m : List ℕ) → length m ≡ k → All (Within k) ws → newest a ws ≢ none → oldest a (oldsOf m ws) ≡ some (getD m a 0)
+  olds-first [] m l nil s = absurd (s refl)
+  olds-first (w ∷ ws) m l (cons b bs) s =
+      go (touch a m w [] (rw l h) (rw l b) (λ _. nil)) (λ q. olds-first ws (layBytes w m) (length-sets m (w .addr) (w .bytes) ∙ l) bs q)
+    where
+      go : Touch a (getD m a 0) (getD (layBytes w m) a 0) (oldBytes w m) w []
+          → (newest a ws ≢ none → oldest a (oldsOf (layBytes w m) ws) ≡ some (getD (layBytes w m) a 0)) → oldest a (oldsOf m (w ∷ ws)) ≡ some (getD m a 0)
+      go (miss p r e) f = rw p (f (λ q. s (rw (q, r) refl)) ∙ ap some e)
+      go (hit p r q) f = rw p refl
+
+  olds-none : (ws : List Write) (m : List ℕ) → length m ≡ k → All (Within k) ws → newest a ws ≡ none → oldest a (oldsOf m ws) ≡ none
+  olds-none [] m l nil e = refl
+  olds-none (w ∷ ws) m l (cons b bs) e =
+      go (touch a m w [] (rw l h) (rw l b) (λ _. nil)) (λ q. olds-none ws (layBytes w m) (length-sets m (w .addr) (w .bytes) ∙ l) bs q)
+    where
+      go : Touch a (getD m a 0) (getD (layBytes w m) a 0) (oldBytes w m) w [] → (newest a ws ≡ none → oldest a (oldsOf (layBytes w m) ws) ≡ none)
+          → oldest a (oldsOf m (w ∷ ws)) ≡ none
+      go (miss p r q) f = rw p (f (else-none (newest a ws) ∙ (rw r at e)))
+      go (hit p r q) f = absurd (else-next (newest a ws) (seen a w) (some-none r) e)
+
+module _ (o : Opening) (d : Disk) (l : Live) (k : Ledger) (u : Up o d l k) (r : Tx) (listed : Listed r (l .txs)) (run : r .committing ≡ false)
+    (n a : ℕ) (h : a < o .size) where
+  -- what the commits and the first n writes leave
+  abbrev stood : List ℕ
+  stood = redoAll layBytes (take n (r .redo)) (baseMemory o d l)
+
+  stood-length : length stood ≡ o .size
+  stood-length = redo-length (o .size) (baseMemory o d l) (base-length o d l) (take n (r .redo))
+
+  later : drop n (r .undo) ≡ oldsOf stood (drop n (r .redo))
+  later = ap (drop n) (recorded o d l k u r listed run .olds) ∙ olds-drop n (r .redo) (baseMemory o d l)
+
+  later-within : All (Within (o .size)) (drop n (r .redo))
+  later-within =
+      all-right (take n (r .redo)) (subst (All (Within (o .size))) (sym (take-append-drop n (r .redo))) (recorded o d l k u r listed run .within))
+
+  byte-now : getD (afterGoBack r n l .memory) a 0 ≡ act (oldest a (drop n (r .undo))) (getD (l .memory) a 0)
+  byte-now = return-byte r n l a (rw (u .liveLength) h)
+
+  -- a byte written since: what the ledger's commits and the transaction's writes up to the savepoint leave there
+  pub return-reads : newest a (drop n (r .redo)) ≢ none
+      → getD (afterGoBack r n l .memory) a 0 ≡ getD (redoAll layBytes (take n (r .redo)) (committedMemory k)) a 0
+  return-reads s =
+      byte-now
+      ∙ (ap (λ (x : Option ℕ). act x (getD (l .memory) a 0))
+      (ap (oldest a) later ∙ olds-first (o .size) a h (drop n (r .redo)) stood stood-length later-within s)
+      ∙ ap (λ (m : List ℕ). getD (redoAll layBytes (take n (r .redo)) m) a 0) (sym (ledger-memory o d l k u)))
+
+  -- any other byte stays
+  pub return-leaves : newest a (drop n (r .redo)) ≡ none → getD (afterGoBack r n l .memory) a 0 ≡ getD (l .memory) a 0
+  return-leaves e =
+      byte-now
+      ∙ ap (λ (x : Option ℕ). act x (getD (l .memory) a 0))
+      (ap (oldest a) later ∙ olds-none (o .size) a h (drop n (r .redo)) stood stood-length later-within e)
