@@ -1,24 +1,28 @@
 -- Demand 3 on the abstract store: after any list of calls, refused, cut or done, the claim holds of disk and ledger. A call added later
 -- adds a constructor of Step, a lemma like those below and a line of `keeps`.
 use mathlib.Core.Path.{_≡_, refl, sym, ap, _∙_, subst}
-use mathlib.Core.Bool.{true}
-use mathlib.Core.List.{List, [], _++_}
-use Prim.Native.Nat.{_≤_}
+use mathlib.Core.Logic.{_≢_}
+use mathlib.Core.Bool.{true, false}
+use mathlib.Core.Option.{none, some}
+use mathlib.Core.List.{List, [], _++_, reverse}
+use Prim.Native.Nat.{ℕ, _≤_, _<_}
 use native.Mathlib.Omega.{arith}
-use lib.ListN.{getD}
+use lib.ListN.{getD, take, drop}
 use lib.Seq.{take-nil}
 use Rattle.recovery.specs.Group.{Group, groupsSize}
-use Rattle.recovery.specs.Lists.{nil}
-use Rattle.recovery.specs.Transaction.{Tx}
+use Rattle.recovery.specs.Lists.{All, nil}
+use Rattle.recovery.specs.Transaction.{Tx, running}
+use Rattle.recovery.specs.Replay.{redoAll, layBytes, oldsOf}
 use Rattle.recovery.specs.Restart.{undoOrder}
-use Rattle.recovery.specs.Ledger.{Event, Commit, Ledger, noLedger, committedIn, layCommits, enter}
+use Rattle.recovery.specs.Ledger.{Event, Commit, Ledger, noLedger, committedIn, layCommits, committedMemory, takenBack, enter}
 use Rattle.recovery.specs.Machine.{Opening, Disk, historyOf, standingBefore, Live, System, down, up, diskOf, openingDisk, Listed, Step, stays, begins}
 use Rattle.recovery.specs.Machine.{writes, setsSavepoint, goesBack, precommits, rollsBack, flushes, flushIsCut, settles, checkpoints, checkpointIsCut, restarts, restartIsCut, Run, opened, next}
+use Rattle.recovery.specs.Machine.{afterGoBack}
 use Rattle.recovery.specs.Claim.{commits, Claim}
-use Rattle.recovery.proofs.Lists.{prefix-whole}
+use Rattle.recovery.proofs.Lists.{all-map, prefix-whole}
 use Rattle.recovery.proofs.Distinct.{empty}
 use Rattle.recovery.proofs.Groups.{groupsSize-append, replay-append}
-use Rattle.recovery.proofs.Byte.{layByte, by-bytes}
+use Rattle.recovery.proofs.Byte.{newest, layByte, by-bytes}
 use Rattle.recovery.proofs.Numbers.{consecutive-nil, consecutive-numbered}
 use Rattle.recovery.proofs.Log.{form-one, opening-stands}
 use Rattle.recovery.proofs.Room.{Roomy}
@@ -27,7 +31,8 @@ use Rattle.recovery.proofs.Invariant.{Down, Inv, ImageAt, baseAt, crash
 use Rattle.recovery.proofs.BeginStep.{begin-keeps}
 use Rattle.recovery.proofs.WriteStep.{write-keeps}
 use Rattle.recovery.proofs.SavepointStep.{savepoint-keeps}
-use Rattle.recovery.proofs.GoBackStep.{go-back-keeps}
+use Rattle.recovery.proofs.GoBackStep.{ledger-memory, taken-back, go-back-keeps}
+use Rattle.recovery.proofs.Returns.{return-reads, return-leaves}
 use Rattle.recovery.proofs.EndSteps.{precommit-keeps, abort-keeps}
 use Rattle.recovery.proofs.FlushStep.{flush-keeps, cut-flush-keeps}
 use Rattle.recovery.proofs.SettleStep.{settle-finds, settle-keeps}
@@ -110,3 +115,24 @@ module _ (o : Opening) where
   pub settled-found : (d : Disk) (l : Live) (k : Ledger) (r : Tx) → Run o (up d l) k → Listed r (l .txs) → r .committing ≡ true → r .csn ≤ l .csn
       → Settles r (k .durable) (committedIn (k .queue))
   settled-found d l k r run listed committing on-disk = settle-finds o d l k r listed committing on-disk (holds run)
+
+  -- ---- undo records and returns (document 02, A.7), on any list of calls
+
+  module _ (d : Disk) (l : Live) (k : Ledger) (run : Run o (up d l) k) where
+    -- Record by record: an undo record of a running transaction has the bytes that the opening memory, the durable ones, the queue and its own
+    -- earlier writes leave on the range.
+    pub undo-recorded : All (λ r. r .undo ≡ oldsOf (committedMemory k) (r .redo)) (running (l .txs))
+    undo-recorded =
+        all-map (λ r x. x .olds ∙ ap (λ (m : List ℕ). oldsOf m (r .redo)) (sym (ledger-memory o d l k (holds run)))) (holds run .records)
+
+    module _ (r : Tx) (listed : Listed r (l .txs)) (running : r .committing ≡ false) (n : ℕ) where
+      -- the writes that the ledger computes for a return are those that the store makes
+      pub return-agrees : takenBack (committedMemory k) (some n) (r .redo) ≡ reverse (drop n (r .undo))
+      return-agrees = taken-back o d l k (holds run) r listed running n
+
+      -- after it a byte written since reads as the commits and the first n writes leave it; any other stays
+      pub return-restores : (a : ℕ) → a < o .size
+          → (newest a (drop n (r .redo)) ≢ none
+          → getD (afterGoBack r n l .memory) a 0 ≡ getD (redoAll layBytes (take n (r .redo)) (committedMemory k)) a 0)
+          × (newest a (drop n (r .redo)) ≡ none → getD (afterGoBack r n l .memory) a 0 ≡ getD (l .memory) a 0)
+      return-restores a h = (return-reads o d l k (holds run) r listed running n a h, return-leaves o d l k (holds run) r listed running n a h)
