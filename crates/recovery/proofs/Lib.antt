@@ -35,4 +35,5 @@ pub mod SettleStep
 pub mod CheckpointStep
 pub mod RestartStep
 pub mod Theorem
+pub mod Lasting
 pub mod Example
