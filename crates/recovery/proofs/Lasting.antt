@@ -8,19 +8,28 @@ use mathlib.Core.List.{List, [], _∷_, _++_, append-assoc, append-nil, reverse}
 use Prim.Native.Nat.{ℕ, suc, _+_, _≤_, _<_}
 use native.Mathlib.Omega.{arith}
 use lib.Dec.{eqb}
-use lib.ListN.{length, getD, take, drop}
+use lib.ListN.{length, getD, drop}
+use lib.Seq.{drop-append-le}
 use borrow.Author.Tests.{eqb-true, eqb-false, ne-eqb}
 use Rattle.recovery.specs.Group.{Write}
 use Rattle.recovery.specs.Lists.{All, nil, cons}
-use Rattle.recovery.specs.Transaction.{Tx, lookup, edit, remove}
+use Rattle.recovery.specs.Transaction.{Tx, lookup, edit, remove, heldByOther}
 use Rattle.recovery.specs.Replay.{layBytes, oldBytes}
-use Rattle.recovery.specs.Ledger.{Event, Ledger}
+use Rattle.recovery.specs.Ledger.{Event, Ledger, enter, enterWrote}
 use Rattle.recovery.specs.Machine.{Opening, Disk, Live, System, down, up, Listed, newTx, withWrite, afterWrite, withSavepoint, afterWrites, inCommit}
 use Rattle.recovery.specs.Machine.{lastAssigned, Step, stays, begins, writes, setsSavepoint, goesBack, precommits, rollsBack, flushes, flushIsCut}
-use Rattle.recovery.specs.Machine.{settles, checkpoints, checkpointIsCut, restarts, restartIsCut}
+use Rattle.recovery.specs.Machine.{settles, checkpoints, checkpointIsCut, restarts, restartIsCut, Run, next, roomUsed, afterGoBack}
 use Rattle.recovery.proofs.Bool.{some-none, eqb-same}
-use Rattle.recovery.proofs.Distinct.{distinct-others}
+use Rattle.recovery.proofs.Distinct.{empty, distinct-others}
 use Rattle.recovery.proofs.Transactions.{DistinctIds, Found, find, lookup-none}
+use Rattle.recovery.proofs.Byte.{act, seen, oldest, newest, oldest-append}
+use Rattle.recovery.proofs.LiveByte.{Touch, miss, hit}
+use Rattle.recovery.proofs.Invariant.{Up, Inv, baseMemory, base-length}
+use Rattle.recovery.proofs.WriteStep.{touch, written-listed}
+use Rattle.recovery.proofs.GoBackStep.{recorded}
+use Rattle.recovery.proofs.Records.{olds-length}
+use Rattle.recovery.proofs.Returns.{return-byte, later-none}
+use Rattle.recovery.proofs.Theorem.{holds}
 
 -- ---- under an id, after a change
 
@@ -167,3 +176,64 @@ module _ (o : Opening) where
   step-grows s t e (checkpointIsCut d l) u r r′ was is run = absurd (some-none is refl)
   step-grows s t e (restarts s′ lastId image-ids group-ids) u r r′ was is run = absurd (some-none is refl)
   step-grows s t e (restartIsCut s′) u r r′ was is run = absurd (some-none is refl)
+
+  -- ---- and over any list of calls
+
+  -- calls during which the transaction, r at first, stays running
+  pub data Lasts (s : System) (k : Ledger) (r : Tx) : System → Ledger → Tx → Type 0 where
+    now : Lasts s k r s k r
+    then : {t u : System} {j : Ledger} {e : Event} {q p : Tx} → Lasts s k r t j q → Step o t e u → lookup (q .id) (txsOf u) ≡ some p → p .committing ≡ false
+        → Lasts s k r u (enter e j) p
+
+  pub lasts-run : {s t : System} {k j : Ledger} {r q : Tx} → Lasts s k r t j q → Run o s k → Run o t j
+  lasts-run now run = run
+  lasts-run (then l p is c) run = next (lasts-run l run) p
+
+  distinct-listed : (s : System) (k : Ledger) → Inv o s k → DistinctIds (txsOf s)
+  distinct-listed (down d) k v = empty
+  distinct-listed (up d l) k v = v .standing .liveDistinct
+
+  -- it has its records still, under its id
+  lasts-grown : {s t : System} {k j : Ledger} {r q : Tx} → Lasts s k r t j q → Run o s k → lookup (r .id) (txsOf s) ≡ some r
+      → Grown r q × (lookup (q .id) (txsOf t) ≡ some q)
+  lasts-grown now run was = (grown-same refl, was)
+  lasts-grown (then {t} {u} {j} {e} {q} {p} l step is c) run was =
+      let before = lasts-grown l run was in
+      let after : Grown q p = step-grows t u e step (distinct-listed t j (holds o (lasts-run l run))) q p (before .1) is c in
+      let named : p .id ≡ q .id = find (q .id) p (txsOf u) is .named in
+      (grown-more (before .0) after, subst (λ (i : ℕ). lookup i (txsOf u) ≡ some p) (sym named) is)
+
+  -- r makes its first write over the byte a since n writes stood; calls follow, and a return to there: the byte reads as just before that write.
+  module _ (d : Disk) (l : Live) (k : Ledger) (run : Run o (up d l) k) (r : Tx) (listed : Listed r (l .txs)) (running : r .committing ≡ false)
+      (w : Write) (within : w .addr + length (w .bytes) ≤ o .size) (free : heldByOther (r .id) w (l .txs) ≡ false)
+      (room : roomUsed d l + (7 + length (w .bytes)) ≤ o .capacity) (n a : ℕ) (stood : n ≤ length (r .redo)) (h : a < o .size)
+      (first : newest a (drop n (r .redo)) ≡ none) (over : seen a w ≢ none) where
+    -- the undo record of that write has the byte as it stood
+    write-old : seen a (oldBytes w (l .memory)) ≡ some (getD (l .memory) a 0)
+    write-old =
+        let long : length (l .memory) ≡ o .size = holds o run .liveLength in
+        go (touch a (l .memory) w [] (rw long h) (rw long within) (λ _. nil))
+      where
+        go : Touch a (getD (l .memory) a 0) (getD (layBytes w (l .memory)) a 0) (oldBytes w (l .memory)) w [] → seen a (oldBytes w (l .memory)) ≡ some (getD (l .memory) a 0)
+        go (miss p q e) = absurd (over q)
+        go (hit p q e) = p
+
+    -- and it is the first over the byte among the later ones
+    first-old : (us : List Write) → oldest a (drop n ((r .undo ++ (oldBytes w (l .memory) ∷ [])) ++ us)) ≡ some (getD (l .memory) a 0)
+    first-old us =
+        let old : Write = oldBytes w (l .memory) in
+        let same : length (r .undo) ≡ length (r .redo) =
+        ap length (recorded o d l k (holds o run) r listed running .olds) ∙ olds-length (r .redo) (baseMemory o d l) in
+        let split : drop n ((r .undo ++ (old ∷ [])) ++ us) ≡ drop n (r .undo) ++ old ∷ us =
+        ap (drop n) (append-assoc (r .undo) (old ∷ []) us) ∙ drop-append-le n (r .undo) (old ∷ us) (omega arith) in
+        ap (oldest a) split ∙ (oldest-append a (drop n (r .undo)) (old ∷ us)
+        ∙ rw (later-none o d l k (holds o run) r listed running n a h first, write-old))
+
+    pub return-as-before : (d′ : Disk) (l′ : Live) (k′ : Ledger) (r′ : Tx)
+        → Lasts (up d (afterWrite r w l)) (enterWrote (r .id) w k) (withWrite (oldBytes w (l .memory)) w r) (up d′ l′) k′ r′
+        → getD (afterGoBack r′ n l′ .memory) a 0 ≡ getD (l .memory) a 0
+    return-as-before d′ l′ k′ r′ calls =
+        let written : Run o (up d (afterWrite r w l)) (enterWrote (r .id) w k) = next run (writes d l r w listed running within free room) in
+        let grown = lasts-grown calls written (written-listed o d l k r w listed running (holds o run)) .0 in
+        return-byte r′ n l′ a (rw (holds o (lasts-run calls written) .liveLength) h)
+        ∙ ap (λ (x : Option ℕ). act x (getD (l′ .memory) a 0)) (ap (λ (us : List Write). oldest a (drop n us)) (grown .undo) ∙ first-old (grown .undos))

@@ -104,6 +104,10 @@ pub olds-append : (us vs : List Write) (m : List ℕ) → oldsOf m (us ++ vs) �
 olds-append [] vs m = refl
 olds-append (u ∷ us) vs m = ap (λ (ws : List Write). oldBytes u m ∷ ws) (olds-append us vs (layBytes u m))
 
+pub olds-length : (ws : List Write) (m : List ℕ) → length (oldsOf m ws) ≡ length ws
+olds-length [] m = refl
+olds-length (w ∷ ws) m = ap suc (olds-length ws (layBytes w m))
+
 -- those after the first n
 pub olds-drop : (n : ℕ) (ws : List Write) (m : List ℕ) → drop n (oldsOf m ws) ≡ oldsOf (redoAll layBytes (take n ws) m) (drop n ws)
 olds-drop zero ws m = refl

@@ -96,9 +96,9 @@ module _ (o : Opening) (d : Disk) (l : Live) (k : Ledger) (u : Up o d l k) (r : 
       (ap (oldest a) later ∙ olds-first (o .size) a h (drop n (r .redo)) stood stood-length later-within s)
       ∙ ap (λ (m : List ℕ). getD (redoAll layBytes (take n (r .redo)) m) a 0) (sym (ledger-memory o d l k u)))
 
+  pub later-none : newest a (drop n (r .redo)) ≡ none → oldest a (drop n (r .undo)) ≡ none
+  later-none e = ap (oldest a) later ∙ olds-none (o .size) a h (drop n (r .redo)) stood stood-length later-within e
+
   -- any other byte stays
   pub return-leaves : newest a (drop n (r .redo)) ≡ none → getD (afterGoBack r n l .memory) a 0 ≡ getD (l .memory) a 0
-  return-leaves e =
-      byte-now
-      ∙ ap (λ (x : Option ℕ). act x (getD (l .memory) a 0))
-      (ap (oldest a) later ∙ olds-none (o .size) a h (drop n (r .redo)) stood stood-length later-within e)
+  return-leaves e = byte-now ∙ ap (λ (x : Option ℕ). act x (getD (l .memory) a 0)) (later-none e)
