@@ -1,6 +1,6 @@
 -- A step that changes one running transaction, and memory perhaps, keeps the invariant: what every such step has in common, and what is left to show
 -- of each.
-use mathlib.Core.Path.{_≡_, refl, sym, ap, _∙_, subst}
+use mathlib.Core.Path.{_≡_, sym, ap, _∙_, subst}
 use mathlib.Core.Logic.{_≢_}
 use mathlib.Core.Bool.{false}
 use mathlib.Core.List.{List, [], _∷_, _++_}

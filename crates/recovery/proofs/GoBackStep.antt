@@ -1,28 +1,31 @@
 -- Going back keeps the invariant: it is a list of writes, each over a range that the transaction holds, and the writes that the ledger computes are the
 -- same.
 use mathlib.Core.Path.{_≡_, refl, sym, ap, _∙_, subst}
+use mathlib.Core.Logic.{_≢_}
 use mathlib.Core.Bool.{Bool, true, false, cond}
 use mathlib.Core.Option.{Option, none, some}
 use mathlib.Core.List.{List, [], _∷_, _++_, append-assoc, append-nil, reverse, reverse-cons}
-use Prim.Native.Nat.{ℕ, _+_, _≤_}
+use Prim.Native.Nat.{ℕ, _+_, _≤_, _<_}
 use native.Mathlib.Omega.{arith}
 use lib.Dec.{eqb}
-use lib.ListN.{length, getD, take, drop, take-append-drop}
+use lib.ListN.{getD, take, drop, take-append-drop}
 use Rattle.recovery.specs.Group.{Write, redoSize}
 use Rattle.recovery.specs.Lists.{All, nil, cons}
 use Rattle.recovery.specs.Transaction.{Tx, running}
 use Rattle.recovery.specs.Savepoint.{countAt}
-use Rattle.recovery.specs.Replay.{redoAll, undoAll, layBytes, oldBytes, oldsOf}
+use Rattle.recovery.specs.Replay.{replay, oldBytes}
 use Rattle.recovery.specs.Ledger.{Commit, Ledger, OpenTx, committedIn, layCommits, committedMemory, editOpen, addWrites, takenBack, addReturn, withActive}
 use Rattle.recovery.specs.Ledger.{enterWrote, enterWentBack}
 use Rattle.recovery.specs.Machine.{Opening, Disk, historyOf, Live, Listed, roomUsed, withWrite, afterWrite, afterWrites, afterGoBack}
 use Rattle.recovery.specs.Claim.{commits}
-use Rattle.recovery.proofs.Lists.{all-map, all-zip, all-here, all-right, all-reverse}
+use Rattle.recovery.proofs.Lists.{all-map, all-zip, all-here, all-more, all-right, all-reverse}
 use Rattle.recovery.proofs.Transactions.{Found, find, found-running, found-apart}
 use Rattle.recovery.proofs.Groups.{redoSize-append}
+use Rattle.recovery.proofs.Byte.{oldest, layByte}
+use Rattle.recovery.proofs.LiveByte.{Quiet, own-alone}
 use Rattle.recovery.proofs.Records.{Within, Covers, covers-more, covers-own, olds-within, Recorded, olds-drop}
 use Rattle.recovery.proofs.Ledger.{openOf, opens, edit-one, commits-append, commits-entries, replay-commits}
-use Rattle.recovery.proofs.Invariant.{Up, baseMemory, base-length}
+use Rattle.recovery.proofs.Invariant.{Up, baseAt, baseMemory, base-length}
 use Rattle.recovery.proofs.WriteStep.{written-room, written-listed, rewrite-keeps}
 
 -- ---- writes one after the other
@@ -97,6 +100,14 @@ module _ (o : Opening) (d : Disk) (l : Live) (k : Ledger) (u : Up o d l k) where
 
     pub recorded : Recorded (o .size) (baseMemory o d l) r
     recorded = all-here (running (f .before)) r (running (f .after)) (rw runnings at (u .records))
+
+    -- number 9 never keeps a return away: no other running transaction has a record over a byte that r has one over
+    pub held-alone : (a : ℕ) → a < o .size → oldest a (r .undo) ≢ none → All (λ t. t .id ≢ r .id → oldest a (t .undo) ≡ none) (running (l .txs))
+    held-alone a h s =
+        let others : All (Quiet a) (running (f .before) ++ running (f .after)) =
+        own-alone a (replay (layByte a) (d .after ++ l .tail) (baseAt o (d .before) a)) (getD (l .memory) a 0) (running (f .before)) r (running (f .after))
+        (rw runnings at (u .bytes a h .live)) s in
+        rw runnings (all-more (running (f .before)) r (running (f .after)) (λ n. absurd (n refl)) (all-map (λ t q n. q .0) others))
 
     -- the bytes that the ledger computes are those of the undo records
     pub taken-back : (n : ℕ) → takenBack (committedMemory k) (some n) (r .redo) ≡ reverse (drop n (r .undo))

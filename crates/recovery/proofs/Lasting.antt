@@ -12,19 +12,19 @@ use lib.ListN.{length, getD, drop}
 use lib.Seq.{drop-append-le}
 use borrow.Author.Tests.{eqb-true, eqb-false, ne-eqb}
 use Rattle.recovery.specs.Group.{Write}
-use Rattle.recovery.specs.Lists.{All, nil, cons}
+use Rattle.recovery.specs.Lists.{nil}
 use Rattle.recovery.specs.Transaction.{Tx, lookup, edit, remove, heldByOther}
 use Rattle.recovery.specs.Replay.{layBytes, oldBytes}
 use Rattle.recovery.specs.Ledger.{Event, Ledger, enter, enterWrote}
 use Rattle.recovery.specs.Machine.{Opening, Disk, Live, System, down, up, Listed, newTx, withWrite, afterWrite, withSavepoint, afterWrites, inCommit}
 use Rattle.recovery.specs.Machine.{lastAssigned, Step, stays, begins, writes, setsSavepoint, goesBack, precommits, rollsBack, flushes, flushIsCut}
 use Rattle.recovery.specs.Machine.{settles, checkpoints, checkpointIsCut, restarts, restartIsCut, Run, next, roomUsed, afterGoBack}
-use Rattle.recovery.proofs.Bool.{some-none, eqb-same}
+use Rattle.recovery.proofs.Bool.{some-none}
 use Rattle.recovery.proofs.Distinct.{empty, distinct-others}
 use Rattle.recovery.proofs.Transactions.{DistinctIds, Found, find, lookup-none}
 use Rattle.recovery.proofs.Byte.{act, seen, oldest, newest, oldest-append}
 use Rattle.recovery.proofs.LiveByte.{Touch, miss, hit}
-use Rattle.recovery.proofs.Invariant.{Up, Inv, baseMemory, base-length}
+use Rattle.recovery.proofs.Invariant.{Inv, baseMemory}
 use Rattle.recovery.proofs.WriteStep.{touch, written-listed}
 use Rattle.recovery.proofs.GoBackStep.{recorded}
 use Rattle.recovery.proofs.Records.{olds-length}

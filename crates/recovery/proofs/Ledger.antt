@@ -9,7 +9,7 @@ use native.Mathlib.Omega.{arith}
 use lib.Dec.{eqb, leb}
 use lib.ListN.{length, replicate}
 use borrow.Author.Tests.{ne-eqb, eqb-true}
-use Rattle.recovery.specs.Group.{Write, Group, committed, aborted, groupSize, fitting}
+use Rattle.recovery.specs.Group.{Group, committed, aborted, groupSize, fitting}
 use Rattle.recovery.specs.Lists.{All, nil, cons, orElse}
 use Rattle.recovery.specs.Transaction.{Tx, running, committing}
 use Rattle.recovery.specs.Replay.{redoAll, replay, layBytes}

@@ -1,15 +1,17 @@
 -- What going back leaves in memory: each byte written since the savepoint reads as just before the first such write, every other byte as before.
 use mathlib.Core.Path.{_≡_, refl, sym, ap, _∙_, subst}
 use mathlib.Core.Logic.{_≢_}
-use mathlib.Core.Bool.{false}
+use mathlib.Core.Bool.{Bool, true, false, cond}
 use mathlib.Core.Option.{Option, none, some}
-use mathlib.Core.List.{List, [], _∷_, _++_, reverse, reverse-cons}
-use Prim.Native.Nat.{ℕ, _<_}
+use mathlib.Core.List.{List, [], _∷_, _++_, append-assoc, append-nil, reverse, reverse-cons, reverse-append}
+use Prim.Native.Nat.{ℕ, suc, _≤_, _<_}
+use native.Mathlib.Omega.{arith}
+use lib.Dec.{eqb}
 use lib.ListN.{length, getD, take, drop, take-append-drop}
-use lib.Seq.{length-sets}
+use lib.Seq.{length-sets, length-take-le, take-suc, drop-append-le, drop-length}
 use Rattle.recovery.specs.Group.{Write}
 use Rattle.recovery.specs.Lists.{All, nil, cons}
-use Rattle.recovery.specs.Transaction.{Tx}
+use Rattle.recovery.specs.Transaction.{Tx, edit}
 use Rattle.recovery.specs.Replay.{redoAll, undoAll, layBytes, oldBytes, oldsOf}
 use Rattle.recovery.specs.Ledger.{Ledger, committedMemory}
 use Rattle.recovery.specs.Machine.{Opening, Disk, Live, Listed, withWrite, afterWrite, afterWrites, afterGoBack}
@@ -17,7 +19,7 @@ use Rattle.recovery.proofs.Bool.{some-none}
 use Rattle.recovery.proofs.Lists.{else-none, else-next, all-right}
 use Rattle.recovery.proofs.Byte.{act, seen, oldest, newest, undo-oldest, redo-length, undo-byte}
 use Rattle.recovery.proofs.LiveByte.{Touch, miss, hit}
-use Rattle.recovery.proofs.Records.{Within, Recorded, redo-append, olds-drop}
+use Rattle.recovery.proofs.Records.{Within, redo-append, olds-drop}
 use Rattle.recovery.proofs.Invariant.{Up, baseMemory, base-length}
 use Rattle.recovery.proofs.WriteStep.{touch}
 use Rattle.recovery.proofs.GoBackStep.{ledger-memory, recorded}
@@ -44,7 +46,64 @@ return-byte r n l a h =
     ap (λ (m : List ℕ). getD m a 0) (return-memory r n l)
     ∙ (undo-byte (length (l .memory)) (l .memory) refl a h (drop n (r .undo)) ∙ undo-oldest a (drop n (r .undo)) (getD (l .memory) a 0))
 
--- ---- and that is what the commits and the writes up to the savepoint leave there
+-- ---- the whole live state after writes one after the other
+
+-- records added at the end
+abbrev pub withRecords : List Write → List Write → Tx → Tx
+withRecords us ws t =
+    record { id = t .id; committing = t .committing; csn = t .csn; undo = t .undo ++ us; redo = t .redo ++ ws; savepoints = t .savepoints }
+
+edit-nothing : (i : ℕ) (txs : List Tx) → edit i (withRecords [] []) txs ≡ txs
+edit-nothing i [] = refl
+edit-nothing i (t ∷ ts) = go (eqb i (t .id)) (edit-nothing i ts)
+  where
+    go : (b : Bool) → edit i (withRecords [] []) ts ≡ ts → cond b (withRecords [] [] t ∷ ts) (t ∷ edit i (withRecords [] []) ts) ≡ t ∷ ts
+    go true e = rw (append-nil (t .undo), append-nil (t .redo)) refl
+    go false e = ap (λ (us : List Tx). t ∷ us) e
+
+edit-more : (i : ℕ) (u w : Write) (us ws : List Write) (txs : List Tx)
+    → edit i (withRecords us ws) (edit i (withWrite u w) txs) ≡ edit i (withRecords (u ∷ us) (w ∷ ws)) txs
+edit-more i u w us ws [] = refl
+edit-more i u w us ws (t ∷ ts) = go (eqb i (t .id)) refl (edit-more i u w us ws ts)
+  where
+    go : (b : Bool) → eqb i (t .id) ≡ b → edit i (withRecords us ws) (edit i (withWrite u w) ts) ≡ edit i (withRecords (u ∷ us) (w ∷ ws)) ts
+        → edit i (withRecords us ws) (cond b (withWrite u w t ∷ ts) (t ∷ edit i (withWrite u w) ts))
+        ≡ cond b (withRecords (u ∷ us) (w ∷ ws) t ∷ ts) (t ∷ edit i (withRecords (u ∷ us) (w ∷ ws)) ts)
+    go true p e = rw (p, append-assoc (t .undo) (u ∷ []) us, append-assoc (t .redo) (w ∷ []) ws) refl
+    go false p e = rw (p, e) refl
+
+-- each write adds an undo record with what stands there then, and a redo record
+pub writes-live : (ws : List Write) (r : Tx) (l : Live)
+    → afterWrites r ws l
+    ≡ record {
+      txs = edit (r .id) (withRecords (oldsOf (l .memory) ws) ws) (l .txs);
+      memory = redoAll layBytes ws (l .memory);
+      tail = l .tail;
+      csn = l .csn;
+      lastId = l .lastId;
+    }
+writes-live [] r l =
+    ap (λ (ts : List Tx). record { txs = ts; memory = l .memory; tail = l .tail; csn = l .csn; lastId = l .lastId }) (sym (edit-nothing (r .id) (l .txs)))
+writes-live (w ∷ ws) r l =
+    let m : List ℕ = layBytes w (l .memory) in
+    writes-live ws (withWrite (oldBytes w (l .memory)) w r) (afterWrite r w l)
+    ∙ ap (λ (ts : List Tx). record { txs = ts; memory = redoAll layBytes ws m; tail = l .tail; csn = l .csn; lastId = l .lastId })
+    (edit-more (r .id) (oldBytes w (l .memory)) w (oldsOf m ws) ws (l .txs))
+
+-- The writes of a return one by one, the newest first, for a loop down to the savepoint: with m records still to look at, of which n stay, the next is
+-- the last of them.
+pub back-next : (n m : ℕ) (us : List Write) (d : Write) → n ≤ m → m < length us → reverse (drop n (take (suc m) us)) ≡ getD us m d ∷ reverse (drop n (take m us))
+back-next n m us d le h =
+    let long : length (take m us) ≡ m = length-take-le m us (omega arith) in
+    ap reverse (ap (drop n) (take-suc us m d h) ∙ drop-append-le n (take m us) (getD us m d ∷ []) (omega arith))
+    ∙ reverse-append (drop n (take m us)) (getD us m d ∷ [])
+
+pub back-done : (n : ℕ) (us : List Write) → n ≤ length us → reverse (drop n (take n us)) ≡ []
+back-done n us h =
+    let long : length (take n us) ≡ n = length-take-le n us h in
+    ap reverse (ap (λ (k : ℕ). drop k (take n us)) (sym long) ∙ drop-length (take n us))
+
+-- ---- what the commits and the writes up to the savepoint leave is what a return leaves
 
 module _ (k a : ℕ) (h : a < k) where
   -- the oldest of the old bytes of writes over a byte is what stood there first

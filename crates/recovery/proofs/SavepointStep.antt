@@ -1,14 +1,14 @@
 -- Setting a savepoint keeps the invariant: nothing changes but the savepoints, in the store and in the ledger alike.
 use mathlib.Core.Path.{_≡_, refl}
 use mathlib.Core.Bool.{false}
-use mathlib.Core.List.{List, _∷_, _++_}
-use Prim.Native.Nat.{ℕ, _+_, _≤_}
+use mathlib.Core.List.{_∷_, _++_}
+use Prim.Native.Nat.{ℕ, _+_}
 use native.Mathlib.Omega.{arith}
 use lib.ListN.{getD}
 use Rattle.recovery.specs.Transaction.{Tx, running}
 use Rattle.recovery.specs.Replay.{replay}
 use Rattle.recovery.specs.Ledger.{Ledger, noteSavepoint, enterSavepointSet}
-use Rattle.recovery.specs.Machine.{Opening, Disk, Live, Listed, roomUsed, withSavepoint, afterSavepoint}
+use Rattle.recovery.specs.Machine.{Opening, Disk, Live, Listed, withSavepoint, afterSavepoint}
 use Rattle.recovery.proofs.Lists.{all-here}
 use Rattle.recovery.proofs.Transactions.{Found, find, found-running}
 use Rattle.recovery.proofs.Byte.{layByte}

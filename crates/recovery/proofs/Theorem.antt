@@ -22,7 +22,7 @@ use Rattle.recovery.specs.Claim.{commits, Claim}
 use Rattle.recovery.proofs.Lists.{all-map, prefix-whole}
 use Rattle.recovery.proofs.Distinct.{empty}
 use Rattle.recovery.proofs.Groups.{groupsSize-append, replay-append}
-use Rattle.recovery.proofs.Byte.{newest, layByte, by-bytes}
+use Rattle.recovery.proofs.Byte.{oldest, newest, layByte, by-bytes}
 use Rattle.recovery.proofs.Numbers.{consecutive-nil, consecutive-numbered}
 use Rattle.recovery.proofs.Log.{form-one, opening-stands}
 use Rattle.recovery.proofs.Room.{Roomy}
@@ -31,7 +31,7 @@ use Rattle.recovery.proofs.Invariant.{Down, Inv, ImageAt, baseAt, crash
 use Rattle.recovery.proofs.BeginStep.{begin-keeps}
 use Rattle.recovery.proofs.WriteStep.{write-keeps}
 use Rattle.recovery.proofs.SavepointStep.{savepoint-keeps}
-use Rattle.recovery.proofs.GoBackStep.{ledger-memory, taken-back, go-back-keeps}
+use Rattle.recovery.proofs.GoBackStep.{ledger-memory, held-alone, taken-back, go-back-keeps}
 use Rattle.recovery.proofs.Returns.{return-reads, return-leaves}
 use Rattle.recovery.proofs.EndSteps.{precommit-keeps, abort-keeps}
 use Rattle.recovery.proofs.FlushStep.{flush-keeps, cut-flush-keeps}
@@ -125,14 +125,18 @@ module _ (o : Opening) where
     undo-recorded =
         all-map (λ r x. x .olds ∙ ap (λ (m : List ℕ). oldsOf m (r .redo)) (sym (ledger-memory o d l k (holds run)))) (holds run .records)
 
-    module _ (r : Tx) (listed : Listed r (l .txs)) (running : r .committing ≡ false) (n : ℕ) where
+    module _ (r : Tx) (listed : Listed r (l .txs)) (runs : r .committing ≡ false) (n : ℕ) where
       -- the writes that the ledger computes for a return are those that the store makes
       pub return-agrees : takenBack (committedMemory k) (some n) (r .redo) ≡ reverse (drop n (r .undo))
-      return-agrees = taken-back o d l k (holds run) r listed running n
+      return-agrees = taken-back o d l k (holds run) r listed runs n
+
+      -- they are never kept away by number 9: where r has a record over a byte, no other running transaction has one
+      pub return-free : (a : ℕ) → a < o .size → oldest a (r .undo) ≢ none → All (λ t. t .id ≢ r .id → oldest a (t .undo) ≡ none) (running (l .txs))
+      return-free = held-alone o d l k (holds run) r listed runs
 
       -- after it a byte written since reads as the commits and the first n writes leave it; any other stays
       pub return-restores : (a : ℕ) → a < o .size
           → (newest a (drop n (r .redo)) ≢ none
           → getD (afterGoBack r n l .memory) a 0 ≡ getD (redoAll layBytes (take n (r .redo)) (committedMemory k)) a 0)
           × (newest a (drop n (r .redo)) ≡ none → getD (afterGoBack r n l .memory) a 0 ≡ getD (l .memory) a 0)
-      return-restores a h = (return-reads o d l k (holds run) r listed running n a h, return-leaves o d l k (holds run) r listed running n a h)
+      return-restores a h = (return-reads o d l k (holds run) r listed runs n a h, return-leaves o d l k (holds run) r listed runs n a h)
