@@ -8,16 +8,16 @@ use Prim.Native.Nat.{ℕ, suc, _≤_, _<_}
 use native.Mathlib.Omega.{arith}
 use lib.Dec.{eqb}
 use lib.ListN.{length, getD, take, drop, take-append-drop}
-use lib.Seq.{length-sets, length-take-le, take-suc, drop-append-le, drop-length}
+use lib.Seq.{ext-getD, length-sets, length-take-le, take-suc, drop-append-le, drop-length}
 use Rattle.recovery.specs.Group.{Write}
 use Rattle.recovery.specs.Lists.{All, nil, cons}
 use Rattle.recovery.specs.Transaction.{Tx, edit}
 use Rattle.recovery.specs.Replay.{redoAll, undoAll, layBytes, oldBytes, oldsOf}
-use Rattle.recovery.specs.Ledger.{Ledger, committedMemory}
+use Rattle.recovery.specs.Ledger.{Ledger, committedMemory, takenBack}
 use Rattle.recovery.specs.Machine.{Opening, Disk, Live, Listed, withWrite, afterWrite, afterWrites, afterGoBack}
 use Rattle.recovery.proofs.Bool.{some-none}
 use Rattle.recovery.proofs.Lists.{else-none, else-next, all-right}
-use Rattle.recovery.proofs.Byte.{act, seen, oldest, newest, undo-oldest, redo-length, undo-byte}
+use Rattle.recovery.proofs.Byte.{act, seen, oldest, newest, laid-byte, undo-oldest, redo-length, undo-byte}
 use Rattle.recovery.proofs.LiveByte.{Touch, miss, hit}
 use Rattle.recovery.proofs.Records.{Within, redo-append, olds-drop}
 use Rattle.recovery.proofs.Invariant.{Up, baseMemory, base-length}
@@ -126,6 +126,39 @@ module _ (k a : ℕ) (h : a < k) where
           → oldest a (oldsOf m (w ∷ ws)) ≡ none
       go (miss p r q) f = rw p (f (else-none (newest a ws) ∙ (rw r at e)))
       go (hit p r q) f = absurd (else-next (newest a ws) (seen a w) (some-none r) e)
+
+-- ---- a write set with a return in it leaves what its writes up to the savepoint leave
+
+-- the old bytes over the new ones
+lay-old : (k : ℕ) (w : Write) (m : List ℕ) → length m ≡ k → Within k w → layBytes (oldBytes w m) (layBytes w m) ≡ m
+lay-old k w m l b =
+    let m′ : List ℕ = layBytes w m in
+    let l′ : length (layBytes w m) ≡ k = length-sets m (w .addr) (w .bytes) ∙ l in
+    let l″ : length (layBytes (oldBytes w m) (layBytes w m)) ≡ k = length-sets m′ (w .addr) (oldBytes w m .bytes) ∙ l′ in
+    ext-getD 0 (layBytes (oldBytes w m) m′) m (l″ ∙ sym l)
+    (λ a h.
+    let inside : a < k = rw l″ at h in
+    laid-byte a (oldBytes w m) m′ (rw l′ inside) ∙ go a (touch a m w [] (rw l inside) (rw l b) (λ _. nil)))
+  where
+    go : (a : ℕ) → Touch a (getD m a 0) (getD (layBytes w m) a 0) (oldBytes w m) w [] → act (seen a (oldBytes w m)) (getD (layBytes w m) a 0) ≡ getD m a 0
+    go a (miss p q e) = rw p e
+    go a (hit p q e) = rw p refl
+
+undo-olds : (k : ℕ) (ws : List Write) (m : List ℕ) → length m ≡ k → All (Within k) ws → undoAll layBytes (oldsOf m ws) (redoAll layBytes ws m) ≡ m
+undo-olds k [] m l nil = refl
+undo-olds k (w ∷ ws) m l (cons b bs) =
+    ap (λ (x : List ℕ). layBytes (oldBytes w m) x) (undo-olds k ws (layBytes w m) (length-sets m (w .addr) (w .bytes) ∙ l) bs) ∙ lay-old k w m l b
+
+pub return-cancels : (k n : ℕ) (ws : List Write) (m : List ℕ) → length m ≡ k → All (Within k) ws
+    → redoAll layBytes (ws ++ takenBack m (some n) ws) m ≡ redoAll layBytes (take n ws) m
+return-cancels k n ws m l b =
+    let stood : List ℕ = redoAll layBytes (take n ws) m in
+    let later : redoAll layBytes ws m ≡ redoAll layBytes (drop n ws) stood =
+    ap (λ (vs : List Write). redoAll layBytes vs m) (sym (take-append-drop n ws)) ∙ redo-append layBytes (take n ws) (drop n ws) m in
+    redo-append layBytes ws (takenBack m (some n) ws) m
+    ∙ (redo-reverse layBytes (oldsOf stood (drop n ws)) (redoAll layBytes ws m)
+    ∙ (ap (λ (x : List ℕ). undoAll layBytes (oldsOf stood (drop n ws)) x) later
+    ∙ undo-olds k (drop n ws) stood (redo-length k m l (take n ws)) (all-right (take n ws) (subst (All (Within k)) (sym (take-append-drop n ws)) b))))
 
 module _ (o : Opening) (d : Disk) (l : Live) (k : Ledger) (u : Up o d l k) (r : Tx) (listed : Listed r (l .txs)) (run : r .committing ≡ false)
     (n a : ℕ) (h : a < o .size) where

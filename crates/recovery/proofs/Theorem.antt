@@ -7,9 +7,9 @@ use mathlib.Core.Option.{none, some}
 use mathlib.Core.List.{List, [], _++_, reverse}
 use Prim.Native.Nat.{ℕ, _≤_, _<_}
 use native.Mathlib.Omega.{arith}
-use lib.ListN.{getD, take, drop}
+use lib.ListN.{length, getD, take, drop}
 use lib.Seq.{take-nil}
-use Rattle.recovery.specs.Group.{Group, groupsSize}
+use Rattle.recovery.specs.Group.{Write, Group, groupsSize}
 use Rattle.recovery.specs.Lists.{All, nil}
 use Rattle.recovery.specs.Transaction.{Tx, running}
 use Rattle.recovery.specs.Replay.{redoAll, layBytes, oldsOf}
@@ -27,12 +27,12 @@ use Rattle.recovery.proofs.Numbers.{consecutive-nil, consecutive-number
 use Rattle.recovery.proofs.Log.{form-one, opening-stands}
 use Rattle.recovery.proofs.Room.{Roomy}
 use Rattle.recovery.proofs.Ledger.{Settles, replay-commits}
-use Rattle.recovery.proofs.Invariant.{Down, Inv, ImageAt, baseAt, crash, down-emptied}
+use Rattle.recovery.proofs.Invariant.{Down, Inv, ImageAt, baseAt, base-length, crash, down-emptied}
 use Rattle.recovery.proofs.BeginStep.{begin-keeps}
 use Rattle.recovery.proofs.WriteStep.{write-keeps}
 use Rattle.recovery.proofs.SavepointStep.{savepoint-keeps}
-use Rattle.recovery.proofs.GoBackStep.{ledger-memory, held-alone, taken-back, go-back-keeps}
-use Rattle.recovery.proofs.Returns.{return-reads, return-leaves}
+use Rattle.recovery.proofs.GoBackStep.{ledger-memory, recorded, held-alone, taken-back, go-back-keeps}
+use Rattle.recovery.proofs.Returns.{return-cancels, return-reads, return-leaves}
 use Rattle.recovery.proofs.EndSteps.{precommit-keeps, abort-keeps}
 use Rattle.recovery.proofs.FlushStep.{flush-keeps, cut-flush-keeps}
 use Rattle.recovery.proofs.SettleStep.{settle-finds, settle-keeps}
@@ -133,6 +133,13 @@ module _ (o : Opening) where
       -- they are never kept away by number 9: where r has a record over a byte, no other running transaction has one
       pub return-free : (a : ℕ) → a < o .size → oldest a (r .undo) ≢ none → All (λ t. t .id ≢ r .id → oldest a (t .undo) ≡ none) (running (l .txs))
       return-free = held-alone o d l k (holds run) r listed runs
+
+      -- what r has to commit then leaves what its first n writes leave: the writes taken back survive in no commit
+      pub return-lost : redoAll layBytes (r .redo ++ reverse (drop n (r .undo))) (committedMemory k) ≡ redoAll layBytes (take n (r .redo)) (committedMemory k)
+      return-lost =
+          let long : length (committedMemory k) ≡ o .size = ap length (ledger-memory o d l k (holds run)) ∙ base-length o d l in
+          ap (λ (ws : List Write). redoAll layBytes (r .redo ++ ws) (committedMemory k)) (sym return-agrees)
+          ∙ return-cancels (o .size) n (r .redo) (committedMemory k) long (recorded o d l k (holds run) r listed runs .within)
 
       -- after it a byte written since reads as the commits and the first n writes leave it; any other stays
       pub return-restores : (a : ℕ) → a < o .size

@@ -130,12 +130,12 @@ abbrev pub afterSavepoint : Tx → ℕ → Live → Live
 afterSavepoint r name l =
     record { txs = edit (r .id) (withSavepoint name) (l .txs); memory = l .memory; tail = l .tail; csn = l .csn; lastId = l .lastId }
 
--- Going back, to where n writes of r stood (document 02, A.7): writes the old bytes of every later one, newest first, as ordinary writes. First
--- writes of r one after the other, r being each time what the one before has made of it.
+-- writes of r, one after the other; r is each time what the one before has made of it
 abbrev pub afterWrites : Tx → List Write → Live → Live
 afterWrites r [] l = l
 afterWrites r (w ∷ ws) l = afterWrites (withWrite (oldBytes w (l .memory)) w r) ws (afterWrite r w l)
 
+-- Going back, to where n writes of r stood (document 02, A.7): writes the old bytes of every later one, newest first, as ordinary writes.
 abbrev pub afterGoBack : Tx → ℕ → Live → Live
 afterGoBack r n l = afterWrites r (reverse (drop n (r .undo))) l
 
