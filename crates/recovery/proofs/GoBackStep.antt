@@ -18,20 +18,20 @@ use Rattle.recovery.specs.Ledger.{Commit, Ledger, OpenTx, committedIn, l
 use Rattle.recovery.specs.Ledger.{enterWrote, enterWentBack}
 use Rattle.recovery.specs.Machine.{Opening, Disk, historyOf, Live, Listed, roomUsed, withWrite, afterWrite, afterWrites, afterGoBack}
 use Rattle.recovery.specs.Claim.{commits}
-use Rattle.recovery.proofs.Lists.{all-map, all-zip, all-here, all-more, all-right, all-reverse}
+use Rattle.recovery.proofs.Lists.{all-map, all-zip, all-more, all-right, all-reverse}
 use Rattle.recovery.proofs.Transactions.{Found, find, found-running, found-apart}
 use Rattle.recovery.proofs.Groups.{redoSize-append}
 use Rattle.recovery.proofs.Byte.{oldest, layByte}
 use Rattle.recovery.proofs.LiveByte.{Quiet, own-alone}
 use Rattle.recovery.proofs.Records.{Within, Covers, covers-more, covers-own, olds-within, Recorded, olds-drop}
 use Rattle.recovery.proofs.Ledger.{openOf, opens, edit-one, commits-append, commits-entries, replay-commits}
-use Rattle.recovery.proofs.Invariant.{Up, baseAt, baseMemory, base-length}
+use Rattle.recovery.proofs.Invariant.{Up, baseAt, baseMemory, base-length, recorded}
 use Rattle.recovery.proofs.WriteStep.{written-room, written-listed, rewrite-keeps}
 
 -- ---- writes one after the other
 
 -- the ledger is told of each
-abbrev enterWrites : ℕ → List Write → Ledger → Ledger
+abbrev pub enterWrites : ℕ → List Write → Ledger → Ledger
 enterWrites i [] k = k
 enterWrites i (w ∷ ws) k = enterWrites i ws (enterWrote i w k)
 
@@ -98,8 +98,8 @@ module _ (o : Opening) (d : Disk) (l : Live) (k : Ledger) (u : Up o d l k) where
     runnings : running (l .txs) ≡ running (f .before) ++ r ∷ running (f .after)
     runnings = found-running r run f
 
-    pub recorded : Recorded (o .size) (baseMemory o d l) r
-    recorded = all-here (running (f .before)) r (running (f .after)) (rw runnings at (u .records))
+    records : Recorded (o .size) (baseMemory o d l) r
+    records = recorded o d l k u r listed run
 
     -- number 9 never keeps a return away: no other running transaction has a record over a byte that r has one over
     pub held-alone : (a : ℕ) → a < o .size → oldest a (r .undo) ≢ none → All (λ t. t .id ≢ r .id → oldest a (t .undo) ≡ none) (running (l .txs))
@@ -113,14 +113,14 @@ module _ (o : Opening) (d : Disk) (l : Live) (k : Ledger) (u : Up o d l k) where
     pub taken-back : (n : ℕ) → takenBack (committedMemory k) (some n) (r .redo) ≡ reverse (drop n (r .undo))
     taken-back n =
         ap (λ (m : List ℕ). takenBack m (some n) (r .redo)) ledger-memory
-        ∙ ap reverse (sym (ap (drop n) (recorded .olds) ∙ olds-drop n (r .redo) (baseMemory o d l)))
+        ∙ ap reverse (sym (ap (drop n) (records .olds) ∙ olds-drop n (r .redo) (baseMemory o d l)))
 
     module _ (name n : ℕ) (set : countAt name (r .savepoints) ≡ some n) where
       abbrev back : List Write
       back = reverse (drop n (r .undo))
 
       -- going back is told to the ledger as its writes one by one
-      went-back : enterWentBack (r .id) name k ≡ enterWrites (r .id) back k
+      pub went-back : enterWentBack (r .id) name k ≡ enterWrites (r .id) (reverse (drop n (r .undo))) k
       went-back =
           let m : List ℕ = committedMemory k in
           let g : OpenTx → OpenTx = addReturn m name in
@@ -139,7 +139,7 @@ module _ (o : Opening) (d : Disk) (l : Live) (k : Ledger) (u : Up o d l k) where
       back-again : All (Again (o .size) r) back
       back-again =
           let within : All (Within (o .size)) (r .undo) =
-          rw (recorded .olds) (olds-within (o .size) (r .redo) (baseMemory o d l) (base-length o d l) (recorded .within)) in
+          rw (records .olds) (olds-within (o .size) (r .redo) (baseMemory o d l) (base-length o d l) (records .within)) in
           all-reverse (all-right (take n (r .undo)) (subst (All (Again (o .size) r)) (sym (take-append-drop n (r .undo))) (all-zip within (covers-own (r .undo)))))
 
       pub go-back-keeps : roomUsed d l + redoSize (drop n (r .undo)) ≤ o .capacity → Up o d (afterGoBack r n l) (enterWentBack (r .id) name k)

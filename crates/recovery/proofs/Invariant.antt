@@ -1,5 +1,6 @@
 -- The invariant of disk, live state and ledger, and its part that lasts when the current fails.
 use mathlib.Core.Path.{_≡_, ap, _∙_}
+use mathlib.Core.Bool.{false}
 use mathlib.Core.List.{List, _++_, append-assoc, List·Memᴰ}
 use Prim.Native.Nat.{ℕ, _≤_, _<_}
 use lib.ListN.{length, getD}
@@ -9,10 +10,10 @@ use Rattle.recovery.specs.Transaction.{Tx, running, committing}
 use Rattle.recovery.specs.Replay.{replay, layBytes}
 use Rattle.recovery.specs.Restart.{groupId}
 use Rattle.recovery.specs.Ledger.{Commit, Ledger, emptied}
-use Rattle.recovery.specs.Machine.{Opening, Disk, historyOf, Live, System, down, up, lastAssigned}
+use Rattle.recovery.specs.Machine.{Opening, Disk, historyOf, Live, System, down, up, Listed, lastAssigned}
 use Rattle.recovery.specs.Claim.{commits}
-use Rattle.recovery.proofs.Lists.{EveryPrefix, prefix-left}
-use Rattle.recovery.proofs.Transactions.{DistinctIds}
+use Rattle.recovery.proofs.Lists.{all-here, EveryPrefix, prefix-left}
+use Rattle.recovery.proofs.Transactions.{DistinctIds, Found, find, found-running}
 use Rattle.recovery.proofs.Groups.{replay-append}
 use Rattle.recovery.proofs.Byte.{layByte, replay-length, replay-byte}
 use Rattle.recovery.proofs.LiveByte.{RunningAt}
@@ -81,6 +82,13 @@ pub record Up (o : Opening) (d : Disk) (l : Live) (k : Ledger) : Type 0 where
   pub numbers : Numbers o d
   pub ledger : Agrees d l k
   pub opening : k .opening ≡ o .memory
+
+-- of one that is listed
+pub recorded : (o : Opening) (d : Disk) (l : Live) (k : Ledger) → Up o d l k → (r : Tx) → Listed r (l .txs) → r .committing ≡ false
+    → Recorded (o .size) (baseMemory o d l) r
+recorded o d l k u r listed run =
+    let f : Found (r .id) r (l .txs) = find (r .id) r (l .txs) listed in
+    all-here (running (f .before)) r (running (f .after)) (rw (found-running r run f) at (u .records))
 
 -- What a restart needs. It says nothing of the ledger's open transactions and queue.
 pub record Down (o : Opening) (d : Disk) (k : Ledger) : Type 0 where

@@ -24,9 +24,8 @@ use Rattle.recovery.proofs.Distinct.{empty, distinct-others}
 use Rattle.recovery.proofs.Transactions.{DistinctIds, Found, find, lookup-none}
 use Rattle.recovery.proofs.Byte.{act, seen, oldest, newest, oldest-append}
 use Rattle.recovery.proofs.LiveByte.{Touch, miss, hit}
-use Rattle.recovery.proofs.Invariant.{Inv, baseMemory}
+use Rattle.recovery.proofs.Invariant.{Inv, baseMemory, recorded}
 use Rattle.recovery.proofs.WriteStep.{touch, written-listed}
-use Rattle.recovery.proofs.GoBackStep.{recorded}
 use Rattle.recovery.proofs.Records.{olds-length}
 use Rattle.recovery.proofs.Returns.{return-byte, later-none}
 use Rattle.recovery.proofs.Theorem.{holds}

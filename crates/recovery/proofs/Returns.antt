@@ -20,9 +20,9 @@ use Rattle.recovery.proofs.Lists.{else-none, else-next, all-right}
 use Rattle.recovery.proofs.Byte.{act, seen, oldest, newest, laid-byte, undo-oldest, redo-length, undo-byte}
 use Rattle.recovery.proofs.LiveByte.{Touch, miss, hit}
 use Rattle.recovery.proofs.Records.{Within, redo-append, olds-drop}
-use Rattle.recovery.proofs.Invariant.{Up, baseMemory, base-length}
+use Rattle.recovery.proofs.Invariant.{Up, baseMemory, base-length, recorded}
 use Rattle.recovery.proofs.WriteStep.{touch}
-use Rattle.recovery.proofs.GoBackStep.{ledger-memory, recorded}
+use Rattle.recovery.proofs.GoBackStep.{ledger-memory}
 
 -- ---- memory after a return
 

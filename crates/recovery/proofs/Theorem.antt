@@ -12,9 +12,10 @@ use lib.Seq.{take-nil}
 use Rattle.recovery.specs.Group.{Write, Group, groupsSize}
 use Rattle.recovery.specs.Lists.{All, nil}
 use Rattle.recovery.specs.Transaction.{Tx, running}
+use Rattle.recovery.specs.Savepoint.{countAt}
 use Rattle.recovery.specs.Replay.{redoAll, layBytes, oldsOf}
 use Rattle.recovery.specs.Restart.{undoOrder}
-use Rattle.recovery.specs.Ledger.{Event, Commit, Ledger, noLedger, committedIn, layCommits, committedMemory, takenBack, enter}
+use Rattle.recovery.specs.Ledger.{Event, Commit, Ledger, noLedger, committedIn, layCommits, committedMemory, takenBack, enterWentBack, enter}
 use Rattle.recovery.specs.Machine.{Opening, Disk, historyOf, standingBefore, Live, System, down, up, diskOf, openingDisk, Listed, Step, stays, begins}
 use Rattle.recovery.specs.Machine.{writes, setsSavepoint, goesBack, precommits, rollsBack, flushes, flushIsCut, settles, checkpoints, checkpointIsCut, restarts, restartIsCut, Run, opened, next}
 use Rattle.recovery.specs.Machine.{afterGoBack}
@@ -27,11 +28,11 @@ use Rattle.recovery.proofs.Numbers.{consecutive-nil, consecutive-number
 use Rattle.recovery.proofs.Log.{form-one, opening-stands}
 use Rattle.recovery.proofs.Room.{Roomy}
 use Rattle.recovery.proofs.Ledger.{Settles, replay-commits}
-use Rattle.recovery.proofs.Invariant.{Down, Inv, ImageAt, baseAt, base-length, crash, down-emptied}
+use Rattle.recovery.proofs.Invariant.{Down, Inv, ImageAt, baseAt, base-length, recorded, crash, down-emptied}
 use Rattle.recovery.proofs.BeginStep.{begin-keeps}
 use Rattle.recovery.proofs.WriteStep.{write-keeps}
 use Rattle.recovery.proofs.SavepointStep.{savepoint-keeps}
-use Rattle.recovery.proofs.GoBackStep.{ledger-memory, recorded, held-alone, taken-back, go-back-keeps}
+use Rattle.recovery.proofs.GoBackStep.{enterWrites, ledger-memory, held-alone, taken-back, went-back, go-back-keeps}
 use Rattle.recovery.proofs.Returns.{return-cancels, return-reads, return-leaves}
 use Rattle.recovery.proofs.EndSteps.{precommit-keeps, abort-keeps}
 use Rattle.recovery.proofs.FlushStep.{flush-keeps, cut-flush-keeps}
@@ -129,6 +130,10 @@ module _ (o : Opening) where
       -- the writes that the ledger computes for a return are those that the store makes
       pub return-agrees : takenBack (committedMemory k) (some n) (r .redo) ≡ reverse (drop n (r .undo))
       return-agrees = taken-back o d l k (holds run) r listed runs n
+
+      -- To the ledger a return is its writes one by one, as it is to the store (`afterGoBack`).
+      pub return-as-writes : (name : ℕ) → countAt name (r .savepoints) ≡ some n → enterWentBack (r .id) name k ≡ enterWrites (r .id) (reverse (drop n (r .undo))) k
+      return-as-writes name set = went-back o d l k (holds run) r listed runs name n set
 
       -- they are never kept away by number 9: where r has a record over a byte, no other running transaction has one
       pub return-free : (a : ℕ) → a < o .size → oldest a (r .undo) ≢ none → All (λ t. t .id ≢ r .id → oldest a (t .undo) ≡ none) (running (l .txs))

@@ -17,7 +17,7 @@ use Rattle.recovery.specs.Replay.{redoAll, replay, layBytes, oldBytes, o
 use Rattle.recovery.specs.Ledger.{Ledger, addWrites, enterWrote}
 use Rattle.recovery.specs.Machine.{Opening, Disk, Live, Listed, roomUsed, withWrite, afterWrite}
 use Rattle.recovery.proofs.Bool.{some-none}
-use Rattle.recovery.proofs.Lists.{all-map, all-zip, all-append, all-here, all-less}
+use Rattle.recovery.proofs.Lists.{all-map, all-zip, all-append, all-less}
 use Rattle.recovery.proofs.Transactions.{Found, find, found-running, found-apart}
 use Rattle.recovery.proofs.Groups.{redoSize-append}
 use Rattle.recovery.proofs.Byte.{act, seen, seenAt, oldest, newest, layByte, laid-byte, oldest-append, redo-newest, redo-length, redo-byte}
@@ -25,7 +25,7 @@ use Rattle.recovery.proofs.LiveByte.{Quiet, RunningAt, own-byte, own-al
 use Rattle.recovery.proofs.Records.{Within, Covers, old-length, old-same, Recorded, olds-append}
 use Rattle.recovery.proofs.Held.{unheld}
 use Rattle.recovery.proofs.Follows.{Over}
-use Rattle.recovery.proofs.Invariant.{Up, baseAt, baseMemory, base-length, base-byte}
+use Rattle.recovery.proofs.Invariant.{Up, baseAt, baseMemory, base-length, base-byte, recorded}
 use Rattle.recovery.proofs.EditStep.{edited-listed, edited-room, edited-keeps}
 
 -- one more undo record covers no less
@@ -124,7 +124,7 @@ module _ (o : Opening) (d : Disk) (l : Live) (k : Ledger) (r : Tx) (w : Write) (
     written-recorded =
         let m : List ℕ = baseMemory o d l in
         let lm : length (baseMemory o d l) ≡ o .size = base-length o d l in
-        let before : Recorded (o .size) (baseMemory o d l) r = all-here xs r ys (rw runnings at (u .records)) in
+        let before : Recorded (o .size) (baseMemory o d l) r = recorded o d l k u r listed run in
         let new : old ≡ oldBytes w (redoAll layBytes (r .redo) m) =
         old-same (o .size) w (l .memory) (redoAll layBytes (r .redo) m) (u .liveLength) (redo-length (o .size) m lm (r .redo)) within
         (λ a h s. own-byte a (byCommits a) (getD (l .memory) a 0) xs r ys (live-before a h) (alone a h s)
