@@ -235,6 +235,20 @@ static void wait_a_little(const struct bench *b)
         nanosleep(&t, NULL);
 }
 
+static const char *stop_text(unsigned char stop)
+{
+    switch (stop) {
+    case LUPPANETH_STOP_FULL:
+        return "the log is full";
+    case LUPPANETH_STOP_ZERO:
+        return "the log ended clean";
+    case LUPPANETH_STOP_TORN:
+        return "the log ended torn";
+    default:
+        return "where the log ended is not told";
+    }
+}
+
 static void restart(struct bench *b)
 {
     uint32_t undone;
@@ -242,7 +256,7 @@ static void restart(struct bench *b)
     read_file(b);
     need("restart", lup_restart(&b->store, LUPPANETH_ALL, &undone));
     put_down(b);
-    printf("restarted: %" PRIu32 " undone\n", undone);
+    printf("restarted: %" PRIu32 " undone, %s\n", undone, stop_text(b->store.stop));
 }
 
 /* One step. It is reported once its bytes are on the drive, not before. */

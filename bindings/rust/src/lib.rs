@@ -40,7 +40,7 @@ mod file;
 mod refusal;
 mod store;
 
-pub use calls::Csn;
+pub use calls::{Csn, Stop};
 pub use device::{Device, MemoryDevice};
 pub use error::Error;
 #[cfg(unix)]

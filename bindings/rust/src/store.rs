@@ -3,8 +3,8 @@
 use std::io;
 use std::sync::atomic::{AtomicU64, Ordering};
 
-use crate::calls::{Csn, Disk, Memory, State, Tail, TxId, IMAGE_A, IMAGE_B, LOG_LEN, LOG_START};
-use crate::calls::{MEMORY_LEN, POINTER};
+use crate::calls::{Csn, Disk, Memory, State, Stop, Tail, TxId, IMAGE_A, IMAGE_B};
+use crate::calls::{LOG_LEN, LOG_START, MEMORY_LEN, POINTER};
 use crate::device::{zeros, Device};
 use crate::error::Error;
 use crate::refusal::Refusal;
@@ -42,6 +42,7 @@ pub struct Store<D: Device> {
     working: Working,
     /// Precommitted and not yet settled.
     waiting: Vec<TxId>,
+    stop: Stop,
     opening: u64,
     poisoned: bool,
 }
@@ -114,13 +115,16 @@ impl<D: Device> Store<D> {
         };
         device.load(&mut w.disk).map_err(Error::Device)?;
         let used = used(&*w.disk);
-        w.state
+        let found = w
+            .state
             .restart(&mut w.disk, &mut w.memory, &mut w.tail, ALL)?;
+        let stop = found.stop.expect("with stores enough a restart is done");
         let end = LOG_START + w.state.log_end();
         let mut store = Store {
             device,
             working: w,
             waiting: Vec::new(),
+            stop,
             opening: OPENINGS.fetch_add(1, Ordering::Relaxed),
             poisoned: false,
         };
@@ -228,6 +232,12 @@ impl<D: Device> Store<D> {
     pub fn read(&self, at: usize, len: usize) -> Result<&[u8], Error> {
         let part = self.pattern()?.get(at..at.saturating_add(len));
         part.ok_or(Error::Refused(Refusal::BadRange))
+    }
+
+    /// Why the log ended where it did when this store was opened, before what stood behind it was cleared. [`Stop::Torn`] is what a power cut
+    /// in the middle of a flush leaves; the bookings that it tore were never reported as flushed.
+    pub fn stop(&self) -> Stop {
+        self.stop
     }
 
     /// Bytes of the log that are left. A booking takes 8, and 7 and its bytes for each write.

@@ -6,7 +6,7 @@ use std::panic::{catch_unwind, AssertUnwindSafe};
 use std::path::PathBuf;
 
 use luppaneth::calls::{Disk, DISK_LEN, IMAGE_A, IMAGE_B, LOG_START, POINTER};
-use luppaneth::{Csn, Device, Error, FileDevice, MemoryDevice, Refusal, Store};
+use luppaneth::{Csn, Device, Error, FileDevice, MemoryDevice, Refusal, Stop, Store};
 
 fn fresh() -> Store<MemoryDevice> {
     Store::open(MemoryDevice::new()).unwrap()
@@ -209,6 +209,35 @@ fn a_failed_device_poisons_the_store() {
     assert_eq!(store.durable().unwrap(), Csn(0));
     store.book(|tx| tx.write(0, &[2])).unwrap();
     assert_eq!(store.flush().unwrap(), Csn(1));
+}
+
+#[test]
+fn an_opening_tells_why_the_log_ended() {
+    // A booking of one byte takes 16 stores.
+    let mut device = Failing::after(16 + 15, usize::MAX);
+    let mut store = Store::open(&mut device).unwrap();
+    assert_eq!(store.stop(), Stop::Zero);
+    store.book(|tx| tx.write(0, &[1])).unwrap();
+    store.flush().unwrap();
+    store.book(|tx| tx.write(0, &[2])).unwrap();
+    assert!(matches!(store.flush(), Err(Error::Device(_))));
+    drop(store);
+    device.stores = usize::MAX;
+    assert_eq!(Store::open(&mut device).unwrap().stop(), Stop::Torn);
+    // What was torn is cleared by then.
+    let again = Store::open(&mut device).unwrap();
+    assert_eq!(
+        (again.stop(), again.durable().unwrap()),
+        (Stop::Zero, Csn(1))
+    );
+
+    let mut store = fresh();
+    for _ in 0..2_048 {
+        store.book(|_| Ok(())).unwrap();
+        store.flush().unwrap();
+    }
+    assert_eq!(store.log_left().unwrap(), 0);
+    assert_eq!(Store::open(store.into_device()).unwrap().stop(), Stop::Full);
 }
 
 #[test]

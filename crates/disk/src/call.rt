@@ -9,18 +9,17 @@ use layout::TAIL_LEN;
 use log::Csn;
 use log::TxId;
 use log::stop::Stop;
-use log::stop::stop_of;
+use log::stop::stop_at;
 use log::stores::clear_down;
 use store::Answer;
 use store::State;
 use store::stored::cut_off;
 use transaction::Tx;
-ghost use Prim.Native.Nat.{_≤_};
+ghost use Prim.Native.Nat.{_-_, min};
 ghost use mathlib.Core.Path.{_≡_};
-ghost use lib.ListN.{length};
-ghost use Rattle.layout.specs.{diskLen, logLen};
+ghost use lib.ListN.{length, take, drop};
 ghost use Rattle.log.specs.Stop.{stopOf};
-ghost use Rattle.disk.specs.Layout.{logFrom};
+ghost use Rattle.log.specs.Stores.{apply, clears};
 ghost use Rattle.disk.specs.declared.call.Stopped.the-variants.{Untold};
 ghost use Rattle.disk.specs.Restart.{recoveredState, ofRestarted, refusedRestart, restartOf, stoppedOf};
 
@@ -55,12 +54,24 @@ fn recovered(end: u16, csn: Csn, last: TxId) -> State
     }
 }
 
-// Why the log ends at a place of it.
-fn stop_at(disk: &[u8], end: usize) -> Stop
-    requires { ⌜ (length (now disk) ≡ diskLen) × (end ≤ logLen) ⌝ }
-    ensures { λ r. ⌜ r ≡ stopOf (logFrom end (now (disk .entry))) ⌝ }
+// The stores that step 6 made, and why the log ended before it.
+struct Cleared {
+    made: usize,
+    stop: Stop,
+}
+
+// Step 6, as far as stores are allowed. What it clears is looked at first.
+fn clear_log(log: &mut [u8], end: usize, allowed: usize) -> Cleared
+    ensures { λ r. ⌜ r .stop ≡ stopOf (drop end (now (log .entry))) ⌝ }
+    ensures { λ r. ⌜ r .made ≡ min allowed (length (clears end (length (now (log .entry)) - end))) ⌝ }
+    ensures { λ _. ⌜ now (log .exit) ≡ apply (take allowed (clears end (length (now (log .entry)) - end))) (now (log .entry)) ⌝ }
 {
-    stop_of(&disk[LOG_START + end..LOG_START + LOG_LEN])
+    let stop = stop_at(&*log, end);
+    let made = clear_down(log, end, allowed);
+    Cleared {
+        made: made,
+        stop: stop,
+    }
 }
 
 fn refused(number: u8) -> Restarted
@@ -98,8 +109,9 @@ pub fn restart(disk: &mut [u8], memory: &mut [u8], tail: &mut [u8], allowed: usi
         return refused(found.number);
     }
     let end = found.end;
-    let stop = stop_at(&*disk, end);
-    let made = clear_down(&mut disk[LOG_START..LOG_START + LOG_LEN], end, allowed);
+    let cleared = clear_log(&mut disk[LOG_START..LOG_START + LOG_LEN], end, allowed);
+    let made = cleared.made;
+    let stop = cleared.stop;
     if made < LOG_LEN - end {
         let off = cut_off(memory, tail, made);
         let state = off.state;

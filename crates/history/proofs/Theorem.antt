@@ -7,10 +7,10 @@ use mathlib.Core.Path.{_≡_, refl, sym, ap, _∙_, subst}
 use lib.ListN.{length, replicate}
 use Rattle.recovery.specs.Group.{groupsSize, lastCsn}
 use Rattle.recovery.specs.Lists.{All}
-use Rattle.recovery.specs.Ledger.{Event, settled, Commit, Ledger, noLedger, committedIn, latest}
+use Rattle.recovery.specs.Ledger.{Event, settled, Commit, Ledger, noLedger, committedIn, layCommits, latest}
 use Rattle.recovery.specs.Machine.{Disk, standingBefore, standingIn, Live, System, down, up, diskOf, openingDisk, undoneBy, Step, stays, begins}
-use Rattle.recovery.specs.Machine.{writes, precommits, rollsBack, flushes, flushIsCut, settles, checkpoints, checkpointIsCut, restarts, restartIsCut, Run, opened, next}
-use Rattle.recovery.specs.Claim.{commits, layCommits, Numbered}
+use Rattle.recovery.specs.Machine.{writes, setsSavepoint, goesBack, precommits, rollsBack, flushes, flushIsCut, settles, checkpoints, checkpointIsCut, restarts, restartIsCut, Run, opened, next}
+use Rattle.recovery.specs.Claim.{commits, Numbered}
 use Rattle.recovery.proofs.Groups.{lastCsn-append}
 use Rattle.recovery.proofs.Numbers.{Numbers}
 use Rattle.recovery.proofs.Log.{form-one}
@@ -35,9 +35,10 @@ use Rattle.history.proofs.FlushSteps.{flush-follows}
 use Rattle.history.proofs.CheckpointSteps.{checkpoint-follows}
 use Rattle.history.proofs.RestartSteps.{log-left, restart-made, restart-follows}
 
--- a store before its first call, and an empty ledger
-abbrev pub openedOn : List ℕ → List ℕ → List ℕ → Watched
-openedOn disk memory tail = record { world = record { disk = disk; memory = memory; tail = tail; state = unrecovered }; ledger = noLedger }
+-- a store before its first call, and an empty ledger that starts from a memory
+abbrev pub openedOn : List ℕ → List ℕ → List ℕ → List ℕ → Watched
+openedOn opening disk memory tail =
+    record { world = record { disk = disk; memory = memory; tail = tail; state = unrecovered }; ledger = noLedger opening }
 
 module _ (from : Start) where
   -- ---- what the machine's invariant says of a disk
@@ -123,6 +124,8 @@ module _ (from : Start) where
   step-settles s t e k id r (stays s′) q = clash (cc)
   step-settles s t e k id r (begins d l room) q = clash (cc)
   step-settles s t e k id r (writes d l x w listed run within free room) q = clash (cc)
+  step-settles s t e k id r (setsSavepoint d l x name listed run) q = clash (cc)
+  step-settles s t e k id r (goesBack d l x name n listed run set room) q = clash (cc)
   step-settles s t e k id r (precommits d l x listed run) q = clash (cc)
   step-settles s t e k id r (rollsBack d l x listed run) q = clash (cc)
   step-settles s t e k id r (flushes d l n allowed enough) q = clash (cc)
@@ -180,9 +183,9 @@ module _ (from : Start) where
 
   -- whatever happens to a store whose disk shows the opening one, and whatever memory and tail hold at first
   pub survives : (disk memory tail : List ℕ) → OnDisk from disk (openingDisk (opens from)) → length memory ≡ 4096 → length tail ≡ 16384
-      → (hs : List Happening) → SurvivesFrom (happenAll hs (openedOn disk memory tail))
+      → (hs : List Happening) → SurvivesFrom (happenAll hs (openedOn (from .memory) disk memory tail))
   survives disk memory tail o lm lt hs =
-      claimed (happenAll hs (openedOn disk memory tail)) (all-happen hs (openedOn disk memory tail)
+      claimed (happenAll hs (openedOn (from .memory) disk memory tail)) (all-happen hs (openedOn (from .memory) disk memory tail)
       (record { system = down (openingDisk (opens from)); run = opened; shows = (o, rests (record { memory = lm; tail = lt; state = refl })) }))
 
 -- a fresh disk opens from zeros and 0

@@ -8,8 +8,8 @@ use lib.ListN.{length, replicate}
 use Rattle.recovery.specs.Group.{groupsSize}
 use Rattle.recovery.specs.Lists.{All}
 use Rattle.recovery.specs.Ledger.{Event, unchanged, begun, wrote, precommitted, rolledBack, flushed, settled, restarted, cut}
-use Rattle.recovery.specs.Ledger.{Commit, Ledger, noLedger, committedIn, latest, enter}
-use Rattle.recovery.specs.Claim.{commits, layCommits, Numbered}
+use Rattle.recovery.specs.Ledger.{Commit, Ledger, noLedger, committedIn, layCommits, latest, enter}
+use Rattle.recovery.specs.Claim.{commits, Numbered}
 use Rattle.log.specs.Log.{readLog}
 use Rattle.store.specs.Answer as words
 use Rattle.store.specs.State.{unrecovered}
@@ -76,9 +76,9 @@ abbrev pub happenAll : List Happening → Watched → Watched
 happenAll [] k = k
 happenAll (h ∷ hs) k = happenAll hs (happen h k)
 
--- "an all-zero disk"; memory and tail hold anything, the ledger is empty. Until a restart is done, number 2 refuses every other call.
+-- "an all-zero disk"; memory and tail hold anything, the ledger is empty and starts from zeros. Until a restart is done, number 2 refuses every other call.
 abbrev pub opening : List ℕ → List ℕ → Watched
-opening memory tail = record { world = record { disk = replicate 33691 0; memory = memory; tail = tail; state = unrecovered }; ledger = noLedger }
+opening memory tail = record { world = record { disk = replicate 33691 0; memory = memory; tail = tail; state = unrecovered }; ledger = noLedger (replicate 4096 0) }
 
 -- ---- what is claimed
 

@@ -58,10 +58,10 @@ outlineIn (saved id status csn us) = outline id status csn (map rangeOf us)
 abbrev pub contentOk : Content → Bool
 contentOk c = imageOk (c .logend) (c .ondisk) (c .assigned) (c .lastid) (map outlineIn (c .txs))
 
--- ---- transactions as recovery has them: an image on disk holds no redo records
+-- ---- transactions as recovery has them: an image on disk holds no redo records and no savepoints
 
 abbrev pub transactionOf : Saved → Transaction
-transactionOf (saved id status csn us) = record { id = id; committing = eqb status statusCommitting; csn = csn; undo = us; redo = [] }
+transactionOf (saved id status csn us) = record { id = id; committing = eqb status statusCommitting; csn = csn; undo = us; redo = []; savepoints = [] }
 
 abbrev pub transactionsIn : Image → List Transaction
 transactionsIn i = map viewOf (listed (i .txs) (i .count))

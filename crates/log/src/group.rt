@@ -7,7 +7,7 @@ use crate::record::put_commit;
 use crate::record::put_redo;
 use crate::record::read_record;
 use crate::stop::Stop;
-use crate::stop::stop_of;
+use crate::stop::stop_at;
 use layout::ABORT;
 use layout::ABORT_LEN;
 use layout::COMMIT_LEN;
@@ -84,7 +84,7 @@ pub fn read_group(s: &[u8], prev: Csn) -> GroupEnd
 {
     // An abort is the shortest, and told without a call: a log can have thousands.
     if s.len() < ABORT_LEN {
-        return GroupEnd::NoGroup(stop_of(s));
+        return GroupEnd::NoGroup(stop_at(s, 0));
     }
     let id = be16(s, 1);
     if s[0] != ABORT {

@@ -6,7 +6,7 @@ use crate::number::be32;
 use crate::number::put16;
 use crate::number::put32;
 use crate::stop::Stop;
-use crate::stop::stop_of;
+use crate::stop::stop_at;
 use crate::stores::copy;
 use layout::ABORT;
 use layout::ABORT_LEN;
@@ -98,7 +98,7 @@ pub fn read_record(s: &[u8]) -> Head
 {
     // An abort is the shortest.
     if s.len() < ABORT_LEN {
-        return Head::Nothing(stop_of(s));
+        return Head::Nothing(stop_at(s, 0));
     }
     let kind = s[0];
     if kind == 0 {

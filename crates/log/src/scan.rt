@@ -3,7 +3,7 @@ use crate::Csn;
 use crate::group::GroupEnd;
 use crate::group::read_group;
 use crate::stop::Stop;
-use crate::stop::stop_of;
+use crate::stop::stop_at;
 ghost use mathlib.Core.Path.{_≡_};
 ghost use lib.ListN.{take};
 ghost use Rattle.log.specs.Log.{readLog, reachedOf, logEndOf};
@@ -54,7 +54,7 @@ pub fn read_log(s: &[u8], prev: Csn) -> LogEnd
     let all = read_first(s, prev, s.len());
     let end = all.end;
     let csn = all.csn;
-    let stop = stop_of(&s[end..]);
+    let stop = stop_at(s, end);
     LogEnd {
         end: end,
         csn: csn,

@@ -68,7 +68,7 @@ written-view : (t : Tx) (a : ℕ) (old new : List ℕ) → SizedTx t → records
     → viewOf (written t a old new) ≡ withWrite (record { addr = a; bytes = old }) (record { addr = a; bytes = new }) (viewOf t)
 unfolding written
 written-view t a old new z u r cu cr lo ln =
-    ap₂ (λ (us rs : List Write). record { id = t .id .0; committing = eqb (t .status) 2; csn = t .csn .0; undo = us; redo = rs })
+    ap₂ (λ (us rs : List Write). record { id = t .id .0; committing = eqb (t .status) 2; csn = t .csn .0; undo = us; redo = rs; savepoints = [] })
     (pushed-writes (t .undo) a old (z .undos) cu lo (λ j h. ranged (t .undo .ranges) u j h .1))
     (pushed-writes (t .redo) a new (z .redos) cr ln (λ j h. ranged (t .redo .ranges) r j h .1))
 

@@ -46,7 +46,7 @@ outlineOf t = outline (t .id .0) (t .status) (t .csn .0) (rangesOf (t .undo .ran
 -- the transaction as recovery has it
 abbrev pub viewOf : Tx → Transaction
 viewOf t =
-    record { id = t .id .0; committing = eqb (t .status) statusCommitting; csn = t .csn .0; undo = writesOf (t .undo); redo = writesOf (t .redo) }
+    record { id = t .id .0; committing = eqb (t .status) statusCommitting; csn = t .csn .0; undo = writesOf (t .undo); redo = writesOf (t .redo); savepoints = [] }
 
 -- ---- without the bytes: what the rules look at
 

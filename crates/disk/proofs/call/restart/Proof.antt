@@ -23,8 +23,8 @@ use Rattle.disk.proofs.call.restart.Tie as tie
 abbrev then5FromState : tie.After-state → tie.Then5
 then5FromState c = c .before .before .before .before .before .before .before .before
 
-abbrev afterClearDownFromState : tie.After-state → tie.After-clear-down
-afterClearDownFromState c = c .before .before .before .before .before .before .before .before .before .before .before
+abbrev afterClearLogFromState : tie.After-state → tie.After-clear-log
+afterClearLogFromState c = c .before .before .before .before .before .before .before .before .before .before .before
 
 -- an outcome's parts, and last the stop told
 with-stop : {A B C D E : Type 0} → A × (B × (C × D)) → E → A × (B × (C × (D × E)))
@@ -110,51 +110,48 @@ found-end x = ap (λ (r : Examined). r .end) (x .examine .ensures .0)
 within : (x : tie.After-examine) → x .examine .result .end ≤ 16384
 within x = omega (arith, roomy (start x .args .disk .now), found-end x)
 
-stop-at-requires : tie.Need-stop-at-requires
-stop-at-requires c κs = let x = c .before .before .before .before .before .before .before in (lent x .before .before .if1 .left, within x)
+add-clear-log : tie.Need-add-clear-log
+add-clear-log c = search needs
 
-add-clear-down : tie.Need-add-clear-down
-add-clear-down c = search needs
+sub-clear-log : tie.Need-sub-clear-log
+sub-clear-log c = search needs
 
-sub-clear-down : tie.Need-sub-clear-down
-sub-clear-down c = search needs
+part-clear-log-start : tie.Need-part-clear-log-start
+part-clear-log-start c = search needs
 
-part-clear-down-start : tie.Need-part-clear-down-start
-part-clear-down-start c = search needs
+part-clear-log-end : tie.Need-part-clear-log-end
+part-clear-log-end c = search needs
 
-part-clear-down-end : tie.Need-part-clear-down-end
-part-clear-down-end c = search needs
-
-clear-down-requires : tie.Need-clear-down-requires
-clear-down-requires c κs = search needs
+clear-log-requires : tie.Need-clear-log-requires
+clear-log-requires c κs = search needs
 
 -- ---- once stores are made
 
-abbrev examined : tie.After-clear-down → tie.After-examine
-examined k = k .before .before .before .before .before .before .before .before .before .before
+abbrev examined : tie.After-clear-log → tie.After-examine
+examined k = k .before .before .before .before .before .before .before .before
 
 -- no number refuses
-taken : (k : tie.After-clear-down) → examineOf (start (examined k) .args .disk .now) .result .number ≡ 0
-taken k = sym (ap (λ (r : Examined). r .number) (examined k .examine .ensures .0)) ∙ k .before .before .before .before .if4 .left
+taken : (k : tie.After-clear-log) → examineOf (start (examined k) .args .disk .now) .result .number ≡ 0
+taken k = sym (ap (λ (r : Examined). r .number) (examined k .examine .ensures .0)) ∙ k .before .before .if4 .left
 
 -- the stores made
-made : (k : tie.After-clear-down) → let a = start (examined k) .args in
-    k .clear-down .result ≡ min (a .allowed) (length (clearing (examineOf (a .disk .now) .result .end)))
+made : (k : tie.After-clear-log) → let a = start (examined k) .args in
+    k .clear-log .result .made ≡ min (a .allowed) (length (clearing (examineOf (a .disk .now) .result .end)))
 made k =
     let x = examined k in
     let a = start x .args in
-    k .clear-down .ensures .0
+    k .clear-log .ensures .1 .0
     ∙ ap (min (a .allowed))
     (log-count (x .examine .result .end) (a .disk .now) (lent x .before .before .if1 .left) ∙ ap (λ (e : ℕ). length (clearing e)) (found-end x))
 
 -- what they leave on the disk
-emptied : (k : tie.After-clear-down) → let a = start (examined k) .args in
-    putMid 17307 16384 (a .disk .now) (k .clear-down .last .0)
+emptied : (k : tie.After-clear-log) → let a = start (examined k) .args in
+    putMid 17307 16384 (a .disk .now) (k .clear-log .last .0)
     ≡ apply (take (a .allowed) (clearing (examineOf (a .disk .now) .result .end))) (a .disk .now)
 emptied k =
     let x = examined k in
     let a = start x .args in
-    log-cleared (a .allowed) (x .examine .result .end) (a .disk .now) (k .clear-down .last .0) (lent x .before .before .if1 .left) (within x) (k .clear-down .ensures .1)
+    log-cleared (a .allowed) (x .examine .result .end) (a .disk .now) (k .clear-log .last .0) (lent x .before .before .if1 .left) (within x) (k .clear-log .ensures .1 .1)
     ∙ ap (λ (e : ℕ). apply (take (a .allowed) (clearing e)) (a .disk .now)) (found-end x)
 
 sub-if5 : tie.Need-sub-if5
@@ -165,10 +162,10 @@ cut-off-requires c κs = search needs
 
 -- memory and tail keep their lengths
 kept : (c : tie.After-state)
-    → let x = examined (afterClearDownFromState c) in let off = c .before .before .before .before .before .cut-off in
+    → let x = examined (afterClearLogFromState c) in let off = c .before .before .before .before .before .cut-off in
     (length (off .last .0) ≡ length (start x .args .memory .now)) × (length (off .last .1 .0) ≡ length (start x .args .tail .now))
 kept c =
-    let x = examined (afterClearDownFromState c) in
+    let x = examined (afterClearLogFromState c) in
     let off = c .before .before .before .before .before .cut-off in
     (off .kept .0 ∙ x .examine .kept .1 .0, off .kept .1 .0 ∙ x .examine .kept .1 .1 .0)
 
@@ -183,7 +180,7 @@ same-length-6 c = kept c .1
 
 returns-5 : tie.Need-returns-5
 returns-5 c =
-    let k = afterClearDownFromState c in
+    let k = afterClearLogFromState c in
     let x = examined k in
     let w = lent x in
     let a = start x .args in
@@ -232,7 +229,7 @@ returns-6 c =
     (recoveredState (r .end) (r .csn) (r .last)))
     (x .examine .ensures .0))
     (emptied k) (x .examine .ensures .1 .0) (x .examine .ensures .1 .1))
-    (ap At (k .before .before .stop-at .ensures ∙ stop-found (a .disk .now) (x .examine .result .end) (found-end x))
+    (ap At (k .clear-log .ensures .0 ∙ stop-found (a .disk .now) (x .examine .result .end) (found-end x))
     ∙ sym (stopped-by (a .disk .now) (a .memory .now) (a .tail .now) (a .allowed) e))
 
 pub restart-spec : {M : Type 1} → statement M
@@ -251,12 +248,11 @@ restart-spec =
     same-length-2
     same-length-3
     returns-4
-    stop-at-requires
-    add-clear-down
-    sub-clear-down
-    part-clear-down-start
-    part-clear-down-end
-    clear-down-requires
+    add-clear-log
+    sub-clear-log
+    part-clear-log-start
+    part-clear-log-end
+    clear-log-requires
     sub-if5
     cut-off-requires
     same-length-4

@@ -15,11 +15,11 @@ use Rattle.log.proofs.GroupLaws.{group-other, group-abort, group-none}
 use Rattle.log.proofs.group.read_group.Statement.{statement}
 use Rattle.log.proofs.group.read_group.Tie as tie
 
-stop-of-requires : tie.Need-stop-of-requires
-stop-of-requires c κs = search needs
+stop-at-requires : tie.Need-stop-at-requires
+stop-at-requires c κs = search needs
 
 returns : tie.Need-returns
-returns c = ap NoGroup (c .stop-of .ensures) ∙ ap (endOf _) (sym (group-none _ _ (record-short _ (c .before .if1 .taken))))
+returns c = ap NoGroup (c .stop-at .ensures) ∙ ap (endOf _) (sym (group-none _ _ (record-short _ (c .before .if1 .taken))))
 
 be16-requires : tie.Need-be16-requires
 be16-requires c κs = search needs
@@ -61,7 +61,7 @@ pub read-group-spec : {M : Type 1} → statement M
 read-group-spec =
     tie.close
     (tie.spec
-    stop-of-requires
+    stop-at-requires
     returns
     be16-requires
     shared-slice-read-if2

@@ -12,11 +12,11 @@ use Rattle.log.proofs.StopLaws.{stop-zero, stop-torn, record-zero}
 use Rattle.log.proofs.record.read_record.Statement.{statement}
 use Rattle.log.proofs.record.read_record.Tie as tie
 
-stop-of-requires : tie.Need-stop-of-requires
-stop-of-requires c κs = search needs
+stop-at-requires : tie.Need-stop-at-requires
+stop-at-requires c κs = search needs
 
 returns : tie.Need-returns
-returns c = ap Nothing (c .stop-of .ensures) ∙ ap (headOf _) (sym (record-short _ (c .before .if1 .taken)))
+returns c = ap Nothing (c .stop-at .ensures) ∙ ap (headOf _) (sym (record-short _ (c .before .if1 .taken)))
 
 shared-slice-read-kind : tie.Need-shared-slice-read-kind
 shared-slice-read-kind c = search needs
@@ -71,7 +71,7 @@ pub read-record-spec : {M : Type 1} → statement M
 read-record-spec =
     tie.close
     (tie.spec
-    stop-of-requires
+    stop-at-requires
     returns
     shared-slice-read-kind
     returns-2
