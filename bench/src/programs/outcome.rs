@@ -1,5 +1,6 @@
 //! What a call gave back, in the second program's terms.
 
+use second::log::Stop;
 use second::state::Refusal;
 use second::trace::{Answer, Outcome};
 
@@ -18,6 +19,15 @@ pub fn stored(result: Result<(bool, usize, usize), Refusal>) -> Outcome {
         answer,
         value: value as u32,
         stores,
+        stop: None,
+    }
+}
+
+/// The same of a restart, and why the log ended.
+pub fn restarted(result: Result<(bool, usize, usize), Refusal>, stop: Option<Stop>) -> Outcome {
+    Outcome {
+        stop,
+        ..stored(result)
     }
 }
 
@@ -34,5 +44,6 @@ fn answer(answer: Answer) -> Outcome {
         answer,
         value: 0,
         stores: 0,
+        stop: None,
     }
 }

@@ -2,9 +2,10 @@
 //! comes back in the reply.
 
 use super::flat::{flat, unflat};
-use super::outcome::{part, stored, yes_or_no};
+use super::outcome::{part, restarted, stored, yes_or_no};
 use super::{Buffers, Program, StepWrite};
 use crate::tuned::state::State;
+use second::log::Stop;
 use second::trace::{Call, Outcome, World};
 use std::hint::black_box;
 
@@ -13,6 +14,8 @@ struct Reply {
     /// 0 done, 1 cut, 2 refused.
     answer: u8,
     number: u8,
+    /// Of a restart that is done: 1 full, 2 a zero byte, 3 torn. Else 0.
+    stop: u8,
     value: u32,
     stores: usize,
     state: State,
@@ -219,10 +222,17 @@ impl Proved {
 }
 
 fn outcome(reply: &Reply) -> Outcome {
-    stored(match reply.answer {
+    let result = match reply.answer {
         2 => Err(reply.number),
         answer => Ok((answer == 1, reply.stores, reply.value as usize)),
-    })
+    };
+    let stop = match reply.stop {
+        1 => Some(Stop::Full),
+        2 => Some(Stop::Zero),
+        3 => Some(Stop::Torn),
+        _ => None,
+    };
+    restarted(result, stop)
 }
 
 fn is_done(reply: &Reply) -> bool {

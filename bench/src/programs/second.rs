@@ -1,6 +1,6 @@
 //! The second program, tests/second.
 
-use super::outcome::{part, stored, told, yes_or_no};
+use super::outcome::{part, restarted, stored, told, yes_or_no};
 use super::{Buffers, Program, StepWrite};
 use second::layout::{MAX_TXS, MAX_UNDOS};
 use second::log::Write;
@@ -99,7 +99,11 @@ impl Program for Second {
             Call::Restart { allowed } => {
                 let (new, result) = restart(disk, memory, tail, *allowed);
                 *state = new;
-                stored(result.map(|r| (r.stored.cut, r.stored.stores, r.undone)))
+                let stop = result.ok().and_then(|r| r.stop);
+                restarted(
+                    result.map(|r| (r.stored.cut, r.stored.stores, r.undone)),
+                    stop,
+                )
             }
             Call::Equal => yes_or_no(equal_in_meaning(disk, kept)),
             _ => told(Ok(0)),

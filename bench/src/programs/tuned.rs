@@ -1,7 +1,7 @@
 //! The tuned program, `crate::tuned`.
 
 use super::flat::{flat, unflat};
-use super::outcome::{part, stored, told, yes_or_no};
+use super::outcome::{part, restarted, stored, told, yes_or_no};
 use super::{Buffers, Program, StepWrite};
 use crate::tuned::restart::{equal_in_meaning, restart};
 use crate::tuned::state::State;
@@ -85,7 +85,8 @@ impl Program for Tuned {
             }
             Call::Restart { allowed } => {
                 let result = restart(state, disk, memory, tail, *allowed);
-                stored(result.map(|(s, undone)| (s.cut, s.stores, undone)))
+                let stop = result.ok().and_then(|(_, _, stop)| stop);
+                restarted(result.map(|(s, undone, _)| (s.cut, s.stores, undone)), stop)
             }
             Call::Equal => yes_or_no(equal_in_meaning(disk, kept)),
             _ => told(Ok(0)),

@@ -7,6 +7,7 @@ use super::{Refusal, Stored};
 use second::layout::{
     DISK_LEN, IMAGE_A, IMAGE_B, IMAGE_LEN, LOG, LOG_LEN, MAX_TXS, MEMORY_LEN, POINTER, TAIL_LEN,
 };
+use second::log::Stop;
 
 /// What steps 1 to 5 find beside memory.
 pub struct Found {
@@ -116,7 +117,7 @@ pub fn restart(
     memory: &mut [u8],
     tail: &mut [u8],
     allowed: usize,
-) -> Result<(Stored, usize), Refusal> {
+) -> Result<(Stored, usize, Option<Stop>), Refusal> {
     state.unrecover();
     if disk.len() != DISK_LEN || memory.len() != MEMORY_LEN || tail.len() != TAIL_LEN {
         return Err(1);
@@ -124,17 +125,23 @@ pub fn restart(
     tail.fill(0);
     let found = recover_into(disk, memory).inspect_err(|_| memory.fill(0))?;
     let need = LOG_LEN - found.end;
+    let stop = match disk.get(LOG + found.end) {
+        None => Stop::Full,
+        Some(0) => Stop::Zero,
+        Some(_) => Stop::Torn,
+    };
     let stores = need.min(allowed);
     disk[DISK_LEN - stores..].fill(0);
     if allowed < need {
         memory.fill(0);
-        return Ok((Stored { cut: true, stores }, 0));
+        return Ok((Stored { cut: true, stores }, 0, None));
     }
     for (i, &id) in found.undone[..found.undone_count].iter().enumerate() {
         put_abort(&mut tail[4 * i..], id);
     }
     found.put_state(state);
-    Ok((Stored { cut: false, stores }, found.undone_count))
+    let stored = Stored { cut: false, stores };
+    Ok((stored, found.undone_count, Some(stop)))
 }
 
 /// Steps 1 to 5: memory is left as restart leaves it, if not refused.

@@ -39,7 +39,7 @@ log-last at disk d =
     ap (drop at) (take-all 16384 (drop 17307 disk) (rw (length-drop 17307 disk) (omega arith))) ∙ drop-drop at 17307 disk
 
 -- as it is lent, from a place of it to its end
-pub log-lent : (at : ℕ) (disk : List ℕ) → at ≤ 16384 → part (17307 + at) (33691 - (17307 + at)) disk ≡ logFrom at disk
+log-lent : (at : ℕ) (disk : List ℕ) → at ≤ 16384 → part (17307 + at) (33691 - (17307 + at)) disk ≡ logFrom at disk
 log-lent at disk h =
     let n : 33691 - (17307 + at) ≡ 16384 - at = omega arith in
     let k : at + (16384 - at) ≡ 16384 = omega (arith, h) in

@@ -1,14 +1,13 @@
 -- Laws of `logStop`: it is the stop where no group stands, handed on over every group before; from any place what is left at the end found
--- decides; full exactly if nothing is; never torn where zeros follow whole groups.
-use Prim.Native.Nat.{ℕ, zero, suc, _+_, _≤_}
+-- decides; full exactly if nothing is; never torn where zeros are.
+use Prim.Native.Nat.{ℕ, zero, suc, _+_}
 use native.Mathlib.Omega.{arith}
-use mathlib.Core.List.{List, _++_}
+use mathlib.Core.List.{List}
 use mathlib.Core.Option.{none, some}
 use mathlib.Core.Path.{_≡_, refl, sym, ap, _∙_}
-use lib.ListN.{length, take, drop, replicate, length-drop}
-use lib.Seq.{drop-drop, drop-at, length-take-le}
+use lib.ListN.{length, drop, replicate, length-drop}
+use lib.Seq.{drop-drop}
 use Rattle.recovery.specs.Group.{Group, groupSize, groupsSize, csnAfter}
-use Rattle.recovery.proofs.Groups.{fitting-all}
 use Rattle.log.specs.Group.{readGroup}
 use Rattle.log.specs.Log.{readLog, logStop}
 use Rattle.log.specs.Stop.{stopOf}
@@ -16,7 +15,6 @@ use Rattle.log.specs.declared.stop.Stop.the-variants.{Full, Torn}
 use Rattle.log.proofs.Basics.{clash}
 use Rattle.log.proofs.StopLaws.{stop-full, full-empty}
 use Rattle.log.proofs.LogLaws.{log-none, log-more, log-within}
-use Rattle.log.proofs.Torn.{log-torn}
 
 module _ (prev : ℕ) (s : List ℕ) where
   pub log-stop-none : readGroup prev s ≡ none → logStop prev s ≡ stopOf s
@@ -51,13 +49,3 @@ pub stop-zeros : (m : ℕ) → stopOf (replicate m 0) ≡ Torn → ⊥
 unfolding stopOf
 stop-zeros zero e = clash (cc)
 stop-zeros (suc m) e = clash (cc)
-
--- a log that was cleared from its end on
-pub log-stop-cleared : (prev : ℕ) (s : List ℕ) (m : ℕ) → logStop prev (take (groupsSize (readLog prev s)) s ++ replicate m 0) ≡ stopOf (replicate m 0)
-unfolding logStop
-log-stop-cleared prev s m =
-    let n = groupsSize (readLog prev s) in
-    let w : n ≤ length s = log-within prev (readLog prev s) s refl in
-    let same = log-torn prev (readLog prev s) s n m refl ∙ fitting-all n (readLog prev s) (omega arith) in
-    ap (λ (gs : List Group). stopOf (drop (groupsSize gs) (take n s ++ replicate m 0))) same
-    ∙ ap stopOf (drop-at (take n s) (replicate m 0) n (length-take-le n s w))

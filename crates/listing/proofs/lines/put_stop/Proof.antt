@@ -12,9 +12,10 @@ use Rattle.listing.proofs.lines.put_stop.Statement.{statement}
 use Rattle.listing.proofs.lines.put_stop.Tie as tie
 
 -- the line of what is told, by the two matches
-line-at : (stopped : Stopped) (stop stop' : Stop) → stopped ≡ At stop → stop ≡ stop' → stopText stop' ≡ stopLine stopped
+line-told : {b out : List ℕ} {at r : ℕ} (stopped : Stopped) (stop stop' : Stop) → stopped ≡ At stop → stop ≡ stop' → Put b at (stopText stop') r out
+    → Put b at (stopLine stopped) r out
 unfolding stopLine
-line-at stopped stop stop' e f = ap stopText (sym f) ∙ sym (ap stopLine e)
+line-told {b} {out} {at} {r} stopped stop stop' e f = subst (λ (text : List ℕ). Put b at text r out) (ap stopText (sym f) ∙ sym (ap stopLine e))
 
 line-untold : (b : List ℕ) (at : ℕ) (stopped : Stopped) → stopped ≡ Untold → Put b at (stopLine stopped) at b
 unfolding stopLine
@@ -61,33 +62,24 @@ same-length c = c .before .before .put-text .kept .0
 
 returns-2 : tie.Need-returns-2
 returns-2 c =
-    let put = c .before .before .put-text in
-    let a = c .before .before .before .before .before .before .before .before .before .before .before .args in
-    let known = c .before .before .before .before .before .before .before .before .stopped .given in
-    subst (λ (text : List ℕ). Put (a .out .now) (a .at) text (put .result) (put .last .0))
-    (line-at (a .stopped) _ _ (known .1) (c .before .before .before .before .before .enum-told2 .given .1)) (put .ensures)
+    line-told _ _ _ (c .before .before .before .before .before .before .before .before .stopped .given .1)
+    (c .before .before .before .before .before .enum-told2 .given .1) (c .before .before .put-text .ensures)
 
 same-length-2 : tie.Need-same-length-2
 same-length-2 c = c .before .before .put-text2 .kept .0
 
 returns-3 : tie.Need-returns-3
 returns-3 c =
-    let put = c .before .before .put-text2 in
-    let a = c .before .before .before .before .before .before .before .before .before .before .before .args in
-    let known = c .before .before .before .before .before .before .before .before .stopped .given in
-    subst (λ (text : List ℕ). Put (a .out .now) (a .at) text (put .result) (put .last .0))
-    (line-at (a .stopped) _ _ (known .1) (c .before .before .before .before .before .enum-told3 .given .1)) (put .ensures)
+    line-told _ _ _ (c .before .before .before .before .before .before .before .before .stopped .given .1)
+    (c .before .before .before .before .before .enum-told3 .given .1) (c .before .before .put-text2 .ensures)
 
 same-length-3 : tie.Need-same-length-3
 same-length-3 c = c .before .before .put-text3 .kept .0
 
 returns-4 : tie.Need-returns-4
 returns-4 c =
-    let put = c .before .before .put-text3 in
-    let a = c .before .before .before .before .before .before .before .before .before .before .before .args in
-    let known = c .before .before .before .before .before .before .before .before .stopped .given in
-    subst (λ (text : List ℕ). Put (a .out .now) (a .at) text (put .result) (put .last .0))
-    (line-at (a .stopped) _ _ (known .1) (c .before .before .before .before .before .enum-told4 .given .1)) (put .ensures)
+    line-told _ _ _ (c .before .before .before .before .before .before .before .before .stopped .given .1)
+    (c .before .before .before .before .before .enum-told4 .given .1) (c .before .before .put-text3 .ensures)
 
 pub put-stop-spec : {M : Type 1} → statement M
 put-stop-spec =
