@@ -49,9 +49,6 @@ contentOf i =
 
 -- ---- the image rules of a content
 
-abbrev pub rangeOf : Write → Range
-rangeOf w = range (w .addr) (length (w .bytes))
-
 abbrev pub outlineIn : Saved → Outline
 outlineIn (saved id status csn us) = outline id status csn (map rangeOf us)
 
