@@ -47,6 +47,11 @@ written-view t a old new zu zr u r cu cr lo ln =
     (pushed-writes (t .undo) a old zu cu lo (λ j h. ranged (t .undo .ranges) u j h .1))
     (pushed-writes (t .redo) a new zr cr ln (λ j h. ranged (t .redo .ranges) r j h .1))
 
+pub written-counts : (t : Tx) (a : ℕ) (old new : List ℕ)
+    → (written t a old new .undo .ranges .count ≡ suc (t .undo .ranges .count)) × (written t a old new .redo .ranges .count ≡ suc (t .redo .ranges .count))
+unfolding written
+written-counts t a old new = (pushed-count (t .undo) a old, pushed-count (t .redo) a new)
+
 -- ---- what writes ask of a transaction and of memory
 
 pub record Writable (t : Tx) (m : List ℕ) (ws : List Write) : Type 0 where

@@ -1,5 +1,6 @@
 -- Laws of savepoints: a name looked up and set in the flat arrays, and the rule that number 2 has for them.
 use Prim.Native.Nat.{ℕ, zero, suc, _+_, _-_, _≤_, _<_}
+use native.Mathlib.Nat.{sub-zero}
 use native.Mathlib.Numerals.{add-one}
 use native.Mathlib.Omega.{arith}
 use mathlib.Core.Bool.{Bool, true, false, cond, not, _&&_, _||_}
@@ -9,7 +10,7 @@ use mathlib.Core.Path.{_≡_, refl, sym, ap, ap₂, _∙_, subst}
 use lib.ListN.{length, getD, set, length-set}
 use lib.Seq.{getD-set-same, getD-set-other}
 use lib.Dec.{eqb, leb}
-use borrow.Author.Tests.{eqb-true, eqb-false, eq-eqb, ne-eqb, leb-true, le-leb, not-true, not-false}
+use borrow.Author.Tests.{eqb-true, eqb-false, eq-eqb, ne-eqb, leb-true, le-leb, lt-leb, not-true, not-false}
 use Rattle.recovery.specs.Savepoint.{Savepoint, setName, countAt}
 use Rattle.recovery.proofs.Bool.{opposed, or-left, or-right}
 use Rattle.log.proofs.Basics.{and-left, and-right, and-both}
@@ -44,7 +45,7 @@ module _ (p : Savepoints) (name : ℕ) where
   count-from zero i = (λ h. absurd (omega arith), λ h. refl)
   count-from (suc k) i = go (eqb name (getD (p .names) i 0)) (count-from k (suc i)) (first (savepointAt p) (hasName name) k (suc i) .low)
     where
-      abbrev rest : List Savepoint
+      rest : List Savepoint
       rest = upFrom (savepointAt p) k (suc i)
 
       go : (b : Bool) → {j : ℕ} → (j < suc i + k → countAt name rest ≡ some (getD (p .counts) j 0)) × (j ≡ suc i + k → countAt name rest ≡ none) → suc i ≤ j
@@ -61,6 +62,10 @@ module _ (p : Savepoints) (name : ℕ) where
 
   pub place : First (savepointAt p) (hasName name) 0 (p .count) (placeOf p name) (isSet name (savepointsIn p))
   place = first (savepointAt p) (hasName name) (p .count) 0
+
+  -- what the loop from the first place on has found
+  pub place-found : (r : ℕ) → r ≡ firstIn (hasName name) 0 (upFrom (savepointAt p) (p .count - 0) 0) → r ≡ placeOf p name
+  place-found r e = e ∙ ap (λ (k : ℕ). firstIn (hasName name) 0 (upFrom (savepointAt p) k 0)) (sub-zero (p .count))
 
   pub place-set : isSet name (savepointsIn p) ≡ true → placeOf p name < p .count
   place-set e = let h = first-within (savepointAt p) (hasName name) (p .count) 0 e in omega arith
@@ -123,7 +128,7 @@ module _ (p : Savepoints) (name n : ℕ) (z : SizedSavepoints p) (fits : placeOf
   pub savepoints-set : savepointsIn (nameSet p name n) ≡ setName name n (savepointsIn p)
   savepoints-set = go (eqb (placeOf p name) (p .count)) refl
     where
-      abbrev g : ℕ → Savepoint
+      g : ℕ → Savepoint
       g = savepointAt (nameSet p name n)
 
       go : (b : Bool) → eqb (placeOf p name) (p .count) ≡ b → upFrom g (cond b (p .count + 1) (p .count)) 0 ≡ setName name n (savepointsIn p)
@@ -134,6 +139,21 @@ module _ (p : Savepoints) (name n : ℕ) (z : SizedSavepoints p) (fits : placeOf
       go false q =
           let e : placeOf p name < 0 + p .count = omega (arith, eqb-false (placeOf p name) (p .count) q, place p name .high) in
           set-moved (savepointAt p) g name n (placeOf p name) set-other set-here (p .count) 0 refl e
+
+-- the arrays with a name at a place
+abbrev placed : Savepoints → ℕ → ℕ → ℕ → ℕ → Savepoints
+placed p count at name n = record { count = count; names = set (p .names) at name; counts = set (p .counts) at n }
+
+module _ (p : Savepoints) (name n at : ℕ) (e : at ≡ placeOf p name) where
+  pub moved-set : (at ≡ p .count → ⊥) → placed p (p .count) at name n ≡ nameSet p name n
+  moved-set h =
+      let q : eqb (placeOf p name) (p .count) ≡ false = ne-eqb _ _ (λ x. h (e ∙ x)) in
+      ap (λ (k : ℕ). placed p (p .count) k name n) e ∙ rw q refl
+
+  pub added-set : at ≡ p .count → placed p (p .count + 1) at name n ≡ nameSet p name n
+  added-set h =
+      let q : eqb (placeOf p name) (p .count) ≡ true = eq-eqb _ _ (sym e ∙ h) in
+      ap (λ (k : ℕ). placed p (p .count + 1) k name n) e ∙ rw q refl
 
 -- ---- the rule
 
@@ -243,7 +263,8 @@ module _ (writes : ℕ) (ps : List Savepoint) (e : savepointsOk writes ps ≡ tr
     pub name-rule : (n : ℕ) → n ≤ writes → savepointsOk writes (setName name n ps) ≡ true
     unfolding savepointsOk
     name-rule n l =
-        and-both _ _ (le-leb _ _ (omega (arith, length-name name n ps, few-more (isSet name ps) refl)))
+        let few : length (setName name n ps) ≤ 4 = omega (arith, length-name name n ps, few-more (isSet name ps) refl) in
+        and-both _ _ (le-leb _ _ few)
         (names-set name n writes ps name-given l names-rule)
 
 -- ---- in the arrays
@@ -267,3 +288,15 @@ pub names-turn : (p : Savepoints) (writes n i : ℕ) → i < n
     namesOk writes (upFrom (savepointAt p) (n - i) i)
     ≡ not (eqb (getD (p .names) i 0) 0) && (leb (getD (p .counts) i 0) writes && (not (isSet (getD (p .names) i 0) rest) && namesOk writes rest))
 names-turn p writes n i h = ap (namesOk writes) (up-turn (savepointAt p) n i h)
+
+module _ (p : Savepoints) (writes : ℕ) where
+  pub many-names : 4 < p .count → savepointsOk writes (savepointsIn p) ≡ false
+  unfolding savepointsOk
+  many-names h = rw (savepoints-length p, lt-leb _ _ h)
+
+  pub few-ok : p .count ≤ 4 → savepointsOk writes (savepointsIn p) ≡ namesOk writes (savepointsIn p)
+  unfolding savepointsOk
+  few-ok h = rw (savepoints-length p, le-leb _ _ h)
+
+  pub stood-within : (name : ℕ) → savepointsOk writes (savepointsIn p) ≡ true → orZero (countAt name (savepointsIn p)) ≤ writes
+  stood-within name e = stood-below name writes (savepointsIn p) (names-rule writes (savepointsIn p) e)

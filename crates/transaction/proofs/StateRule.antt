@@ -128,7 +128,7 @@ module _ (t : Tx) (a : ℕ) (old new : List ℕ) (zu : Sized (t .undo)) (zr : Si
   unfolding written
   extras-written e = go (eqb (t .status) 1) refl
     where
-      abbrev none : Bool
+      none : Bool
       none = eqb (t .extras .reads .count) 0 && eqb (t .extras .savepoints .count) 0
 
       go : (b : Bool) → eqb (t .status) 1 ≡ b → cond b (recordsOk (readsOf t) && savepointsOk (written t a old new .undo .ranges .count) (savepointsOf t)) none ≡ true
@@ -161,7 +161,11 @@ module _ (t u : Tx) (s : t .status ≡ u .status) where
 
   extras-same : t .undo .ranges .count ≡ u .undo .ranges .count → t .extras .reads .count ≡ u .extras .reads .count → readsOf t ≡ readsOf u
       → t .extras .savepoints .count ≡ u .extras .savepoints .count → savepointsOf t ≡ savepointsOf u → extrasOk t ≡ extrasOk u
-  extras-same writes count reads names savepoints = rw (s, writes, count, reads, names, savepoints) refl
+  extras-same writes count reads names savepoints =
+      ap (λ (n : ℕ). cond (eqb n 1) (recordsOk (readsOf t) && savepointsOk (t .undo .ranges .count) (savepointsOf t)) (eqb (t .extras .reads .count) 0 && eqb (t .extras .savepoints .count) 0)) s
+      ∙ ap₂ (λ (a b : Bool). cond (eqb (u .status) 1) a b)
+      (ap₂ (λ (a b : Bool). a && b) (ap recordsOk reads) (ap₂ savepointsOk writes savepoints))
+      (ap₂ (λ (n k : ℕ). eqb n 0 && eqb k 0) count names)
 
   pub state-same : rangesOf (t .undo .ranges) ≡ rangesOf (u .undo .ranges) → (t .status ≡ 1 → rangesOf (t .redo .ranges) ≡ rangesOf (u .redo .ranges))
       → t .extras .reads .count ≡ u .extras .reads .count → readsOf t ≡ readsOf u

@@ -75,7 +75,10 @@ impl Savepoints {
         ensures { λ r. ⌜ r ≡ isSet name (savepointsIn self) ⌝ }
     {
         let at = self.find(0, name);
-        at != self.count as usize
+        if at == self.count as usize {
+            return false;
+        }
+        true
     }
 
     // How many writes stood when a name was set; 0 if it is not set.

@@ -32,7 +32,14 @@ same-length : tie.Need-same-length
 same-length c = search needs
 
 returns : tie.Need-returns
-returns c = ?
+returns c =
+    let args = c .before .before .before .before .before .before .before .before .before .args in
+    let a = args .addr in
+    let bs = args .bytes .now in
+    let e : a + length bs - a ≡ length bs = omega arith in (
+      c .before .before .before .before .write .ensures ∙ ap (λ (k : ℕ). written (args .self) a (take k (drop a (args .memory .now))) bs) e,
+      c .before .before .copy .ensures,
+    )
 
 pub lay-spec : {M : Type 1} → statement M
 lay-spec =

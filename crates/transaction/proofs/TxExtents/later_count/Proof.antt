@@ -1,25 +1,32 @@
+use Prim.Native.Nat.{_-_}
+use native.Mathlib.Omega.{arith}
+use mathlib.Core.Path.{_≡_, sym, _∙_}
+use lib.ListN.{length, length-drop}
 use borrow.Author.Needs.{needs}
+use Rattle.transaction.specs.View.{rangeAt, rangesOf, bareTx}
+use Rattle.transaction.specs.Rules.{stoodAt}
+use Rattle.transaction.proofs.Lists.{length-up}
+use Rattle.transaction.proofs.SavepointLaws.{few-savepoints, stood-within}
 use Rattle.transaction.proofs.TxExtents.later_count.Statement.{statement}
 use Rattle.transaction.proofs.TxExtents.later_count.Tie as tie
-use Rattle.transaction.proofs.TxExtents.later_count.Reads as reads
-use Rattle.transaction.proofs.TxExtents.later_count.Lts as lts
-use Rattle.transaction.proofs.savepoints.Savepoints.stood.Reads as stood-reads
 
--- src/lib.rt:237:13
 stood-requires : tie.Need-stood-requires
-stood-requires c κs = ?
+stood-requires c κs = few-savepoints (c .before .args .self .extras .savepoints) _ (c .before .pre)
 
--- src/lib.rt:238:9
 cast-result : tie.Need-cast-result
 cast-result c = search needs
 
--- src/lib.rt:238:9
 sub-result : tie.Need-sub-result
-sub-result c = ?
+sub-result c =
+    let s = c .before .before .before in
+    omega (arith, c .before .stood .ensures, stood-within (s .args .self .extras .savepoints) (s .args .self .undo .count) (s .args .name) (s .pre))
 
--- src/lib.rt:232:5
 returns : tie.Need-returns
-returns c = ?
+returns c =
+    let a = c .before .before .before .args in
+    let r = a .self .undo in
+    let e = length-drop (stoodAt (a .name) (bareTx (a .self))) (rangesOf r) in
+    omega (arith, c .before .stood .ensures, e, length-up (rangeAt r) (r .count) 0)
 
 pub later-count-spec : {M : Type 1} → statement M
 later-count-spec = tie.close (tie.spec stood-requires cast-result sub-result returns)

@@ -1,29 +1,37 @@
+use mathlib.Core.Bool.{true, false}
+use mathlib.Core.Path.{_≡_, sym, _∙_}
 use borrow.Author.Needs.{needs}
+use borrow.Author.Tests.{eq-eqb, ne-eqb}
+use Rattle.transaction.specs.View.{savepointsIn}
+use Rattle.transaction.specs.Rules.{isSet, nameRefused}
+use Rattle.transaction.proofs.SavepointLaws.{savepoints-length}
 use Rattle.transaction.proofs.TxExtents.refuses_name.Statement.{statement}
 use Rattle.transaction.proofs.TxExtents.refuses_name.Tie as tie
-use Rattle.transaction.proofs.TxExtents.refuses_name.Reads as reads
-use Rattle.transaction.proofs.TxExtents.refuses_name.Lts as lts
-use Rattle.transaction.proofs.savepoints.Savepoints.is_set.Reads as is-set-reads
 
--- src/lib.rt:213:13
 returns : tie.Need-returns
-returns c = ?
+unfolding nameRefused
+returns c = rw (eq-eqb _ _ (c .if1 .taken))
 
--- src/lib.rt:216:12
 is-set-requires : tie.Need-is-set-requires
 is-set-requires c κs = search needs
 
--- src/lib.rt:217:13
 returns-2 : tie.Need-returns-2
-returns-2 c = ?
+unfolding nameRefused
+returns-2 c =
+    let a = c .before .before .before .before .args in
+    let e : isSet (a .name) (savepointsIn (a .self .extras .savepoints)) ≡ true = sym (c .before .is-set .ensures) ∙ c .if2 .taken in
+    rw (ne-eqb _ _ (c .before .before .before .if1 .left), e)
 
--- src/lib.rt:219:9
 cast-result : tie.Need-cast-result
 cast-result c = search needs
 
--- src/lib.rt:208:5
 returns-3 : tie.Need-returns-3
-returns-3 c = ?
+unfolding nameRefused
+returns-3 c =
+    let a = c .before .before .before .before .before .args in
+    let p = a .self .extras .savepoints in
+    let e : isSet (a .name) (savepointsIn p) ≡ false = sym (c .before .before .is-set .ensures) ∙ c .before .if2 .left in
+    rw (ne-eqb _ _ (c .before .before .before .before .if1 .left), e, savepoints-length p)
 
 pub refuses-name-spec : {M : Type 1} → statement M
 refuses-name-spec = tie.close (tie.spec returns is-set-requires returns-2 cast-result returns-3)

@@ -1,37 +1,34 @@
+use native.Mathlib.Omega.{arith}
+use mathlib.Core.Path.{_≡_, sym, _∙_}
 use borrow.Author.Needs.{needs}
+use Rattle.transaction.specs.Rules.{placeOf}
+use Rattle.transaction.proofs.SavepointLaws.{place-found, moved-set, added-set}
 use Rattle.transaction.proofs.savepoints.Savepoints.set.Statement.{statement}
 use Rattle.transaction.proofs.savepoints.Savepoints.set.Tie as tie
-use Rattle.transaction.proofs.savepoints.Savepoints.set.Reads as reads
-use Rattle.transaction.proofs.savepoints.Savepoints.set.Lts as lts
-use Rattle.transaction.proofs.savepoints.Savepoints.find.Reads as find-reads
 
--- src/savepoints.rt:98:13
 find-requires : tie.Need-find-requires
 find-requires c κs = search needs
 
--- src/savepoints.rt:99:17
 cast-n : tie.Need-cast-n
 cast-n c = search needs
 
--- src/savepoints.rt:100:9
+found : (c : tie.After-find) → c .find .result ≡ placeOf (c .before .args .t1) (c .before .args .name)
+found c = place-found (c .before .args .t1) (c .before .args .name) _ (c .find .ensures)
+
 element-write-self : tie.Need-element-write-self
-element-write-self c = ?
+element-write-self c = omega (arith, found c, c .before .pre .1)
 
--- src/savepoints.rt:101:9
 element-write-self-2 : tie.Need-element-write-self-2
-element-write-self-2 c = ?
+element-write-self-2 c = omega (arith, found c, c .before .pre .1)
 
--- src/savepoints.rt:103:13
 returns : tie.Need-returns
-returns c = ?
+returns c = let a = c .before .before .args in moved-set (a .t1) (a .name) (a .writes) _ (found (c .before)) (c .if1 .taken)
 
--- src/savepoints.rt:105:22
 add-self : tie.Need-add-self
 add-self c = search needs
 
--- src/savepoints.rt:94:5
 returns-2 : tie.Need-returns-2
-returns-2 c = ?
+returns-2 c = let a = c .before .before .args in added-set (a .t1) (a .name) (a .writes) _ (found (c .before)) (c .if1 .left)
 
 pub set-spec : {M : Type 1} → statement M
 set-spec =
