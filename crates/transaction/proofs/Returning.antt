@@ -2,25 +2,29 @@
 use Prim.Native.Nat.{ℕ, zero, suc, _+_, _≤_, _<_}
 use native.Mathlib.Omega.{arith}
 use mathlib.Core.Bool.{Bool, true, false, _&&_}
-use mathlib.Core.List.{List, [], _∷_, _++_, append-assoc, append-nil, map, reverse, reverse-cons, reverse-append}
+use mathlib.Core.List.{List, [], _∷_, _++_, append-assoc, append-nil, map, reverseAux, reverse, reverse-append}
 use mathlib.Core.Path.{_≡_, refl, sym, ap, ap₂, _∙_, subst}
-use lib.ListN.{length, take, drop, length-drop}
+use lib.ListN.{length, getD, take, drop, length-drop, length-map}
 use lib.Seq.{length-take-le, length-sets, drop-append-le, drop-length}
 use lib.Dec.{eqb, leb}
-use Rattle.recovery.specs.Group.{Write}
+use Rattle.recovery.specs.Group.{Write, redoSize}
 use Rattle.recovery.specs.Replay.{layBytes, oldsOf}
-use Rattle.recovery.specs.Savepoint.{Savepoint}
-use Rattle.recovery.specs.Machine.{withWrite}
+use Rattle.recovery.specs.Savepoint.{Savepoint, setName}
+use Rattle.recovery.specs.Machine.{withWrite, withSavepoint}
 use Rattle.recovery.proofs.Returns.{withRecords}
-use Rattle.log.proofs.Basics.{and-left, and-right}
+use Rattle.log.specs.Flat.{writeAt, writesFrom}
+use Rattle.log.proofs.Basics.{and-left, and-right, and-both}
+use Rattle.transaction.specs.declared.records.Records.{Records}
 use Rattle.transaction.specs.declared.Tx.{Tx}
 use Rattle.transaction.specs.Lists.{upFrom, every}
-use Rattle.transaction.specs.View.{Range, range, rangeAt, rangesOf, rangeOf, savepointsOf, viewOf}
-use Rattle.transaction.specs.Rules.{rangeOk, recordsOk, stateOk}
-use Rattle.transaction.specs.Steps.{written, writtenAll}
+use Rattle.transaction.specs.View.{Range, range, rangeAt, rangesOf, rangeOf, writtenBy, writesOf, savepointsOf, viewOf}
+use Rattle.transaction.specs.Rules.{rangeOk, recordsOk, stateOk, rangesSize, placeOf, stoodAt, laterRanges}
+use Rattle.transaction.specs.Steps.{written, writtenAll, savepointed, returnWrites}
 use Rattle.transaction.proofs.Lists.{length-up, up-snoc}
 use Rattle.transaction.proofs.RangeLaws.{in-range, ranged, counted}
+use Rattle.transaction.proofs.Writes.{writes-up, bytes-length}
 use Rattle.transaction.proofs.Pushed.{Sized, push-sized, pushed-count, pushed-writes, one-more}
+use Rattle.transaction.proofs.SavepointLaws.{SizedSavepoints, savepoints-set}
 use Rattle.transaction.proofs.StateRule.{written-undo, written-redo, written-state}
 
 -- ---- the later ones, newest first: a turn of the loop down to the savepoint, and its end
@@ -166,3 +170,103 @@ all-view t m (w ∷ ws) h =
     all-view (after t m w ws h) (layBytes w m) ws (next t m w ws h)
     ∙ ap (withRecords (oldsOf (layBytes w m) ws) ws) (view-after t m w ws h)
     ∙ rw (snoc-append u (viewOf t .undo) (oldsOf (layBytes w m) ws), snoc-append w (viewOf t .redo) ws) refl
+
+-- ---- setting a savepoint, in recovery's words
+
+pub savepoint-view : (t : Tx) (name : ℕ) → SizedSavepoints (t .extras .savepoints) → placeOf (t .extras .savepoints) name < 4
+    → t .undo .ranges .count ≡ t .redo .ranges .count → viewOf (savepointed t name) ≡ withSavepoint name (viewOf t)
+unfolding savepointed
+savepoint-view t name z fits same =
+    let r = t .redo in
+    let long : t .undo .ranges .count ≡ length (writesOf r) =
+    same
+    ∙ sym (ap length (writes-up (r .ranges .addr) (r .ranges .len) (r .bytes) (r .ranges .count) 0) ∙ length-up (writeAt (r .ranges .addr) (r .ranges .len) (r .bytes)) (r .ranges .count) 0) in
+    ap (λ (ps : List Savepoint). record { id = t .id .0; committing = eqb (t .status) 2; csn = t .csn .0; undo = writesOf (t .undo); redo = writesOf (t .redo); savepoints = ps })
+    (savepoints-set (t .extras .savepoints) name (t .undo .ranges .count) z fits ∙ ap (λ (n : ℕ). setName name n (savepointsOf t)) long)
+
+-- ---- the ranges of the writes of a return
+
+ranges-from : (r : Records) → length (r .bytes) ≡ 512 → (k i : ℕ) → i + k ≤ 16 → ((j : ℕ) → j < i + k → getD (r .ranges .len) j 0 ≤ 32)
+    → map rangeOf (writesFrom (r .ranges .addr) (r .ranges .len) (r .bytes) k i) ≡ upFrom (rangeAt (r .ranges)) k i
+ranges-from r l zero i h s = refl
+ranges-from r l (suc k) i h s =
+    ap₂ (λ (n : ℕ) (rs : List Range). range (getD (r .ranges .addr) i 0) n ∷ rs) (bytes-length r i l (omega arith) (s i (omega arith)))
+    (ranges-from r l k (suc i) (omega arith) (λ j b. s j (omega arith)))
+
+pub map-drop : {A B : Type 0} (f : A → B) (n : ℕ) (xs : List A) → map f (drop n xs) ≡ drop n (map f xs)
+map-drop f zero xs = refl
+map-drop f (suc n) [] = refl
+map-drop f (suc n) (x ∷ xs) = map-drop f n xs
+
+map-back : {A B : Type 0} (f : A → B) (xs ys : List A) → map f (reverseAux xs ys) ≡ reverseAux (map f xs) (map f ys)
+map-back f [] ys = refl
+map-back f (x ∷ xs) ys = map-back f xs (x ∷ ys)
+
+pub redo-size : (ws : List Write) → redoSize ws ≡ rangesSize (map rangeOf ws)
+redo-size [] = refl
+redo-size (w ∷ ws) = ap (λ (n : ℕ). 7 + length (w .bytes) + n) (redo-size ws)
+
+sum-back : (xs ys : List Range) → rangesSize (reverseAux xs ys) ≡ rangesSize xs + rangesSize ys
+sum-back [] ys = omega arith
+sum-back (x ∷ xs) ys = let e = sum-back xs (x ∷ ys) in omega (arith, e)
+
+length-back : {A : Type 0} (xs ys : List A) → length (reverseAux xs ys) ≡ length xs + length ys
+length-back [] ys = omega arith
+length-back (x ∷ xs) ys = let e = length-back xs (x ∷ ys) in omega (arith, e)
+
+every-back : (xs ys : List Range) → every rangeOk xs ≡ true → every rangeOk ys ≡ true → every rangeOk (reverseAux xs ys) ≡ true
+every-back [] ys e d = d
+every-back (x ∷ xs) ys e d =
+    every-back xs (x ∷ ys) (and-right (rangeOk x) (every rangeOk xs) e) (and-both (rangeOk x) (every rangeOk ys) (and-left (rangeOk x) (every rangeOk xs) e) d)
+
+every-drop : (n : ℕ) (xs : List Range) → every rangeOk xs ≡ true → every rangeOk (drop n xs) ≡ true
+every-drop zero xs e = e
+every-drop (suc n) [] e = refl
+every-drop (suc n) (x ∷ xs) e = every-drop n xs (and-right (rangeOk x) (every rangeOk xs) e)
+
+module _ (t : Tx) (name : ℕ) (z : Sized (t .undo)) (e : recordsOk (rangesOf (t .undo .ranges)) ≡ true) where
+  ranges-written : map rangeOf (writesOf (t .undo)) ≡ writtenBy t
+  ranges-written =
+      ranges-from (t .undo) (z .space) (t .undo .ranges .count) 0 (omega (arith, counted (t .undo .ranges) e)) (λ j h. ranged (t .undo .ranges) e j (omega arith) .1)
+
+  later-ranges : map rangeOf (drop (stoodAt name t) (writesOf (t .undo))) ≡ laterRanges name t
+  later-ranges = map-drop rangeOf (stoodAt name t) (writesOf (t .undo)) ∙ ap (drop (stoodAt name t)) ranges-written
+
+  pub return-ranges : map rangeOf (returnWrites t name) ≡ reverse (laterRanges name t)
+  return-ranges = map-back rangeOf (drop (stoodAt name t) (writesOf (t .undo))) [] ∙ ap reverse later-ranges
+
+  pub return-length : length (returnWrites t name) ≡ length (laterRanges name t)
+  return-length =
+      let a = length-back (drop (stoodAt name t) (writesOf (t .undo))) [] in
+      let b = length-map (drop (stoodAt name t) (writesOf (t .undo))) rangeOf in
+      omega (arith, a, b, ap length later-ranges)
+
+  pub return-ok : every rangeOk (map rangeOf (returnWrites t name)) ≡ true
+  return-ok =
+      let rs = rangesOf (t .undo .ranges) in
+      subst (λ (qs : List Range). every rangeOk qs ≡ true) (sym return-ranges)
+      (every-back (laterRanges name t) [] (every-drop (stoodAt name t) rs (and-right (leb (length rs) 16) (every rangeOk rs) e)) refl)
+
+  pub return-size : rangesSize (map rangeOf (returnWrites t name)) ≡ rangesSize (laterRanges name t)
+  return-size = let a = ap rangesSize return-ranges in let b = sum-back (laterRanges name t) [] in omega (arith, a, b)
+
+  -- number 13's sum, in recovery's words
+  pub later-size : redoSize (drop (stoodAt name t) (writesOf (t .undo))) ≡ rangesSize (laterRanges name t)
+  later-size = redo-size (drop (stoodAt name t) (writesOf (t .undo))) ∙ ap rangesSize later-ranges
+
+  pub return-writable : Sized (t .redo) → rangesOf (t .undo .ranges) ≡ rangesOf (t .redo .ranges) → t .undo .ranges .count + length (laterRanges name t) ≤ 16
+      → (m : List ℕ) → length m ≡ 4096 → Writable t m (returnWrites t name)
+  return-writable zr same room m l =
+      let u = t .undo .ranges in
+      let r = t .redo .ranges in
+      let n : u .count ≡ r .count = sym (length-up (rangeAt u) (u .count) 0) ∙ ap length same ∙ length-up (rangeAt r) (r .count) 0 in
+      record {
+        undos = z;
+        redos = zr;
+        undo = e;
+        redo = subst (λ (rs : List Range). recordsOk rs ≡ true) same e;
+        undoRoom = omega (arith, return-length, room);
+        redoRoom = omega (arith, return-length, room, n);
+        memory = l;
+        ranges = return-ok;
+      }
