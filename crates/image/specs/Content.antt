@@ -9,7 +9,7 @@ use Rattle.recovery.specs.Group.{Write}
 use Rattle.recovery.specs.Transaction.{Tx as Transaction}
 use Rattle.transaction.specs.declared.Tx.{Tx}
 use Rattle.transaction.specs.Lists.{upFrom}
-use Rattle.transaction.specs.View.{Range, range, writesOf, Outline, outline, viewOf}
+use Rattle.transaction.specs.View.{writesOf, rangeOf, Outline, outline, viewOf}
 use Rattle.image.specs.declared.Image.{Image}
 use Rattle.image.specs.Slots.{slotAt, listed}
 use Rattle.image.specs.Rules.{imageOk}

@@ -7,6 +7,7 @@ use mathlib.Core.Path.{_≡_, refl, sym, ap, ap₂, _∙_, subst}
 use lib.ListN.{length, getD, take, drop, length-drop, length-map}
 use lib.Seq.{length-take-le, length-sets, drop-append-le, drop-length}
 use lib.Dec.{eqb, leb}
+use borrow.Author.Tests.{eq-eqb}
 use Rattle.recovery.specs.Group.{Write, redoSize}
 use Rattle.recovery.specs.Replay.{layBytes, oldsOf}
 use Rattle.recovery.specs.Savepoint.{Savepoint, setName}
@@ -18,7 +19,7 @@ use Rattle.transaction.specs.declared.records.Records.{Records}
 use Rattle.transaction.specs.declared.Tx.{Tx}
 use Rattle.transaction.specs.Lists.{upFrom, every}
 use Rattle.transaction.specs.View.{Range, range, rangeAt, rangesOf, rangeOf, writtenBy, writesOf, savepointsOf, viewOf}
-use Rattle.transaction.specs.Rules.{rangeOk, recordsOk, stateOk, rangesSize, placeOf, stoodAt, laterRanges}
+use Rattle.transaction.specs.Rules.{rangeOk, recordsOk, stateOk, rangesSize, roomOf, placeOf, stoodAt, laterRanges}
 use Rattle.transaction.specs.Steps.{written, writtenAll, savepointed, returnWrites}
 use Rattle.transaction.proofs.Lists.{length-up, up-snoc}
 use Rattle.transaction.proofs.RangeLaws.{in-range, ranged, counted}
@@ -69,22 +70,22 @@ pub record Writable (t : Tx) (m : List ℕ) (ws : List Write) : Type 0 where
   pub ranges : every rangeOk (map rangeOf ws) ≡ true
 
 module _ (t : Tx) (m : List ℕ) (w : Write) (ws : List Write) (h : Writable t m (w ∷ ws)) where
-  abbrev old : List ℕ
+  abbrev pub old : List ℕ
   old = take (length (w .bytes)) (drop (w .addr) m)
 
-  abbrev after : Tx
+  abbrev pub after : Tx
   after = written t (w .addr) old (w .bytes)
 
   here : rangeOk (rangeOf w) ≡ true
   here = and-left (rangeOk (rangeOf w)) (every rangeOk (map rangeOf ws)) (h .ranges)
 
-  few-undo : t .undo .ranges .count < 16
+  pub few-undo : t .undo .ranges .count < 16
   few-undo = omega (arith, h .undoRoom)
 
-  few-redo : t .redo .ranges .count < 16
+  pub few-redo : t .redo .ranges .count < 16
   few-redo = omega (arith, h .redoRoom)
 
-  old-length : length old ≡ length (w .bytes)
+  pub old-length : length old ≡ length (w .bytes)
   old-length =
       let r = in-range (w .addr) (length (w .bytes)) here in
       length-take-le (length (w .bytes)) (drop (w .addr) m) (rw length-drop (omega (arith, h .memory, r)))
@@ -98,7 +99,7 @@ module _ (t : Tx) (m : List ℕ) (w : Write) (ws : List Write) (h : Writable t m
   redo-after : rangesOf (after .redo .ranges) ≡ rangesOf (t .redo .ranges) ++ (rangeOf w ∷ [])
   redo-after = written-redo t (w .addr) old (w .bytes) (h .undos) (h .redos) few-undo few-redo old-length
 
-  next : Writable after (layBytes w m) ws
+  pub next : Writable after (layBytes w m) ws
   unfolding written
   next =
       let lu = length-up (rangeAt (t .undo .ranges)) (t .undo .ranges .count) 0 in
@@ -134,10 +135,10 @@ unfolding written
 all-same t m [] = (refl, refl, refl, refl)
 all-same t m (w ∷ ws) = all-same (written t (w .addr) (take (length (w .bytes)) (drop (w .addr) m)) (w .bytes)) (layBytes w m) ws
 
-pub all-writable : (t : Tx) (m : List ℕ) (ws : List Write) → Writable t m ws
+pub all-sized : (t : Tx) (m : List ℕ) (ws : List Write) → Writable t m ws
     → Sized (writtenAll t m ws .undo) × Sized (writtenAll t m ws .redo)
-all-writable t m [] h = (h .undos, h .redos)
-all-writable t m (w ∷ ws) h = all-writable (after t m w ws h) (layBytes w m) ws (next t m w ws h)
+all-sized t m [] h = (h .undos, h .redos)
+all-sized t m (w ∷ ws) h = all-sized (after t m w ws h) (layBytes w m) ws (next t m w ws h)
 
 snoc-append : {A : Type 0} (x : A) (xs ys : List A) → (xs ++ (x ∷ [])) ++ ys ≡ xs ++ (x ∷ ys)
 snoc-append x xs ys = append-assoc xs (x ∷ []) ys
@@ -161,6 +162,22 @@ all-redo t m (w ∷ ws) h =
 pub all-state : (t : Tx) (m : List ℕ) (ws : List Write) → Writable t m ws → stateOk t ≡ true → stateOk (writtenAll t m ws) ≡ true
 all-state t m [] h e = e
 all-state t m (w ∷ ws) h e = all-state (after t m w ws h) (layBytes w m) ws (next t m w ws h) (state-after t m w ws h e)
+
+pub all-ok : (t : Tx) (m : List ℕ) (ws : List Write) → Writable t m ws → recordsOk (rangesOf (writtenAll t m ws .undo .ranges)) ≡ true
+all-ok t m [] h = h .undo
+all-ok t m (w ∷ ws) h = all-ok (after t m w ws h) (layBytes w m) ws (next t m w ws h)
+
+size-append : (rs qs : List Range) → rangesSize (rs ++ qs) ≡ rangesSize rs + rangesSize qs
+size-append [] qs = omega arith
+size-append (r ∷ rs) qs = let e = size-append rs qs in omega (arith, e)
+
+pub all-room : (t : Tx) (m : List ℕ) (ws : List Write) → Writable t m ws → t .status ≡ 1
+    → roomOf (writtenAll t m ws) ≡ roomOf t + rangesSize (map rangeOf ws)
+all-room t m ws h e =
+    let u = all-same t m ws .1 ∙ e in
+    let a = ap rangesSize (all-redo t m ws h) in
+    let b = size-append (rangesOf (t .redo .ranges)) (map rangeOf ws) in
+    rw (eq-eqb (t .status) 1 e, eq-eqb (writtenAll t m ws .status) 1 u) (omega (arith, a, b))
 
 -- in recovery's words: records added at the end, undo records with what stands there then
 pub all-view : (t : Tx) (m : List ℕ) (ws : List Write) → Writable t m ws → viewOf (writtenAll t m ws) ≡ withRecords (oldsOf m ws) ws (viewOf t)
