@@ -49,6 +49,7 @@ shows-self s =
             undo = self-records (txAt s i .undo);
             redo = λ e. self-records (txAt s i .redo);
             reads = record { count = refl; ranges = refl };
+            savepoints = record { count = refl; savepoints = refl };
           };
     }
 

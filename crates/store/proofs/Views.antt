@@ -26,7 +26,7 @@ use Rattle.transaction.specs.declared.records.Records.{Records}
 use Rattle.transaction.specs.declared.Tx.{Tx}
 use Rattle.transaction.specs.Lists.{upFrom}
 use Rattle.transaction.specs.Flat.{emptyRecords}
-use Rattle.transaction.specs.View.{rangesOf, writesOf, viewOf}
+use Rattle.transaction.specs.View.{rangesOf, savepointsOf, writesOf, viewOf}
 use Rattle.transaction.specs.Rules.{recordsOk, rangesSize, stoodAt, laterRanges}
 use Rattle.transaction.specs.Steps.{freshTx, written, withRead, savepointed, returnWrites, wentBack, precommitted}
 use Rattle.transaction.proofs.Lists.{up-snoc, up-same}
@@ -281,7 +281,7 @@ module _ (s : State) (m t : List ℕ) (z : SizedState s) where
 
     -- numbers 18 and 13 of going back, in recovery's words
     pub set-view : (name : ℕ) → goBackNumber s m t id name ≡ 0 → countAt name (tx .savepoints) ≡ some (stoodAt name (txOf s (id .0)))
-    set-view name e = set-count name _ (go-back-passed s m t id name e .set)
+    set-view name e = set-count name (savepointsOf (txOf s (id .0))) (go-back-passed s m t id name e .set)
 
     pub later-view : (name : ℕ) → goBackNumber s m t id name ≡ 0
         → redoSize (drop (stoodAt name (txOf s (id .0))) (tx .undo)) ≡ rangesSize (laterRanges name (txOf s (id .0)))

@@ -26,7 +26,11 @@ same-length : tie.Need-same-length
 same-length c = search needs
 
 returns : tie.Need-returns
-returns c = ?
+unfolding writtenState
+returns c =
+    let args = c .before .before .before .before .before .before .before .args in
+    let y = c .before .before .lay in
+    (ap (λ (u : Tx). withSlots (args .t1) (set (args .t1 .txs) (args .slot) u)) (y .ensures .0), y .ensures .1)
 
 pub write-step-spec : {M : Type 1} → statement M
 write-step-spec = tie.close (tie.spec mul-t element-copy-out-t lay-requires mul-u element-set-from-u same-length returns)
