@@ -1,24 +1,18 @@
 use borrow.Author.Needs.{needs}
-use Prim.Native.Nat.{ℕ, _+_, _≤_}
 use native.Mathlib.Omega.{arith}
-use mathlib.Core.Bool.{Bool, true, false}
-use mathlib.Core.List.{List, [], _∷_}
+use mathlib.Core.Bool.{true}
+use mathlib.Core.List.{[], _∷_}
 use mathlib.Core.Path.{_≡_, refl, sym, ap, _∙_, subst}
-use lib.ListN.{length, getD}
-use borrow.Author.Tests.{eqb-false, lt-ltb, le-ltb, not-true, not-false}
+use lib.ListN.{getD}
 use Rattle.transaction.specs.declared.Tx.{Tx}
-use Rattle.transaction.specs.View.{rangesOf, savepointsOf, bareTx}
-use Rattle.transaction.specs.Rules.{recordsOk, stateOk, savepointsOk, rangesSize, isSet, nameRefused, laterRanges}
+use Rattle.transaction.specs.View.{savepointsOf, bareTx}
+use Rattle.transaction.specs.Rules.{stateOk, nameRefused}
 use Rattle.transaction.proofs.Lists.{every-at}
-use Rattle.transaction.proofs.Heads.{running-status}
-use Rattle.transaction.proofs.RangeLaws.{counted}
-use Rattle.transaction.proofs.StateRule.{few-savepoints, running-savepoints}
-use Rattle.image.proofs.Rules.{ruled-at, undo-at}
-use Rattle.store.specs.State.{txAt, imageOf}
+use Rattle.transaction.proofs.StateRule.{few-savepoints}
+use Rattle.store.specs.State.{txAt}
 use Rattle.store.specs.Extents.{noExtents, bareState}
-use Rattle.store.specs.Numbers.{Check, txOf, abortChecks, check7, check18, check19, returnCheck10, returnCheck13}
+use Rattle.store.specs.Numbers.{txOf, abortChecks, check7, check19}
 use Rattle.store.proofs.Bare.{bare-at}
-use Rattle.store.proofs.Checks.{passed}
 use Rattle.store.proofs.Choosing.{choice-stops, Slotted, slotted}
 use Rattle.store.proofs.extents.StateExtents.choose_savepoint.Statement.{statement}
 use Rattle.store.proofs.extents.StateExtents.choose_savepoint.Tie as tie
