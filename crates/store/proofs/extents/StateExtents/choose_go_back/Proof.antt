@@ -146,7 +146,7 @@ returns-3 c =
     let start = else .before .before .before in
     let a = start .args in
     let t = txOf (bareState (a .t1)) (a .id .0) in
-    let w : ltb 16 (t .undo .ranges .count + length (laterRanges (a .name) t)) ≡ true = lt-ltb _ _ (omega (arith, total y, c .before .if3 .taken)) in
+    let w : ltb 16 (t .undo .ranges .count + length (laterRanges (a .name) t)) ≡ true = lt-ltb 16 (t .undo .ranges .count + length (laterRanges (a .name) t)) (omega (arith, total y, c .before .if3 .taken)) in
     found else .refuses (last start) 10 refl (rw (is-set (y .before), w)) (c .refuse2 .ensures)
 
 later-size-requires : tie.Need-later-size-requires
@@ -158,7 +158,10 @@ later-size-requires c κs =
 few : (c : tie.Else3) → let a = c .before .before .before .before .before .before .before .before .before .args in
     let t = txOf (bareState (a .t1)) (a .id .0) in
     ltb 16 (t .undo .ranges .count + length (laterRanges (a .name) t)) ≡ false
-few c = le-ltb _ _ (omega (arith, total (c .before .before), c .if3 .left))
+few c =
+    let a = c .before .before .before .before .before .before .before .before .before .args in
+    let t = txOf (bareState (a .t1)) (a .id .0) in
+    le-ltb 16 (t .undo .ranges .count + length (laterRanges (a .name) t)) (omega (arith, total (c .before .before), c .if3 .left))
 
 -- the bytes that there would be
 bytes : (c : tie.After-later-size) → let else = c .before .before .before .before .before .before .before in
@@ -195,7 +198,7 @@ returns-4 c =
     let a = start .args in
     let t = txOf (bareState (a .t1)) (a .id .0) in
     let v : ltb 16384 (a .admitted .room + rangesSize (laterRanges (a .name) t)) ≡ true =
-    lt-ltb _ _ (omega (arith, bytes y, c .before .if4 .taken, found else .room)) in
+    lt-ltb 16384 (a .admitted .room + rangesSize (laterRanges (a .name) t)) (omega (arith, bytes y, c .before .if4 .taken, found else .room)) in
     found else .refuses (last start) 13 refl (rw (is-set (third .before .before .before), few third, v)) (c .refuse3 .ensures)
 
 returns-5 : tie.Need-returns-5
@@ -207,7 +210,7 @@ returns-5 c =
     let a = start .args in
     let t = txOf (bareState (a .t1)) (a .id .0) in
     let v : ltb 16384 (a .admitted .room + rangesSize (laterRanges (a .name) t)) ≡ false =
-    le-ltb _ _ (omega (arith, bytes y, c .if4 .left, found else .room)) in
+    le-ltb 16384 (a .admitted .room + rangesSize (laterRanges (a .name) t)) (omega (arith, bytes y, c .if4 .left, found else .room)) in
     found else .goes (last start) (rw (is-set (third .before .before .before), few third, v))
 
 pub choose-go-back-spec : {M : Type 1} → statement M
