@@ -34,7 +34,7 @@ extern "C" {
 #define LUPPANETH_TAIL_LEN 16384
 #define LUPPANETH_DISK_LEN 33691
 #define LUPPANETH_TEXT_LEN 80
-#define LUPPANETH_STATE_LEN 9488
+#define LUPPANETH_STATE_LEN 9552
 
 /* Parts of the disk: the pointer byte at 0, image A, image B, the log. */
 #define LUPPANETH_IMAGE_A 1

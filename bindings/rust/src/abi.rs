@@ -22,6 +22,14 @@ pub struct Ranges {
 
 #[derive(Clone, Copy)]
 #[repr(C)]
+pub struct Savepoints {
+    count: u8,
+    names: [u8; 4],
+    counts: [u8; 4],
+}
+
+#[derive(Clone, Copy)]
+#[repr(C)]
 pub struct Transaction {
     id: u16,
     status: u8,
@@ -29,6 +37,7 @@ pub struct Transaction {
     undo: Records,
     redo: Records,
     reads: Ranges,
+    savepoints: Savepoints,
 }
 
 /// The state between calls. `recovered` is a bool on the other side: values come from the library alone.
