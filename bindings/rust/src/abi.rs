@@ -68,8 +68,8 @@ pub struct Reply {
     pub state: State,
 }
 
-const _: () = assert!(size_of::<State>() == 9_488 && align_of::<State>() == 4);
-const _: () = assert!(size_of::<Reply>() == 9_504 && align_of::<Reply>() == 8);
+const _: () = assert!(size_of::<State>() == 9_552 && align_of::<State>() == 4);
+const _: () = assert!(size_of::<Reply>() == 9_568 && align_of::<Reply>() == 8);
 
 extern "C" {
     pub fn luppaneth_unrecovered() -> State;
