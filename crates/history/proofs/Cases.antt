@@ -12,7 +12,7 @@ use Rattle.log.specs.Group.{readBody, readGroup}
 use Rattle.log.specs.Log.{readLog}
 use Rattle.log.specs.Stop.{stopOf}
 use Rattle.transaction.specs.Flat.{emptyRecords, emptyTx}
-use Rattle.transaction.specs.Rules.{headOk, stateOk, heldAgainst}
+use Rattle.transaction.specs.Rules.{headOk, savepointsOk, stateOk, heldAgainst}
 use Rattle.transaction.specs.Steps.{pushed, freshTx, written, withRead, precommitted}
 use Rattle.image.specs.Pack.{loaded, packedTxs, packed, emptyImage}
 use Rattle.image.specs.Reading.{undoHere, readTx, readContent, memoryOf}
@@ -46,7 +46,7 @@ abbrev quickShown : Row → Option Shown
 quickShown r = quickShowing (r .look) (quickRun (r .calls) start)
 
 computed : map quickShown rows ≡ map (λ r. some (r .expected)) rows
-unfolding undoOrder readRecord readRedo readCommit readAbort run all readBody readGroup readLog emptyRecords emptyTx headOk stateOk heldAgainst pushed freshTx
+unfolding undoOrder readRecord readRedo readCommit readAbort run all readBody readGroup readLog emptyRecords emptyTx headOk savepointsOk stateOk heldAgainst pushed freshTx
     written withRead precommitted loaded packedTxs packed emptyImage undoHere readTx readContent memoryOf past forwardOf isRunning isLost runningOf lostOf
     recoverOf unrecovered unfit begunState writtenState readState precommittedState without droppedState loadOf notOpened openOf refusedBy stepsOf examineOf recoveredState
     restartOf carriedOut stopOf stopFound stoppedOf decimal line foundText stopLine listingOf
