@@ -31,36 +31,36 @@ unseen : (o : Outline) (id status csn : ℕ) (us vs : List Range)
 unseen (outline i k n ws) id status csn us vs = (refl, refl)
 
 module _ (s : State) (t : List ℕ) (f : Fit s t) (j : ℕ) (h : j < s .count) (few : s .count ≤ 8) (ts : List Tx) (u : Tx) (c : Changed (txAt s) (slotAt ts) j u)
-    where
-  abbrev x : Tx
-  x = txAt s j
+  where
+    abbrev x : Tx
+    x = txAt s j
 
-  abbrev r : State
-  r = withTxs s (s .assigned) (s .lastid) (s .count) ts
+    abbrev r : State
+    r = withTxs s (s .assigned) (s .lastid) (s .count) ts
 
-  edited-fits : u .id ≡ x .id → u .status ≡ x .status → u .csn ≡ x .csn → recordsOk (rangesOf (u .undo .ranges)) ≡ true → stateOk u ≡ true
-      → (more : ℕ) → roomOf u ≡ roomOf x + more → roomUsed s t + more ≤ 16384 → Fit r t
-  edited-fits id status csn undo state more size room =
-      let rs = rangesOf (u .undo .ranges) in
-      let old = rangesOf (x .undo .ranges) in
-      let o : outlineOf u ≡ outline (x .id .0) (x .status) (x .csn .0) rs =
-      ap (λ (k : TxId). outline (k .0) (u .status) (u .csn .0) rs) id ∙ ap₂ (λ (k : ℕ) (n : Csn). outline (x .id .0) k (n .0) rs) status csn in
-      let same : (i : ℕ) → i < r .count → (i ≡ j → ⊥) → i < s .count = λ i l q. l in
-      let kept : outlineOk (s .lastid .0) (s .assigned .0) (outline (x .id .0) (x .status) (x .csn .0) rs) ≡ true = rw (head-at (imageOf s) (f .image) j h) undo in
-      let good : outlineOk (s .lastid .0) (s .assigned .0) (outlineOf u) ≡ true = ap (outlineOk (s .lastid .0) (s .assigned .0)) o ∙ kept in
-      let d = changed-distinct s t f r u j c (omega arith) (omega arith) same good
-      (λ i l q. ap (alikeTo (outlineAt s i)) o ∙ unseen (outlineAt s i) (x .id .0) (x .status) (x .csn .0) rs old .0 ∙ apart s t f i j l h)
-      (λ i l q. ap (λ (y : Outline). alikeTo y (outlineAt s i)) o ∙ unseen (outlineAt s i) (x .id .0) (x .status) (x .csn .0) rs old .1 ∙ apart s t f j i l q) in
-      let sum = sum-changed roomOf (txAt s) (txAt r) j u c (s .count) 0 (omega arith) (omega (arith, h)) in
-      record {
-        recovered = f .recovered;
-        image =
-            image-kept r (image-logend (imageOf s) (f .image)) (image-ordered (imageOf s) (f .image)) few
-            (changed-outlines s t f r u j c (omega arith) (omega arith) same good) d;
-        room = omega (arith, sum, size, room);
-        states = changed-states s t f r u j c (omega arith) (omega arith) same good state;
-        tail = f .tail;
-      }
+    edited-fits : u .id ≡ x .id → u .status ≡ x .status → u .csn ≡ x .csn → recordsOk (rangesOf (u .undo .ranges)) ≡ true → stateOk u ≡ true
+        → (more : ℕ) → roomOf u ≡ roomOf x + more → roomUsed s t + more ≤ 16384 → Fit r t
+    edited-fits id status csn undo state more size room =
+        let rs = rangesOf (u .undo .ranges) in
+        let old = rangesOf (x .undo .ranges) in
+        let o : outlineOf u ≡ outline (x .id .0) (x .status) (x .csn .0) rs =
+        ap (λ (k : TxId). outline (k .0) (u .status) (u .csn .0) rs) id ∙ ap₂ (λ (k : ℕ) (n : Csn). outline (x .id .0) k (n .0) rs) status csn in
+        let same : (i : ℕ) → i < r .count → (i ≡ j → ⊥) → i < s .count = λ i l q. l in
+        let kept : outlineOk (s .lastid .0) (s .assigned .0) (outline (x .id .0) (x .status) (x .csn .0) rs) ≡ true = rw (head-at (imageOf s) (f .image) j h) undo in
+        let good : outlineOk (s .lastid .0) (s .assigned .0) (outlineOf u) ≡ true = ap (outlineOk (s .lastid .0) (s .assigned .0)) o ∙ kept in
+        let d = changed-distinct s t f r u j c (omega arith) (omega arith) same good
+        (λ i l q. ap (alikeTo (outlineAt s i)) o ∙ unseen (outlineAt s i) (x .id .0) (x .status) (x .csn .0) rs old .0 ∙ apart s t f i j l h)
+        (λ i l q. ap (λ (y : Outline). alikeTo y (outlineAt s i)) o ∙ unseen (outlineAt s i) (x .id .0) (x .status) (x .csn .0) rs old .1 ∙ apart s t f j i l q) in
+        let sum = sum-changed roomOf (txAt s) (txAt r) j u c (s .count) 0 (omega arith) (omega (arith, h)) in
+        record {
+          recovered = f .recovered;
+          image =
+              image-kept r (image-logend (imageOf s) (f .image)) (image-ordered (imageOf s) (f .image)) few
+              (changed-outlines s t f r u j c (omega arith) (omega arith) same good) d;
+          room = omega (arith, sum, size, room);
+          states = changed-states s t f r u j c (omega arith) (omega arith) same good state;
+          tail = f .tail;
+        }
 
 -- one more read range, within number 8's limits
 pub read-fits : (s : State) (m t : List ℕ) (id a n : ℕ) → SizedState s → AnswerPassed s m t id a n → Fit (readState s (slotOf s id) a n) t
