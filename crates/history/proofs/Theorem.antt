@@ -7,10 +7,10 @@ use mathlib.Core.Path.{_≡_, refl, sym, ap, _∙_, subst}
 use lib.ListN.{length, replicate}
 use Rattle.recovery.specs.Group.{groupsSize, lastCsn}
 use Rattle.recovery.specs.Lists.{All}
-use Rattle.recovery.specs.Ledger.{Event, settled, Commit, Ledger, noLedger, committedIn, layCommits, latest}
+use Rattle.recovery.specs.Ledger.{Event, settled, Commit, Ledger, noLedger, committedIn, latest}
 use Rattle.recovery.specs.Machine.{Disk, standingBefore, standingIn, Live, System, down, up, diskOf, openingDisk, undoneBy, Step, stays, begins}
 use Rattle.recovery.specs.Machine.{writes, setsSavepoint, goesBack, precommits, rollsBack, flushes, flushIsCut, settles, checkpoints, checkpointIsCut, restarts, restartIsCut, Run, opened, next}
-use Rattle.recovery.specs.Claim.{commits, Numbered}
+use Rattle.recovery.specs.Claim.{commits, layCommits, Numbered}
 use Rattle.recovery.proofs.Groups.{lastCsn-append}
 use Rattle.recovery.proofs.Numbers.{Numbers}
 use Rattle.recovery.proofs.Log.{form-one}

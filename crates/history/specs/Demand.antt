@@ -8,8 +8,8 @@ use lib.ListN.{length, replicate}
 use Rattle.recovery.specs.Group.{groupsSize}
 use Rattle.recovery.specs.Lists.{All}
 use Rattle.recovery.specs.Ledger.{Event, unchanged, begun, wrote, precommitted, rolledBack, flushed, settled, restarted, cut}
-use Rattle.recovery.specs.Ledger.{Commit, Ledger, noLedger, committedIn, layCommits, latest, enter}
-use Rattle.recovery.specs.Claim.{commits, Numbered}
+use Rattle.recovery.specs.Ledger.{Commit, Ledger, noLedger, committedIn, latest, enter}
+use Rattle.recovery.specs.Claim.{commits, layCommits, Numbered}
 use Rattle.log.specs.Log.{readLog}
 use Rattle.store.specs.Answer as words
 use Rattle.store.specs.State.{unrecovered}

@@ -3,7 +3,7 @@
 use mathlib.Core.Path.{_≡_, sym, ap, _∙_, subst}
 use mathlib.Core.Logic.{_≢_}
 use mathlib.Core.Bool.{false}
-use mathlib.Core.List.{List, [], _∷_, _++_}
+use mathlib.Core.List.{List, [], _∷_, _++_, map}
 use Prim.Native.Nat.{ℕ, _+_, _≤_, _<_}
 use native.Mathlib.Omega.{arith}
 use lib.ListN.{length, getD}
@@ -11,7 +11,7 @@ use Rattle.recovery.specs.Group.{redoSize}
 use Rattle.recovery.specs.Lists.{All}
 use Rattle.recovery.specs.Transaction.{Tx, running, committing, edit, reserved}
 use Rattle.recovery.specs.Replay.{replay}
-use Rattle.recovery.specs.Ledger.{Ledger, OpenTx, editOpen, withActive}
+use Rattle.recovery.specs.Ledger.{Ledger, OpenTx, ofId, withActive}
 use Rattle.recovery.specs.Machine.{Opening, Disk, Live, Listed, roomUsed}
 use Rattle.recovery.proofs.Lists.{all-map, all-here, all-edit}
 use Rattle.recovery.proofs.Distinct.{distinct-edit}
@@ -101,7 +101,7 @@ module _ (o : Opening) (d : Disk) (l : Live) (k : Ledger) (r : Tx) (f : Found (r
     -- what is left to show: memory, the running transactions at each byte, room, and the records of the changed one
     pub edited-keeps : length m′ ≡ o .size
         → ((a : ℕ) → a < o .size → RunningAt a (replay (layByte a) (d .after ++ l .tail) (baseAt o (d .before) a)) (getD m′ a 0) (xs ++ h r ∷ ys))
-        → roomUsed d l′ ≤ o .capacity → Recorded (o .size) (baseMemory o d l) (h r) → Up o d l′ (withActive (editOpen (r .id) g (k .active)) k)
+        → roomUsed d l′ ≤ o .capacity → Recorded (o .size) (baseMemory o d l) (h r) → Up o d l′ (withActive (map (ofId (r .id) g) (k .active)) k)
     edited-keeps long live used recorded = record {
       late = u .late;
       standing = edited-standing;
@@ -115,7 +115,7 @@ module _ (o : Opening) (d : Disk) (l : Live) (k : Ledger) (r : Tx) (f : Found (r
         durable = u .ledger .durable;
         assigned = u .ledger .assigned;
         queue = u .ledger .queue;
-        active = ap (λ (ss : List OpenTx). editOpen (r .id) g ss) (u .ledger .active ∙ ap opens runnings)
+        active = ap (λ (ss : List OpenTx). map (ofId (r .id) g) ss) (u .ledger .active ∙ ap opens runnings)
             ∙ (edit-one r g (h r) xs ys apart opened ∙ ap opens (sym runnings′));
         settled = u .ledger .settled;
         latests = rw committings (u .ledger .latests);

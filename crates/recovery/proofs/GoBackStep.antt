@@ -4,7 +4,7 @@ use mathlib.Core.Path.{_≡_, refl, sym, ap, _∙_, subst}
 use mathlib.Core.Logic.{_≢_}
 use mathlib.Core.Bool.{Bool, true, false, cond}
 use mathlib.Core.Option.{Option, none, some}
-use mathlib.Core.List.{List, [], _∷_, _++_, append-assoc, append-nil, reverse, reverse-cons}
+use mathlib.Core.List.{List, [], _∷_, _++_, map, append-assoc, append-nil, reverse, reverse-cons}
 use Prim.Native.Nat.{ℕ, _+_, _≤_, _<_}
 use native.Mathlib.Omega.{arith}
 use lib.Dec.{eqb}
@@ -14,7 +14,7 @@ use Rattle.recovery.specs.Lists.{All, nil, cons}
 use Rattle.recovery.specs.Transaction.{Tx, running}
 use Rattle.recovery.specs.Savepoint.{countAt}
 use Rattle.recovery.specs.Replay.{replay, oldBytes}
-use Rattle.recovery.specs.Ledger.{Commit, Ledger, OpenTx, committedIn, layCommits, committedMemory, editOpen, addWrites, takenBack, addReturn, withActive}
+use Rattle.recovery.specs.Ledger.{Commit, Ledger, OpenTx, committedIn, layCommits, committedMemory, ofId, addWrites, takenBack, addReturn, withActive}
 use Rattle.recovery.specs.Ledger.{enterWrote, enterWentBack}
 use Rattle.recovery.specs.Machine.{Opening, Disk, historyOf, Live, Listed, roomUsed, withWrite, afterWrite, afterWrites, afterGoBack}
 use Rattle.recovery.specs.Claim.{commits}
@@ -57,7 +57,7 @@ redoSize-reverse (w ∷ ws) =
 
 -- ---- the ledger
 
-add-nothing : (i : ℕ) (ss : List OpenTx) → editOpen i (addWrites []) ss ≡ ss
+add-nothing : (i : ℕ) (ss : List OpenTx) → map (ofId i (addWrites [])) ss ≡ ss
 add-nothing i [] = refl
 add-nothing i (s ∷ ss) = rw (add-nothing i ss) (ap (λ (x : OpenTx). x ∷ ss) (go (eqb i (s .id))))
   where
@@ -65,9 +65,9 @@ add-nothing i (s ∷ ss) = rw (add-nothing i ss) (ap (λ (x : OpenTx). x ∷ ss)
     go true = ap (λ (ws : List Write). record { id = s .id; writes = ws; savepoints = s .savepoints }) (append-nil (s .writes))
     go false = refl
 
-add-more : (i : ℕ) (w : Write) (ws : List Write) (ss : List OpenTx) → editOpen i (addWrites ws) (editOpen i (addWrites (w ∷ [])) ss) ≡ editOpen i (addWrites (w ∷ ws)) ss
+add-more : (i : ℕ) (w : Write) (ws : List Write) (ss : List OpenTx) → map (ofId i (addWrites ws)) (map (ofId i (addWrites (w ∷ []))) ss) ≡ map (ofId i (addWrites (w ∷ ws))) ss
 add-more i w ws [] = refl
-add-more i w ws (s ∷ ss) = rw (add-more i w ws ss) (ap (λ (x : OpenTx). x ∷ editOpen i (addWrites (w ∷ ws)) ss) (go (eqb i (s .id)) refl))
+add-more i w ws (s ∷ ss) = rw (add-more i w ws ss) (ap (λ (x : OpenTx). x ∷ map (ofId i (addWrites (w ∷ ws))) ss) (go (eqb i (s .id)) refl))
   where
     first : Bool → OpenTx
     first b = cond b (addWrites (w ∷ []) s) s
@@ -77,7 +77,7 @@ add-more i w ws (s ∷ ss) = rw (add-more i w ws ss) (ap (λ (x : OpenTx). x ∷
     go false e = rw e
 
 -- told one by one, the writes go last all the same
-writes-entered : (i : ℕ) (ws : List Write) (k : Ledger) → enterWrites i ws k ≡ withActive (editOpen i (addWrites ws) (k .active)) k
+writes-entered : (i : ℕ) (ws : List Write) (k : Ledger) → enterWrites i ws k ≡ withActive (map (ofId i (addWrites ws)) (k .active)) k
 writes-entered i [] k = ap (λ (ss : List OpenTx). withActive ss k) (sym (add-nothing i (k .active)))
 writes-entered i (w ∷ ws) k = writes-entered i ws (enterWrote i w k) ∙ ap (λ (ss : List OpenTx). withActive ss k) (add-more i w ws (k .active))
 
@@ -129,7 +129,7 @@ module _ (o : Opening) (d : Disk) (l : Live) (k : Ledger) (u : Up o d l k) where
           let active : k .active ≡ opens (running (f .before) ++ r ∷ running (f .after)) = u .ledger .active ∙ ap opens runnings in
           let apart = found-apart r run f (u .standing .liveDistinct) in
           let writes : takenBack m (countAt name (r .savepoints)) (r .redo) ≡ back = ap (λ (c : Option ℕ). takenBack m c (r .redo)) set ∙ taken-back n in
-          let same : editOpen (r .id) g (k .active) ≡ editOpen (r .id) (addWrites back) (k .active) =
+          let same : map (ofId (r .id) g) (k .active) ≡ map (ofId (r .id) (addWrites back)) (k .active) =
           rw active
           (edit-one r g r′ (running (f .before)) (running (f .after)) apart (ap (λ (ws : List Write). addWrites ws (openOf r)) writes)
           ∙ sym (edit-one r (addWrites back) r′ (running (f .before)) (running (f .after)) apart refl)) in

@@ -14,7 +14,7 @@ use Rattle.recovery.specs.Lists.{All, nil, cons, orElse}
 use Rattle.recovery.specs.Transaction.{Tx, running, committing}
 use Rattle.recovery.specs.Replay.{redoAll, replay, layBytes}
 use Rattle.recovery.specs.Restart.{aborts}
-use Rattle.recovery.specs.Ledger.{OpenTx, Commit, Entry, commit, abort, Ledger, entrySize, fittingEntries, committedIn, openWrites, others, editOpen}
+use Rattle.recovery.specs.Ledger.{OpenTx, Commit, Entry, commit, abort, Ledger, entrySize, fittingEntries, committedIn, openWrites, others, ofId}
 use Rattle.recovery.specs.Ledger.{latest, layCommits}
 use Rattle.recovery.specs.Machine.{Disk, historyOf, Live}
 use Rattle.recovery.specs.Claim.{commits}
@@ -92,12 +92,12 @@ module _ (r : Tx) where
   writes-one (x ∷ xs) ys (cons n ns) = rw (ne-eqb (r .id) (x .id) (λ e. n (sym e))) (writes-one xs ys ns)
 
   module _ (f : OpenTx → OpenTx) where
-    edit-none : {rs : List Tx} → All (λ t. t .id ≢ r .id) rs → editOpen (r .id) f (opens rs) ≡ opens rs
+    edit-none : {rs : List Tx} → All (λ t. t .id ≢ r .id) rs → map (ofId (r .id) f) (opens rs) ≡ opens rs
     edit-none nil = refl
     edit-none (cons {x} n ns) = rw (ne-eqb (r .id) (x .id) (λ e. n (sym e))) (ap (λ (l : List OpenTx). openOf x ∷ l) (edit-none ns))
 
     pub edit-one : (r′ : Tx) (xs ys : List Tx) → All (λ t. t .id ≢ r .id) (xs ++ ys) → f (openOf r) ≡ openOf r′
-        → editOpen (r .id) f (opens (xs ++ r ∷ ys)) ≡ opens (xs ++ r′ ∷ ys)
+        → map (ofId (r .id) f) (opens (xs ++ r ∷ ys)) ≡ opens (xs ++ r′ ∷ ys)
     edit-one r′ [] ys h e = rw (eqb-same (r .id)) (rw e (ap (λ (l : List OpenTx). openOf r′ ∷ l) (edit-none h)))
     edit-one r′ (x ∷ xs) ys (cons n ns) e =
         rw (ne-eqb (r .id) (x .id) (λ q. n (sym q))) (ap (λ (l : List OpenTx). openOf x ∷ l) (edit-one r′ xs ys ns e))

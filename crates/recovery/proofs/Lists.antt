@@ -29,6 +29,10 @@ module _ {A : Type 0} where
   else-next none p h e = h e
   else-next (some a) p h e = some-none {x = a} refl e
 
+  pub else-both : (o p : Option A) → orElse o p ≡ none → (o ≡ none) × (p ≡ none)
+  else-both none p e = (refl, e)
+  else-both (some a) p e = absurd (some-none {x = a} refl e)
+
   -- every element
 
   pub all-map : {p q : A → Type 0} {xs : List A} → ((x : A) → p x → q x) → All p xs → All q xs

@@ -35,7 +35,7 @@ covers-own [] = nil
 covers-own (u ∷ us) =
     cons {x = u} (λ a s. else-some (seen a u) (oldest a us) s) (all-map (λ w c a s. else-next (seen a u) (oldest a us) (c a s)) (covers-own us))
 
-seen-inside : (a i : ℕ) (bs : List ℕ) → i ≤ a → a < i + length bs → seenAt a i bs ≢ none
+pub seen-inside : (a i : ℕ) (bs : List ℕ) → i ≤ a → a < i + length bs → seenAt a i bs ≢ none
 seen-inside a i [] l h e = omega arith
 seen-inside a i (b ∷ bs) l h e = go (eqb a i) refl (λ p. seen-inside a (suc i) bs (omega arith) (omega arith))
   where

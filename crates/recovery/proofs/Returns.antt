@@ -7,7 +7,7 @@ use mathlib.Core.List.{List, [], _∷_, _++_, append-assoc, append-nil, reverse,
 use Prim.Native.Nat.{ℕ, suc, _≤_, _<_}
 use native.Mathlib.Omega.{arith}
 use lib.Dec.{eqb}
-use lib.ListN.{length, getD, take, drop, take-append-drop}
+use lib.ListN.{length, length-take, getD, take, drop, take-append-drop}
 use lib.Seq.{ext-getD, length-sets, length-take-le, take-suc, drop-append-le, drop-length}
 use Rattle.recovery.specs.Group.{Write}
 use Rattle.recovery.specs.Lists.{All, nil, cons}
@@ -16,8 +16,8 @@ use Rattle.recovery.specs.Replay.{redoAll, undoAll, layBytes, oldBytes, 
 use Rattle.recovery.specs.Ledger.{Ledger, committedMemory, takenBack}
 use Rattle.recovery.specs.Machine.{Opening, Disk, Live, Listed, withWrite, afterWrite, afterWrites, afterGoBack}
 use Rattle.recovery.proofs.Bool.{some-none}
-use Rattle.recovery.proofs.Lists.{else-none, else-next, all-right}
-use Rattle.recovery.proofs.Byte.{act, seen, oldest, newest, laid-byte, undo-oldest, redo-length, undo-byte}
+use Rattle.recovery.proofs.Lists.{else-none, else-next, else-both, all-right}
+use Rattle.recovery.proofs.Byte.{act, seen, seenAt, oldest, newest, newest-append, laid-byte, undo-oldest, redo-length, undo-byte}
 use Rattle.recovery.proofs.LiveByte.{Touch, miss, hit}
 use Rattle.recovery.proofs.Records.{Within, redo-append, olds-drop}
 use Rattle.recovery.proofs.Invariant.{Up, baseMemory, base-length, recorded}
@@ -159,6 +159,44 @@ return-cancels k n ws m l b =
     ∙ (redo-reverse layBytes (oldsOf stood (drop n ws)) (redoAll layBytes ws m)
     ∙ (ap (λ (x : List ℕ). undoAll layBytes (oldsOf stood (drop n ws)) x) later
     ∙ undo-olds k (drop n ws) stood (redo-length k m l (take n ws)) (all-right (take n ws) (subst (All (Within k)) (sym (take-append-drop n ws)) b))))
+
+-- ---- a return writes where the transaction has written, and nowhere else
+
+seen-shorter : (a i : ℕ) (bs es : List ℕ) → length es ≤ length bs → seenAt a i bs ≡ none → seenAt a i es ≡ none
+seen-shorter a i bs [] h e = refl
+seen-shorter a i [] (x ∷ es) h e = absurd (omega arith)
+seen-shorter a i (b ∷ bs) (x ∷ es) h e = go (eqb a i) e (λ q. seen-shorter a (suc i) bs es (omega arith) q)
+  where
+    go : (c : Bool) → cond c (some b) (seenAt a (suc i) bs) ≡ none → (seenAt a (suc i) bs ≡ none → seenAt a (suc i) es ≡ none)
+        → cond c (some x) (seenAt a (suc i) es) ≡ none
+    go true q f = absurd (some-none {x = b} refl q)
+    go false q f = f q
+
+module _ (a : ℕ) where
+  old-leaves : (w : Write) (m : List ℕ) → seen a w ≡ none → seen a (oldBytes w m) ≡ none
+  old-leaves w m e = seen-shorter a (w .addr) (w .bytes) (oldBytes w m .bytes) (omega (arith, length-take (length (w .bytes)) (drop (w .addr) m))) e
+
+  olds-leave : (ws : List Write) (m : List ℕ) → newest a ws ≡ none → newest a (oldsOf m ws) ≡ none
+  olds-leave [] m e = refl
+  olds-leave (w ∷ ws) m e =
+      let p : (newest a ws ≡ none) × (seen a w ≡ none) = else-both (newest a ws) (seen a w) e in
+      rw (olds-leave ws (layBytes w m) (p .0)) (old-leaves w m (p .1))
+
+  reverse-leaves : (ws : List Write) → newest a ws ≡ none → newest a (reverse ws) ≡ none
+  reverse-leaves [] e = refl
+  reverse-leaves (w ∷ ws) e =
+      let p : (newest a ws ≡ none) × (seen a w ≡ none) = else-both (newest a ws) (seen a w) e in
+      ap (newest a) (reverse-cons w ws) ∙ (newest-append a (reverse ws) (w ∷ []) ∙ rw (p .1) (reverse-leaves ws (p .0)))
+
+  drop-leaves : (n : ℕ) (ws : List Write) → newest a ws ≡ none → newest a (drop n ws) ≡ none
+  drop-leaves n ws e =
+      else-both (newest a (drop n ws)) (newest a (take n ws)) (sym (newest-append a (take n ws) (drop n ws)) ∙ (ap (newest a) (take-append-drop n ws) ∙ e)) .0
+
+  pub taken-leaves : (m : List ℕ) (c : Option ℕ) (ws : List Write) → newest a ws ≡ none → newest a (takenBack m c ws) ≡ none
+  taken-leaves m none ws e = refl
+  taken-leaves m (some n) ws e =
+      let stood : List ℕ = redoAll layBytes (take n ws) m in
+      reverse-leaves (oldsOf stood (drop n ws)) (olds-leave (drop n ws) stood (drop-leaves n ws e))
 
 module _ (o : Opening) (d : Disk) (l : Live) (k : Ledger) (u : Up o d l k) (r : Tx) (listed : Listed r (l .txs)) (run : r .committing ≡ false)
     (n a : ℕ) (h : a < o .size) where

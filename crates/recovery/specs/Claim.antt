@@ -6,7 +6,8 @@ use lib.ListN.{length}
 use Rattle.layout.specs.{abortLen}
 use Rattle.recovery.specs.Group.{Group, committed, aborted, groupsSize}
 use Rattle.recovery.specs.Lists.{All}
-use Rattle.recovery.specs.Ledger.{Commit, Ledger, layCommits}
+use Rattle.recovery.specs.Ledger.{Commit, Ledger}
+pub use Rattle.recovery.specs.Ledger.{layCommits}
 use Rattle.recovery.specs.Machine.{Opening, Disk, standingIn, undoneBy, recovered}
 
 -- the commits of a log

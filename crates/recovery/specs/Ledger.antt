@@ -60,7 +60,7 @@ abbrev pub layCommits : List Commit → List ℕ → List ℕ
 layCommits [] m = m
 layCommits (c ∷ cs) m = layCommits cs (redoAll layBytes (c .writes) m)
 
--- by id: the write set, the other open transactions, a change of that one
+-- by id: the write set, the other open transactions, a change of that one, one more write
 abbrev pub openWrites : ℕ → List OpenTx → List Write
 openWrites i [] = []
 openWrites i (s ∷ ss) = cond (eqb i (s .id)) (s .writes) (openWrites i ss)
@@ -68,12 +68,14 @@ openWrites i (s ∷ ss) = cond (eqb i (s .id)) (s .writes) (openWrites i ss)
 abbrev pub others : ℕ → List OpenTx → List OpenTx
 others i ss = filter (λ s. not (eqb i (s .id))) ss
 
-abbrev pub editOpen : ℕ → (OpenTx → OpenTx) → List OpenTx → List OpenTx
-editOpen i f ss = map (λ s. cond (eqb i (s .id)) (f s) s) ss
+abbrev pub ofId : ℕ → (OpenTx → OpenTx) → OpenTx → OpenTx
+ofId i f s = cond (eqb i (s .id)) (f s) s
 
--- writes go last in the write set
 abbrev pub addWrites : List Write → OpenTx → OpenTx
 addWrites ws s = record { id = s .id; writes = s .writes ++ ws; savepoints = s .savepoints }
+
+abbrev pub addWrite : ℕ → Write → OpenTx → OpenTx
+addWrite i w s = ofId i (addWrites (w ∷ [])) s
 
 -- a savepoint "notes how many writes stand on its sheet"
 abbrev pub noteSavepoint : ℕ → OpenTx → OpenTx
@@ -123,11 +125,11 @@ enterBegun i l = withActive (l .active ++ (record { id = i; writes = []; savepoi
 
 -- Write: address and bytes go last in that id's write set.
 abbrev pub enterWrote : ℕ → Write → Ledger → Ledger
-enterWrote i w l = withActive (editOpen i (addWrites (w ∷ [])) (l .active)) l
+enterWrote i w l = withActive (map (addWrite i w) (l .active)) l
 
 -- A savepoint set (document 02, A.7): it notes how many writes stand in that id's write set.
 abbrev pub enterSavepointSet : ℕ → ℕ → Ledger → Ledger
-enterSavepointSet i name l = withActive (editOpen i (noteSavepoint name) (l .active)) l
+enterSavepointSet i name l = withActive (map (ofId i (noteSavepoint name)) (l .active)) l
 
 -- what the opening memory, the durable ones and the queue leave
 abbrev pub committedMemory : Ledger → List ℕ
@@ -135,7 +137,7 @@ committedMemory l = layCommits (l .durable ++ committedIn (l .queue)) (l .openin
 
 -- Gone back (document 02, A.7): the writes of the return go last in that id's write set. Its savepoints stay.
 abbrev pub enterWentBack : ℕ → ℕ → Ledger → Ledger
-enterWentBack i name l = withActive (editOpen i (addReturn (committedMemory l) name) (l .active)) l
+enterWentBack i name l = withActive (map (ofId i (addReturn (committedMemory l) name)) (l .active)) l
 
 -- Precommit: the write set goes last in the queue, as a committed transaction with that number; it is assigned from now on.
 abbrev pub enterPrecommitted : ℕ → ℕ → Ledger → Ledger
