@@ -34,16 +34,17 @@ extern "C" {
 #define LUPPANETH_TAIL_LEN 16384
 #define LUPPANETH_DISK_LEN 33691
 #define LUPPANETH_TEXT_LEN 80
-#define LUPPANETH_STATE_LEN 9072
+#define LUPPANETH_STATE_LEN 9488
 
 /* Parts of the disk: the pointer byte at 0, image A, image B, the log. */
 #define LUPPANETH_IMAGE_A 1
 #define LUPPANETH_IMAGE_B 8654
 #define LUPPANETH_LOG 17307
 
-/* At most so many bytes in one write or read, writes in one transaction, transactions at a time. */
+/* At most so many bytes in one write or read, writes in one transaction, ranges that one has read, transactions at a time. */
 #define LUPPANETH_MAX_WRITE 32
 #define LUPPANETH_MAX_WRITES 16
+#define LUPPANETH_MAX_READS 16
 #define LUPPANETH_MAX_TRANSACTIONS 8
 
 /* As many stores as the call needs, or all the groups of the tail. Fewer stores are for rehearsing a power cut. */
@@ -58,7 +59,7 @@ enum luppaneth_answer {
     LUPPANETH_ANSWER_REFUSED = 2 /* by `number`; nothing was changed, but for memory and tail, which restart's 3 to 5 set to zero */
 };
 
-/* A reply's `number` where refused, in the order in which a call tests them. */
+/* A reply's `number` where refused, in the order in which a call tests them; 15 comes after 9. */
 enum luppaneth_number {
     LUPPANETH_WRONG_LENGTH = 1,           /* any call: a lent buffer hasn't its length */
     LUPPANETH_UNFIT = 2,                  /* any call but restart: the state is unrecovered or broken, or the tail isn't its own */
@@ -68,12 +69,13 @@ enum luppaneth_number {
     LUPPANETH_NOT_LISTED = 6,             /* write, read, precommit, abort, settle: no transaction has this id */
     LUPPANETH_COMMITTING = 7,             /* write, read, precommit, abort: it has precommitted */
     LUPPANETH_BAD_RANGE = 8,              /* write, read: length 0 or above 32, or the range leaves memory */
-    LUPPANETH_HELD = 9,                   /* write, read: another running transaction wrote a byte of the range */
+    LUPPANETH_HELD = 9,                   /* write, read: another running transaction wrote a byte of the range. Write: or has read one */
     LUPPANETH_TOO_MANY_WRITES = 10,       /* write: it has 16 */
     LUPPANETH_TOO_MANY_TRANSACTIONS = 11, /* begin: there are 8 */
     LUPPANETH_COUNTER_AT_END = 12,        /* begin: id 65,535 was given. Precommit: commit number 4,294,967,295 was given */
     LUPPANETH_LOG_FULL = 13,              /* begin, write: the log has no room for it */
-    LUPPANETH_NOT_DURABLE = 14            /* settle: it is running, or its commit isn't on disk yet */
+    LUPPANETH_NOT_DURABLE = 14,           /* settle: it is running, or its commit isn't on disk yet */
+    LUPPANETH_TOO_MANY_READS = 15         /* read_answer: it has 16 read ranges */
 };
 
 /* A reply's `stop`: why the log ended where it did, as a restart that is done found it. */
@@ -114,11 +116,13 @@ struct luppaneth_reply luppaneth_begin(struct luppaneth_state state, const unsig
 struct luppaneth_reply luppaneth_write(struct luppaneth_state state, unsigned char *memory, size_t memory_len, const unsigned char *tail,
                                        size_t tail_len, uint16_t id, size_t addr, const unsigned char *bytes, size_t bytes_len);
 
-/* The length of the part that is read: len, or 0 where refused. The part itself is at memory + addr. */
+/* The length of the part that is read: len, or 0 where refused by a number up to 9, or where the transaction has neither read (by
+ * luppaneth_read_answer) nor written one of its bytes. The part itself is at memory + addr. Nothing is changed. */
 size_t luppaneth_read(struct luppaneth_state state, const unsigned char *memory, size_t memory_len, const unsigned char *tail, size_t tail_len,
                       uint16_t id, size_t addr, size_t len);
 
-/* What luppaneth_read is refused by, or done. */
+/* Takes a hold: what luppaneth_read would be refused by, or done. Then the transaction has read the range: others may read it and not write it
+ * until the transaction precommits or is aborted. Each call that is done takes one of its 16 read ranges, also for bytes that it has already. */
 struct luppaneth_reply luppaneth_read_answer(struct luppaneth_state state, const unsigned char *memory, size_t memory_len,
                                              const unsigned char *tail, size_t tail_len, uint16_t id, size_t addr, size_t len);
 
@@ -164,8 +168,8 @@ size_t luppaneth_text_len(void);
 
 /* ---- The layer that holds state and buffers
  *
- * Each call returns 0 for done, a luppaneth_number (1 to 14) where refused, or LUP_CUT, which none gives with LUPPANETH_ALL stores allowed. What is
- * handed out through a pointer is 0 (for read NULL) unless the call is done. A `struct luppaneth` has 63,256 bytes: keep it static or on the heap. */
+ * Each call returns 0 for done, a luppaneth_number (1 to 15) where refused, or LUP_CUT, which none gives with LUPPANETH_ALL stores allowed. What is
+ * handed out through a pointer is 0 (for read NULL) unless the call is done. A `struct luppaneth` has 63,672 bytes: keep it static or on the heap. */
 
 #define LUP_CUT (-1)
 
@@ -216,18 +220,21 @@ static inline int lup_write(struct luppaneth *l, uint16_t id, size_t addr, const
     return lup_take(l, &r);
 }
 
-/* *part: the len bytes of memory themselves; a later call may change them. */
+/* *part: the len bytes of memory themselves; a later call may change them. Where the transaction has neither read nor written all of them, the hold
+ * is taken first, so that nobody else writes them until it ends; bytes that it has already take no further read range. */
 static inline int lup_read(struct luppaneth *l, uint16_t id, size_t addr, size_t len, const unsigned char **part)
 {
-    struct luppaneth_reply r;
     *part = NULL;
-    /* a read that is done has at least one byte */
-    if (luppaneth_read(l->state, l->memory, sizeof l->memory, l->tail, sizeof l->tail, id, addr, len) != 0) {
-        *part = l->memory + addr;
-        return 0;
+    /* a part that is handed back has at least one byte */
+    if (luppaneth_read(l->state, l->memory, sizeof l->memory, l->tail, sizeof l->tail, id, addr, len) == 0) {
+        struct luppaneth_reply r =
+            luppaneth_read_answer(l->state, l->memory, sizeof l->memory, l->tail, sizeof l->tail, id, addr, len);
+        int answer = lup_take(l, &r);
+        if (answer != 0)
+            return answer;
     }
-    r = luppaneth_read_answer(l->state, l->memory, sizeof l->memory, l->tail, sizeof l->tail, id, addr, len);
-    return lup_take(l, &r);
+    *part = l->memory + addr;
+    return 0;
 }
 
 static inline int lup_precommit(struct luppaneth *l, uint16_t id, uint32_t *csn)
@@ -282,6 +289,7 @@ static inline const char *lup_text(int answer)
         "no id or commit number is left",
         "the log is full",
         "the booking isn't on disk yet",
+        "the transaction has read 16 ranges",
     };
     if (answer == LUP_CUT)
         return "cut short";

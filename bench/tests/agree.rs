@@ -3,6 +3,7 @@
 use bench::programs::{all, Program};
 use bench::rows;
 use second::gen::{stream, KINDS};
+use second::layout::{Range, MAX_READS};
 use second::rng::Rng;
 use second::state::Status;
 use second::trace::{calls, Answer, Call, Outcome, World};
@@ -75,7 +76,7 @@ fn worlds() -> Vec<World> {
 fn break_state(world: &mut World, rng: &mut Rng) {
     let state = &mut world.state;
     let small = rng.below(4);
-    match rng.below(12) {
+    match rng.below(14) {
         0 => state.recovered = !state.recovered,
         1 => state.log_end = rng.pick(&[0, 16_383, 16_384, 16_385, 65_535]),
         2 => state.csn_on_disk.0 = small as u32,
@@ -95,6 +96,10 @@ fn break_state(world: &mut World, rng: &mut Rng) {
                 8 => tx.csn.0 = small as u32,
                 9 => tx.status = rng.pick(&[Status::Running, Status::Committing]),
                 10 => drop(tx.redo.pop()),
+                11 | 12 if tx.reads.len() < MAX_READS => tx.reads.push(Range {
+                    address: rng.pick(&[0, 4_064, 4_065]),
+                    length: rng.pick(&[0, 1, 32, 33]),
+                }),
                 _ => {
                     let list = rng.pick(&[true, false]);
                     let list = if list { &mut tx.undo } else { &mut tx.redo };

@@ -62,7 +62,14 @@ typedef void (*any)(void);
 typedef void *(*unrecovered_at)(void *);
 typedef void *(*restart_at)(void *, unsigned char *, size_t, unsigned char *, size_t, unsigned char *, size_t, size_t);
 
-/* The state's last field has no padding after it, so the last byte written is the struct's last. */
+/* A struct that ends in a state ends in two bytes of padding, those of the last transaction: the last byte written is the struct's last, or the one
+ * before them. */
+static int whole(const struct room *room, size_t size, const char *what)
+{
+    size_t last = extent(room, size, what);
+    return last == size || last == size - 2;
+}
+
 static void test_state(void)
 {
     static struct room room;
@@ -72,7 +79,7 @@ static void test_state(void)
         unsigned char *at = place(&room, run, 4);
         expect(call(at) == at, "a returned state is elsewhere");
     }
-    expect(extent(&room, STATE, "a state is written outside its size") == STATE, "the state's size is not the library's");
+    expect(whole(&room, STATE, "a state is written outside its size"), "the state's size is not the library's");
     expect(_Alignof(struct luppaneth_state) == 4, "the state's alignment is not 4");
 }
 
@@ -89,7 +96,7 @@ static void test_reply(void)
         memset(&l, 0, sizeof l);
         call(at, l.disk, sizeof l.disk, l.memory, sizeof l.memory, l.tail, sizeof l.tail, LUPPANETH_ALL);
     }
-    expect(extent(&room, REPLY, "a reply is written outside its size") == REPLY, "the reply's size is not the library's");
+    expect(whole(&room, REPLY, "a reply is written outside its size"), "the reply's size is not the library's");
     for (i = 0; i < sizeof fields / sizeof fields[0]; i++)
         for (k = fields[i][0]; k < fields[i][1]; k++)
             expect(written(&room, room.at + k), "a field of the reply is not written");
@@ -122,12 +129,12 @@ static int zeros(const unsigned char *bytes, size_t count)
     return count == 0;
 }
 
-/* Padding in a state, of which nothing is said: in its own fields, in each of its eight transactions of 1,132 bytes, in a transaction's two lists
- * of records. */
+/* Padding in a state, of which nothing is said: in its own fields, in each of its eight transactions of 1,184 bytes, in a transaction's two lists
+ * of records and its read ranges, and behind these. */
 static int padding(size_t i)
 {
-    size_t in = i < 16 ? 0 : (i - 16) % 1132;
-    return i == 1 || i == 15 || in == 3 || in == 9 || in == 571;
+    size_t in = i < 16 ? 0 : (i - 16) % 1184;
+    return i == 1 || i == 15 || in == 3 || in == 9 || in == 571 || in == 1133 || in >= 1182;
 }
 
 /* A state of which no field but `recovered` is set: its first byte. */
@@ -206,6 +213,25 @@ static void test_disks(struct luppaneth *l)
     expect(lup_restart(l, LUPPANETH_ALL, &undone) == 0 && undone == 1 && l->memory[10] == 0x41 && l->memory[20] == 0, "restart");
 }
 
+/* Document 02, A.2: a read holds its range against others' writes until its transaction ends, and takes a read range only for bytes that are new. */
+static void test_holds(struct luppaneth *l)
+{
+    const unsigned char *part;
+    uint16_t reader = 0, writer = 0;
+    int i;
+    expect(lup_begin(l, &reader) == 0 && lup_begin(l, &writer) == 0, "two transactions");
+    expect(luppaneth_read(l->state, l->memory, sizeof l->memory, l->tail, sizeof l->tail, reader, 30, 2) == 0, "a read without a hold");
+    expect(lup_read(l, reader, 30, 2, &part) == 0 && part == l->memory + 30, "a read that takes the hold");
+    for (i = 0; i < 20; i++)
+        expect(lup_read(l, reader, 30, 2, &part) == 0, "a read of bytes that are held already");
+    expect(lup_read(l, writer, 31, 1, &part) == 0, "readers don't hinder readers");
+    expect(lup_write(l, writer, 30, "x", 1) == LUPPANETH_HELD, "a write over another's read");
+    for (i = 1; i < LUPPANETH_MAX_READS; i++)
+        expect(lup_read(l, reader, 100 + 2 * (size_t)i, 1, &part) == 0, "sixteen read ranges");
+    expect(lup_read(l, reader, 200, 1, &part) == LUPPANETH_TOO_MANY_READS && part == NULL, "a seventeenth read range");
+    expect(lup_abort(l, reader) == 0 && lup_write(l, writer, 30, "x", 1) == 0 && lup_abort(l, writer) == 0, "the end of a hold");
+}
+
 static void test_layer(struct luppaneth *l)
 {
     const unsigned char *part;
@@ -213,7 +239,7 @@ static void test_layer(struct luppaneth *l)
     int i;
     lup_init(l);
     expect(lup_begin(l, &id) == LUPPANETH_UNFIT && id == 0, "begin before a restart");
-    for (i = LUP_CUT - 1; i <= LUPPANETH_NOT_DURABLE + 1; i++)
+    for (i = LUP_CUT - 1; i <= LUPPANETH_TOO_MANY_READS + 1; i++)
         expect(lup_text(i) != NULL, "an answer without a text");
     expect(lup_read(l, 1, 0, 1, &part) == LUPPANETH_UNFIT && part == NULL, "read before a restart");
 }
@@ -229,6 +255,7 @@ int main(void)
     test_fresh(&l);
     test_booking(&l);
     test_disks(&l);
+    test_holds(&l);
     test_layer(&l);
     if (!failed)
         printf("layout: the header agrees with the library\n");

@@ -1,6 +1,7 @@
 //! The second program's state as a flat one, and back.
 
-use crate::tuned::state::{Records, State, Tx, COMMITTING, RUNNING};
+use crate::tuned::state::{Ranges, Records, State, Tx, COMMITTING, RUNNING};
+use second::layout::Range;
 use second::log::{Csn, TxId, Write};
 use second::state::Status;
 
@@ -24,6 +25,7 @@ pub fn flat(state: &second::state::State) -> State {
             csn: tx.csn.0,
             undo: records(&tx.undo),
             redo: records(&tx.redo),
+            reads: ranges(&tx.reads),
         };
     }
     flat
@@ -35,6 +37,14 @@ fn records(writes: &[Write]) -> Records {
         records.push(write.address, &write.bytes);
     }
     records
+}
+
+fn ranges(reads: &[Range]) -> Ranges {
+    let mut ranges = Ranges::EMPTY;
+    for range in reads {
+        ranges.push(range.address, range.length);
+    }
+    ranges
 }
 
 /// The listed transactions alone: what stands past the counts is nobody's.
@@ -59,6 +69,7 @@ fn unflat_tx(tx: &Tx) -> second::state::Tx {
         csn: Csn(tx.csn),
         undo: writes(&tx.undo),
         redo: writes(&tx.redo),
+        reads: read(&tx.reads),
     }
 }
 
@@ -69,4 +80,9 @@ fn writes(records: &Records) -> Vec<Write> {
         bytes: records.bytes_of(i).to_vec(),
     };
     places.map(write).collect()
+}
+
+fn read(ranges: &Ranges) -> Vec<Range> {
+    let range = |(address, length)| Range { address, length };
+    ranges.ranges().map(range).collect()
 }

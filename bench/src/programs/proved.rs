@@ -21,7 +21,7 @@ struct Reply {
     state: State,
 }
 
-const _: () = assert!(size_of::<State>() == 9_072 && size_of::<Reply>() == 9_088);
+const _: () = assert!(size_of::<State>() == 9_488 && size_of::<Reply>() == 9_504);
 
 /// The interface; a slice is a pointer and a length.
 mod c {

@@ -21,8 +21,9 @@ impl State {
         tx.id = id;
         tx.status = RUNNING;
         tx.csn = 0;
-        tx.undo.count = 0;
-        tx.redo.count = 0;
+        tx.undo.clear();
+        tx.redo.clear();
+        tx.reads.count = 0;
         self.count += 1;
         Ok(id)
     }
@@ -35,7 +36,7 @@ impl State {
         addr: usize,
         bytes: &[u8],
     ) -> Result<(), Refusal> {
-        let (admitted, slot) = self.find_range(memory, tail, id, addr, bytes.len())?;
+        let (admitted, slot) = self.find_range(memory, tail, id, addr, bytes.len(), true)?;
         let tx = &mut self.txs[slot];
         if tx.undo.count as usize == MAX_UNDOS {
             return Err(10);
@@ -50,7 +51,7 @@ impl State {
         Ok(())
     }
 
-    /// The part of memory itself, empty when refused.
+    /// The part of memory itself, empty when refused or not covered.
     pub fn read<'a>(
         &self,
         memory: &'a [u8],
@@ -59,21 +60,28 @@ impl State {
         addr: usize,
         len: usize,
     ) -> &'a [u8] {
-        match self.check_read(memory, tail, id, addr, len) {
-            Ok(()) => &memory[addr..addr + len],
-            Err(_) => &memory[0..0],
+        match self.find_range(memory, tail, id, addr, len, false) {
+            Ok((_, slot)) if self.txs[slot].covers(addr, len) => &memory[addr..addr + len],
+            _ => &memory[0..0],
         }
     }
 
+    /// Read's sister: takes the hold.
     pub fn check_read(
-        &self,
+        &mut self,
         memory: &[u8],
         tail: &[u8],
         id: u16,
         addr: usize,
         len: usize,
     ) -> Result<(), Refusal> {
-        self.find_range(memory, tail, id, addr, len).map(|_| ())
+        let (_, slot) = self.find_range(memory, tail, id, addr, len, false)?;
+        let reads = &mut self.txs[slot].reads;
+        if reads.count as usize == MAX_UNDOS {
+            return Err(15);
+        }
+        reads.push(addr, len);
+        Ok(())
     }
 
     pub fn precommit(&mut self, memory: &[u8], tail: &mut [u8], id: u16) -> Result<u32, Refusal> {
@@ -82,7 +90,8 @@ impl State {
         let tx = &mut self.txs[slot];
         let end = admitted.end + put_redos(&mut tail[admitted.end..], id, &tx.redo);
         put_commit(&mut tail[end..], id, csn);
-        tx.redo.count = 0;
+        tx.redo.clear();
+        tx.reads.count = 0;
         tx.status = COMMITTING;
         tx.csn = csn;
         self.assigned = csn;
@@ -127,7 +136,7 @@ impl State {
         Ok((admitted, slot))
     }
 
-    /// Numbers 1, 2 and 6 to 9.
+    /// Numbers 1, 2 and 6 to 9, to read or to write.
     fn find_range(
         &self,
         memory: &[u8],
@@ -135,12 +144,14 @@ impl State {
         id: u16,
         addr: usize,
         len: usize,
+        writing: bool,
     ) -> Result<(Admitted, usize), Refusal> {
         let found = self.find_running(memory, tail, id)?;
         if !range_ok(addr, len) {
             return Err(8);
         }
-        let held = |tx: &Tx| tx.id != id && tx.is_running() && tx.undo.meets(addr, len);
+        let holds = |tx: &Tx| tx.undo.meets(addr, len) || writing && tx.reads.meets(addr, len);
+        let held = |tx: &Tx| tx.id != id && tx.is_running() && holds(tx);
         if self.listed().iter().any(held) {
             return Err(9);
         }

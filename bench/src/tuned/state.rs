@@ -2,27 +2,25 @@
 //! can be handed to the proved library and to this program.
 
 use second::layout::{range_ok, MAX_LENGTH, MAX_TXS, MAX_UNDOS};
+use std::ops::Deref;
 
 pub const RUNNING: u8 = 1;
 pub const COMMITTING: u8 = 2;
 
-/// Undo or redo records, oldest first: the i-th has the `len[i]` bytes from
-/// 32 * i on.
+/// Ranges of memory, oldest first.
 #[repr(C)]
 #[derive(Clone, Copy)]
-pub struct Records {
+pub struct Ranges {
     pub count: u8,
     pub addr: [u16; MAX_UNDOS],
     pub len: [u8; MAX_UNDOS],
-    pub bytes: [u8; MAX_UNDOS * MAX_LENGTH],
 }
 
-impl Records {
-    pub const EMPTY: Records = Records {
+impl Ranges {
+    pub const EMPTY: Ranges = Ranges {
         count: 0,
         addr: [0; MAX_UNDOS],
         len: [0; MAX_UNDOS],
-        bytes: [0; MAX_UNDOS * MAX_LENGTH],
     };
 
     /// Addresses and lengths, oldest first.
@@ -32,15 +30,11 @@ impl Records {
         pairs.map(|(&addr, &len)| (addr as usize, len as usize))
     }
 
-    pub fn bytes_of(&self, i: usize) -> &[u8] {
-        &self.bytes[MAX_LENGTH * i..][..self.len[i] as usize]
-    }
-
     pub fn ok(&self) -> bool {
         self.count as usize <= MAX_UNDOS && self.ranges().all(|(addr, len)| range_ok(addr, len))
     }
 
-    pub fn same_ranges(&self, other: &Records) -> bool {
+    pub fn same_ranges(&self, other: &Ranges) -> bool {
         let n = self.count as usize;
         self.count == other.count
             && self.addr[..n] == other.addr[..n]
@@ -56,12 +50,56 @@ impl Records {
         self.ranges().map(|(_, len)| 7 + len).sum()
     }
 
-    pub fn push(&mut self, addr: usize, bytes: &[u8]) {
+    pub fn push(&mut self, addr: usize, len: usize) {
         let i = self.count as usize;
         self.addr[i] = addr as u16;
-        self.len[i] = bytes.len() as u8;
-        self.bytes[MAX_LENGTH * i..][..bytes.len()].copy_from_slice(bytes);
+        self.len[i] = len as u8;
         self.count += 1;
+    }
+
+    /// The bits of the `len` bytes from `addr` on that lie in one of them.
+    pub fn mask(&self, addr: usize, len: usize) -> u64 {
+        let below = |place: usize| (1 << (place.clamp(addr, addr + len) - addr)) - 1;
+        let bits = |(a, l)| below(a + l) & !below(a);
+        self.ranges().map(bits).fold(0, |all, some| all | some)
+    }
+}
+
+/// Undo or redo records, oldest first: the i-th has the `len[i]` bytes from
+/// 32 * i on.
+#[repr(C)]
+#[derive(Clone, Copy)]
+pub struct Records {
+    ranges: Ranges,
+    bytes: [u8; MAX_UNDOS * MAX_LENGTH],
+}
+
+impl Deref for Records {
+    type Target = Ranges;
+
+    fn deref(&self) -> &Ranges {
+        &self.ranges
+    }
+}
+
+impl Records {
+    pub const EMPTY: Records = Records {
+        ranges: Ranges::EMPTY,
+        bytes: [0; MAX_UNDOS * MAX_LENGTH],
+    };
+
+    pub fn clear(&mut self) {
+        self.ranges.count = 0;
+    }
+
+    pub fn bytes_of(&self, i: usize) -> &[u8] {
+        &self.bytes[MAX_LENGTH * i..][..self.len[i] as usize]
+    }
+
+    pub fn push(&mut self, addr: usize, bytes: &[u8]) {
+        let i = self.count as usize;
+        self.bytes[MAX_LENGTH * i..][..bytes.len()].copy_from_slice(bytes);
+        self.ranges.push(addr, bytes.len());
     }
 
     /// The old bytes come back, newest first.
@@ -81,6 +119,8 @@ pub struct Tx {
     pub csn: u32,
     pub undo: Records,
     pub redo: Records,
+    /// Off the image.
+    pub reads: Ranges,
 }
 
 impl Tx {
@@ -90,10 +130,25 @@ impl Tx {
         csn: 0,
         undo: Records::EMPTY,
         redo: Records::EMPTY,
+        reads: Ranges::EMPTY,
     };
 
     pub fn is_running(&self) -> bool {
         self.status == RUNNING
+    }
+
+    /// What number 2 asks of the read ranges.
+    pub fn reads_ok(&self) -> bool {
+        if self.is_running() {
+            self.reads.ok()
+        } else {
+            self.reads.count == 0
+        }
+    }
+
+    /// It has read or written each of the bytes.
+    pub fn covers(&self, addr: usize, len: usize) -> bool {
+        self.undo.mask(addr, len) | self.reads.mask(addr, len) == (1 << len) - 1
     }
 }
 

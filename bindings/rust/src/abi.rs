@@ -14,12 +14,21 @@ pub struct Records {
 
 #[derive(Clone, Copy)]
 #[repr(C)]
+pub struct Ranges {
+    count: u8,
+    addr: [u16; 16],
+    len: [u8; 16],
+}
+
+#[derive(Clone, Copy)]
+#[repr(C)]
 pub struct Transaction {
     id: u16,
     status: u8,
     csn: u32,
     undo: Records,
     redo: Records,
+    reads: Ranges,
 }
 
 /// The state between calls. `recovered` is a bool on the other side: values come from the library alone.
@@ -50,8 +59,8 @@ pub struct Reply {
     pub state: State,
 }
 
-const _: () = assert!(size_of::<State>() == 9_072 && align_of::<State>() == 4);
-const _: () = assert!(size_of::<Reply>() == 9_088 && align_of::<Reply>() == 8);
+const _: () = assert!(size_of::<State>() == 9_488 && align_of::<State>() == 4);
+const _: () = assert!(size_of::<Reply>() == 9_504 && align_of::<Reply>() == 8);
 
 extern "C" {
     pub fn luppaneth_unrecovered() -> State;

@@ -161,25 +161,55 @@ impl State {
         answer(&reply)
     }
 
-    /// The part of memory itself. A read leaves no hold behind.
-    pub fn read<'a>(
+    /// Takes a hold on a range: others may read it and not write it until the transaction precommits or is aborted. Each hold is one of a
+    /// transaction's 16 read ranges, also where it has the bytes already.
+    pub fn hold(
+        &mut self,
+        memory: &Memory,
+        tail: &Tail,
+        id: TxId,
+        at: usize,
+        len: usize,
+    ) -> Result<(), Refusal> {
+        let (m, t) = (memory.as_ptr(), tail.as_ptr());
+        let reply = unsafe {
+            abi::luppaneth_read_answer(self.0, m, MEMORY_LEN, t, TAIL_LEN, id.0, at, len)
+        };
+        self.0 = reply.state;
+        answer(&reply)
+    }
+
+    /// The part of memory itself, or none: where a number up to 9 refuses it, or the transaction has neither held nor written one of the
+    /// bytes. It takes no hold.
+    pub fn held<'a>(
         &self,
         memory: &'a Memory,
         tail: &Tail,
         id: TxId,
         at: usize,
         len: usize,
-    ) -> Result<&'a [u8], Refusal> {
+    ) -> Option<&'a [u8]> {
         let (m, t) = (memory.as_ptr(), tail.as_ptr());
         let read =
             unsafe { abi::luppaneth_read(self.0, m, MEMORY_LEN, t, TAIL_LEN, id.0, at, len) };
-        // A read that is done has at least one byte.
-        if read == 0 {
-            answer(&unsafe {
-                abi::luppaneth_read_answer(self.0, m, MEMORY_LEN, t, TAIL_LEN, id.0, at, len)
-            })?;
+        // A part that is handed back has at least one byte.
+        (read != 0).then(|| &memory[at..at + read])
+    }
+
+    /// The part of memory itself, held: where the transaction has neither held nor written all of it, the hold is taken first.
+    pub fn read<'a>(
+        &mut self,
+        memory: &'a Memory,
+        tail: &Tail,
+        id: TxId,
+        at: usize,
+        len: usize,
+    ) -> Result<&'a [u8], Refusal> {
+        if let Some(part) = self.held(memory, tail, id, at, len) {
+            return Ok(part);
         }
-        Ok(&memory[at..at + read])
+        self.hold(memory, tail, id, at, len)?;
+        Ok(&memory[at..at + len])
     }
 
     /// Gives the transaction the next commit number and puts its group into the tail: from here on its writes can't be taken back, and

@@ -1,10 +1,10 @@
-//! The fourteen refusals of document 01 by name.
+//! The refusals by name: document 01's fourteen, and those that requests added.
 
 use std::fmt;
 
 /// Why a call was refused. Refused, a call has changed nothing; restart alone zeroes memory and tail where it refuses a disk.
 ///
-/// The variants stand in document 01's order, which is the order in which a call tests them.
+/// The variants stand in the order of their numbers. A call tests them in that order, but for 15, which comes after 9.
 #[derive(Clone, Copy, Debug, PartialEq, Eq, Hash)]
 pub enum Refusal {
     /// 1: a lent buffer hasn't its length. The types of this crate keep it away.
@@ -23,7 +23,7 @@ pub enum Refusal {
     Committing = 7,
     /// 8: length 0 or above 32, or the range leaves memory.
     BadRange = 8,
-    /// 9: another running transaction wrote a byte of the range.
+    /// 9: another running transaction wrote a byte of the range; for a write also: has read one.
     Held = 9,
     /// 10: the transaction has 16 writes.
     TooManyWrites = 10,
@@ -35,11 +35,13 @@ pub enum Refusal {
     LogFull = 13,
     /// 14: the transaction is running, or its commit isn't on disk.
     NotDurable = 14,
+    /// 15: the transaction has read 16 ranges.
+    TooManyReads = 15,
 }
 
 impl Refusal {
-    /// All of them, in document 01's order.
-    pub const ALL: [Refusal; 14] = [
+    /// All of them, by number.
+    pub const ALL: [Refusal; 15] = [
         Refusal::WrongLength,
         Refusal::Unfit,
         Refusal::BadPointer,
@@ -54,9 +56,10 @@ impl Refusal {
         Refusal::CounterAtEnd,
         Refusal::LogFull,
         Refusal::NotDurable,
+        Refusal::TooManyReads,
     ];
 
-    /// Document 01's number, 1 to 14.
+    /// The documents' number, 1 to 15.
     pub fn number(self) -> u8 {
         self as u8
     }
@@ -77,12 +80,13 @@ impl Refusal {
             Refusal::NotListed => "no transaction has this id",
             Refusal::Committing => "the transaction has precommitted",
             Refusal::BadRange => "the range is empty, longer than 32 bytes or not within the 4,096",
-            Refusal::Held => "another running transaction wrote a byte of the range",
+            Refusal::Held => "another running transaction holds a byte of the range",
             Refusal::TooManyWrites => "the transaction has 16 writes already",
             Refusal::TooManyTransactions => "8 transactions are running or not yet settled",
             Refusal::CounterAtEnd => "the last transaction id or the last commit number was given",
             Refusal::LogFull => "the log is full: this needs more than is left of its 16,384 bytes",
             Refusal::NotDurable => "the transaction is running, or its commit isn't on disk yet",
+            Refusal::TooManyReads => "the transaction has read 16 ranges already",
         }
     }
 
@@ -104,6 +108,7 @@ impl Refusal {
                 "the log never empties, so carry the pattern over to a fresh disk (`Store::renew`); what is booked stays, and a smaller step may still fit"
             }
             Refusal::NotDurable => "flush first",
+            Refusal::TooManyReads => "read neighbouring bytes in one part of up to 32, or book in two steps",
         }
     }
 }

@@ -76,9 +76,10 @@ impl Tx<'_> {
         Ok(())
     }
 
-    /// Reads 1 to 32 bytes, this step's writes among them.
-    pub fn read(&self, at: usize, len: usize) -> Result<&[u8], Error> {
-        let w = &*self.working;
+    /// Reads 1 to 32 bytes, this step's writes among them, and holds them until the step ends. A step has at most 16 such holds; bytes that it
+    /// has read or written already take none.
+    pub fn read(&mut self, at: usize, len: usize) -> Result<&[u8], Error> {
+        let w = &mut *self.working;
         Ok(w.state.read(&w.memory, &w.tail, self.id, at, len)?)
     }
 

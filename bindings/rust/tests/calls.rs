@@ -40,8 +40,14 @@ impl Buffers {
         self.state
             .write(&mut self.memory, &self.tail, id, at, bytes)
     }
-    fn read(&self, id: TxId, at: usize, len: usize) -> Result<&[u8], Refusal> {
+    fn read(&mut self, id: TxId, at: usize, len: usize) -> Result<&[u8], Refusal> {
         self.state.read(&self.memory, &self.tail, id, at, len)
+    }
+    fn hold(&mut self, id: TxId, at: usize, len: usize) -> Result<(), Refusal> {
+        self.state.hold(&self.memory, &self.tail, id, at, len)
+    }
+    fn held(&self, id: TxId, at: usize, len: usize) -> Option<&[u8]> {
+        self.state.held(&self.memory, &self.tail, id, at, len)
     }
     fn precommit(&mut self, id: TxId) -> Result<Csn, Refusal> {
         self.state.precommit(&self.memory, &mut self.tail, id)
@@ -274,6 +280,7 @@ fn transactions_of_others() {
     assert_eq!(b.write(second, 11, &[6]), Err(Refusal::Held));
     assert_eq!(b.read(second, 8, 3), Err(Refusal::Held));
     assert_eq!(b.read(second, 8, 2), Ok(&[0, 0][..]));
+    assert_eq!(b.write(first, 9, &[6]), Err(Refusal::Held));
     b.precommit(first).unwrap();
     assert_eq!(b.write(first, 11, &[6]), Err(Refusal::Committing));
     assert_eq!(b.write(second, 11, &[6]), Ok(()));
@@ -281,6 +288,41 @@ fn transactions_of_others() {
     assert_eq!(b.abort(second), Ok(()));
     assert_eq!(b.memory[10..12], [5, 5]);
     assert_eq!((b.state.assigned(), b.state.on_disk()), (Csn(1), Csn(0)));
+}
+
+/// Document 02, A.2: readers hold against writers until they end, and not against readers.
+#[test]
+fn readers_hold() {
+    let mut b = Buffers::fresh();
+    let one = b.begin().unwrap();
+    let other = b.begin().unwrap();
+    assert_eq!(b.held(one, 10, 1), None);
+    assert_eq!(b.hold(one, 10, 1), Ok(()));
+    assert_eq!(b.hold(other, 10, 1), Ok(()));
+    assert_eq!(b.write(one, 10, &[5]), Err(Refusal::Held));
+    assert_eq!(b.write(other, 10, &[6]), Err(Refusal::Held));
+    b.precommit(one).unwrap();
+    assert_eq!(b.write(other, 10, &[6]), Ok(()));
+    assert_eq!(b.held(other, 10, 1), Some(&[6][..]));
+}
+
+/// A part is handed back where each byte was read or written; a read of such bytes takes no further range.
+#[test]
+fn cover_is_byte_by_byte() {
+    let mut b = Buffers::fresh();
+    let id = b.writing(12, &[7, 7]);
+    assert_eq!(b.hold(id, 10, 2), Ok(()));
+    assert_eq!(b.held(id, 10, 4), Some(&[0, 0, 7, 7][..]));
+    assert_eq!(b.held(id, 10, 5), None);
+    for _ in 0..20 {
+        assert_eq!(b.read(id, 10, 5), Ok(&[0, 0, 7, 7, 0][..]));
+    }
+    for _ in 0..14 {
+        assert_eq!(b.hold(id, 10, 1), Ok(()));
+    }
+    assert_eq!(b.hold(id, 10, 1), Err(Refusal::TooManyReads));
+    assert_eq!(b.read(id, 10, 5), Ok(&[0, 0, 7, 7, 0][..]));
+    assert_eq!(b.read(id, 10, 6), Err(Refusal::TooManyReads));
 }
 
 #[test]
@@ -308,7 +350,7 @@ fn refusals_by_name_and_number() {
         );
     }
     assert_eq!(
-        (Refusal::from_number(0), Refusal::from_number(15)),
+        (Refusal::from_number(0), Refusal::from_number(16)),
         (None, None)
     );
 }

@@ -13,7 +13,7 @@ use Rattle.log.specs.Log.{readLog}
 use Rattle.log.specs.Stop.{stopOf}
 use Rattle.transaction.specs.Flat.{emptyRecords, emptyTx}
 use Rattle.transaction.specs.Rules.{headOk, stateOk, heldAgainst}
-use Rattle.transaction.specs.Steps.{pushed, freshTx, written, precommitted}
+use Rattle.transaction.specs.Steps.{pushed, freshTx, written, withRead, precommitted}
 use Rattle.image.specs.Pack.{loaded, packedTxs, packed, emptyImage}
 use Rattle.image.specs.Reading.{undoHere, readTx, readContent, memoryOf}
 use Rattle.restart.specs.Forward.{past, forwardOf}
@@ -23,7 +23,7 @@ use Rattle.log.proofs.Basics.{clash}
 use Rattle.store.specs.State.{unrecovered}
 use Rattle.store.specs.Rules.{unfit}
 use Rattle.store.specs.Stored.{carriedOut}
-use Rattle.store.specs.Steps.{begunState, writtenState, precommittedState, without, droppedState}
+use Rattle.store.specs.Steps.{begunState, writtenState, readState, precommittedState, without, droppedState}
 use Rattle.disk.specs.Open.{loadOf, notOpened, openOf}
 use Rattle.disk.specs.Examine.{refusedBy, stepsOf, examineOf}
 use Rattle.disk.specs.Restart.{recoveredState, restartOf, stopFound, stoppedOf}
@@ -47,8 +47,8 @@ quickShown r = quickShowing (r .look) (quickRun (r .calls) start)
 
 computed : map quickShown rows ≡ map (λ r. some (r .expected)) rows
 unfolding undoOrder readRecord readRedo readCommit readAbort run all readBody readGroup readLog emptyRecords emptyTx headOk stateOk heldAgainst pushed freshTx
-    written precommitted loaded packedTxs packed emptyImage undoHere readTx readContent memoryOf past forwardOf isRunning isLost runningOf lostOf
-    recoverOf unrecovered unfit begunState writtenState precommittedState without droppedState loadOf notOpened openOf refusedBy stepsOf examineOf recoveredState
+    written withRead precommitted loaded packedTxs packed emptyImage undoHere readTx readContent memoryOf past forwardOf isRunning isLost runningOf lostOf
+    recoverOf unrecovered unfit begunState writtenState readState precommittedState without droppedState loadOf notOpened openOf refusedBy stepsOf examineOf recoveredState
     restartOf carriedOut stopOf stopFound stoppedOf decimal line foundText stopLine listingOf
 computed = refl
 

@@ -1,6 +1,6 @@
 -- Tails whose zeros are left out (Padded). The table M1 to M10: calls fast enough to be computed (Quick), that they are right (QuickRight,
 -- QuickMemory, QuickStores, QuickRestart), and lists of them (QuickRun); the one proof (Cases). Demand 3: what a disk and a world show of
--- `recovery`'s machine (OnDisk, Shows), each call as a step of it (MemorySteps, FlushSteps, CheckpointSteps, RestartSteps), the claim (Theorem).
+-- `recovery`'s machine (OnDisk, Shows), each call as a step of it (MemorySteps, FlushSteps, CheckpointSteps, RestartSteps), the claim (Theorem). Readers hold on its lists (Apart).
 pub mod Padded
 pub mod Quick
 pub mod QuickRight
@@ -16,3 +16,4 @@ pub mod FlushSteps
 pub mod CheckpointSteps
 pub mod RestartSteps
 pub mod Theorem
+pub mod Apart

@@ -11,7 +11,7 @@ use Rattle.recovery.specs.Group.{Write, Group, aborted, groupsSize}
 use Rattle.recovery.specs.Transaction.{Tx as Transaction, running, lookup, heldByOther, reserved}
 use Rattle.recovery.specs.Ledger as ledger
 use Rattle.recovery.specs.Machine as machine
-use Rattle.recovery.specs.Machine.{Disk, Live, up, Listed, lastAssigned, Step, begins, writes, precommits, rollsBack, settles, afterBegin, afterWrite}
+use Rattle.recovery.specs.Machine.{Disk, Live, up, Listed, lastAssigned, Step, stays, begins, writes, precommits, rollsBack, settles, afterBegin, afterWrite}
 use Rattle.recovery.specs.Machine.{afterPrecommit, afterAbort, afterSettle}
 use Rattle.recovery.proofs.Byte.{undo-length}
 use Rattle.recovery.specs.Replay.{undoAll, layBytes}
@@ -23,23 +23,23 @@ use Rattle.store.specs.Answer.{Told}
 use Rattle.store.specs.State.{slotOf}
 use Rattle.store.specs.Rules.{tailLength, roomUsed}
 use Rattle.store.specs.Numbers.{txOf}
-use Rattle.store.specs.Steps.{begunState, writtenState, precommittedState, droppedState}
-use Rattle.store.specs.Calls.{Outcome, beginNumber, writeNumber, precommitNumber, abortNumber, settleNumber, appended}
+use Rattle.store.specs.Steps.{begunState, writtenState, readState, precommittedState, droppedState}
+use Rattle.store.specs.Calls.{Outcome, beginNumber, writeNumber, answerNumber, precommitNumber, abortNumber, settleNumber, appended}
 use Rattle.store.specs.View.{live}
 use Rattle.store.proofs.Fits.{Fit, fit}
 use Rattle.store.proofs.Passing.{RunningPassed, begin-passed, write-passed, precommit-passed, abort-passed, settle-passed}
-use Rattle.store.proofs.Calling.{begin-done, write-done, precommit-done, abort-done, settle-done}
+use Rattle.store.proofs.Calling.{begin-done, write-done, answer-done, precommit-done, abort-done, settle-done}
 use Rattle.store.proofs.Stepping.{same-or-other}
-use Rattle.store.proofs.Views.{listed-view, tail-csn, commitOf, commit-appends, abort-appends, begin-live, write-live, precommit-live}
+use Rattle.store.proofs.Views.{listed-view, tail-csn, commitOf, commit-appends, abort-appends, begin-live, write-live, answer-live, precommit-live}
 use Rattle.store.proofs.Views.{abort-live, settle-live}
-use Rattle.store.proofs.Premises.{held-view, room-view}
-use Rattle.store.proofs.Keeping.{Kept, begin-keeps, write-keeps, precommit-keeps, abort-keeps, settle-keeps}
+use Rattle.store.proofs.Premises.{free-view, room-view}
+use Rattle.store.proofs.Keeping.{Kept, begin-keeps, write-keeps, answer-keeps, precommit-keeps, abort-keeps, settle-keeps}
 use Rattle.disk.specs.Layout.{logFrom}
-use Rattle.history.specs.Calls.{Call, begin, write, precommit, abort, settle, World, Stepped, returned, changed, stepOf}
+use Rattle.history.specs.Calls.{Call, begin, write, readAnswer, precommit, abort, settle, World, Stepped, returned, changed, stepOf}
 use Rattle.history.specs.Demand.{eventOf}
 use Rattle.history.proofs.OnDisk.{Start, opens, OnDisk}
 use Rattle.history.proofs.Shows.{Neat, LiveOn, awake, FollowsBy, refused-follows, begin-refuses, write-refuses, precommit-refuses, abort-refuses}
-use Rattle.history.proofs.Shows.{settle-refuses, appended-neat}
+use Rattle.history.proofs.Shows.{answer-refuses, settle-refuses, appended-neat}
 
 -- ---- the steps leave the log's end and the number on disk
 
@@ -51,6 +51,10 @@ written-same : (s : State) (j : ℕ) (m : List ℕ) (a : ℕ) (bs : List ℕ)
     → (writtenState s j m a bs .logend ≡ s .logend) × (writtenState s j m a bs .ondisk .0 ≡ s .ondisk .0)
 unfolding writtenState
 written-same s j m a bs = (refl, refl)
+
+read-same : (s : State) (j a n : ℕ) → (readState s j a n .logend ≡ s .logend) × (readState s j a n .ondisk .0 ≡ s .ondisk .0)
+unfolding readState
+read-same s j a n = (refl, refl)
 
 precommitted-same : (s : State) (j : ℕ) → (precommittedState s j .logend ≡ s .logend) × (precommittedState s j .ondisk .0 ≡ s .ondisk .0)
 unfolding precommittedState
@@ -143,7 +147,7 @@ module _ {from : Start} (w : World) (d : Disk) (l : Live) (o : OnDisk from (w .d
         let p = write-passed s m t tid a (length bs) z in
         let r = p .runs in
         let free : heldByOther (tx .id) new (l .txs) ≡ false =
-        ap₂ (λ (i : ℕ) (y : Live). heldByOther i new (y .txs)) (r .named) (sym (v .view)) ∙ sym (held-view s m t (v .sizes) fits id a bs) ∙ p .free in
+        ap₂ (λ (i : ℕ) (y : Live). heldByOther i new (y .txs)) (r .named) (sym (v .view)) ∙ free-view s m t (v .sizes) fits id a bs (p .free) in
         let e = write-done s m t tid a bs z in
         follows (write id a bs) (changed w _) (ledger.wrote (tx .id) new) (afterWrite tx new l) (ap (changed w) e)
         (ap (λ (i : ℕ). ledger.wrote i new) (sym (r .named)))
@@ -155,6 +159,19 @@ module _ {from : Start} (w : World) (d : Disk) (l : Live) (o : OnDisk from (w .d
         ∙ ap (afterWrite tx new) (v .view))
         (v .neat)))
         (λ h. refused-follows (up d l) w (write id a bs) (o, awake v) (write-refuses w id a bs h))
+
+    -- read's sister: the machine stays as it was
+    pub answer-follows : (a n : ℕ) → FollowsBy from (up d l) (readAnswer id a n) (stepOf (readAnswer id a n) w)
+    unfolding stepOf
+    answer-follows a n =
+        same-or-other (answerNumber s m t tid a n) 0
+        (λ z.
+        let e = answer-done s m t tid a n z in
+        follows (readAnswer id a n) (returned w _) ledger.unchanged l (ap (returned w) e) refl (stays (up d l)) o
+        (lives (readState s (slotOf s id) a n) m t l (read-same s (slotOf s id) a n) (v .memory) (v .tail)
+        (subst (λ (r : Told). Kept (r .state) t) e (answer-keeps s m t (v .sizes) tid a n z))
+        (ap (λ (r : Told). live (r .state) m t) (sym e) ∙ answer-live s m t (v .sizes) tid a n z ∙ v .view) (v .neat)))
+        (λ h. refused-follows (up d l) w (readAnswer id a n) (o, awake v) (answer-refuses w id a n h))
 
     pub precommit-follows : FollowsBy from (up d l) (precommit id) (stepOf (precommit id) w)
     unfolding stepOf

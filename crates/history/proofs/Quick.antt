@@ -13,15 +13,16 @@ use Rattle.recovery.specs.Replay.{undoAll, layBytes}
 use Rattle.recovery.specs.Restart.{aborts}
 use Rattle.log.specs.Group.{encodeGroup}
 use Rattle.log.specs.Log.{encodeLog}
-use Rattle.transaction.specs.View.{writesOf}
+use Rattle.transaction.specs.View.{usedBy, writesOf}
+use Rattle.transaction.specs.Rules.{covered}
 use Rattle.image.specs.Format.{encodeImage}
 use Rattle.restart.proofs.Recovery.{undoneBy}
 use Rattle.store.specs.declared.State.{State}
 use Rattle.store.specs.Answer.{done, cut, refused}
 use Rattle.store.specs.State.{imageOf, slotOf, unrecovered}
 use Rattle.store.specs.Rules.{tailLength, roomUsed}
-use Rattle.store.specs.Numbers.{txOf, beginChecks, writeChecks, readChecks, precommitChecks, abortChecks, settleChecks}
-use Rattle.store.specs.Steps.{begunState, writtenState, precommittedState, droppedState}
+use Rattle.store.specs.Numbers.{txOf, beginChecks, writeChecks, readChecks, answerChecks, precommitChecks, abortChecks, settleChecks}
+use Rattle.store.specs.Steps.{begunState, writtenState, readState, precommittedState, droppedState}
 use Rattle.store.specs.Calls.{decided}
 use Rattle.store.specs.Flush.{firstSize, flushedState}
 use Rattle.store.specs.Checkpoint.{targetAt, targetName}
@@ -92,10 +93,13 @@ module _ (d m bs : List ℕ) (s : State) where
       decided n (telling 0 0 d (sets m a new) bs (writtenState s (slotOf s id) m a new)) (refusing n here)
 
   abbrev pub readQuick : ℕ → ℕ → ℕ → Option Went
-  readQuick id a k = decided (numberOf s bs (readChecks s id a k)) (handing here (take k (drop a m))) (handing here [])
+  readQuick id a k =
+      decided (numberOf s bs (readChecks s id a k))
+      (handing here (cond (covered (usedBy (txOf s id)) a k) (take k (drop a m)) [])) (handing here [])
 
   abbrev pub answerQuick : ℕ → ℕ → ℕ → Option Went
-  answerQuick id a k = let n = numberOf s bs (readChecks s id a k) in decided n (telling 0 0 d m bs s) (refusing n here)
+  answerQuick id a k =
+      let n = numberOf s bs (answerChecks s id a k) in decided n (telling 0 0 d m bs (readState s (slotOf s id) a k)) (refusing n here)
 
   abbrev pub commitBytes : ℕ → List ℕ
   commitBytes id = encodeGroup (committed id (s .assigned .0 + 1) (writesOf (txOf s id .redo)))

@@ -1,10 +1,10 @@
 -- The calls in memory, the quick way, are right.
 use Prim.Native.Nat.{ℕ, _+_, _≤_}
 use native.Mathlib.Omega.{arith}
-use mathlib.Core.Bool.{true}
-use mathlib.Core.List.{List, _++_}
+use mathlib.Core.Bool.{true, cond}
+use mathlib.Core.List.{List, [], _++_}
 use mathlib.Core.Path.{_≡_, refl, ap, _∙_}
-use lib.ListN.{length, length-append}
+use lib.ListN.{length, take, drop, length-append}
 use lib.Seq.{sets, length-sets}
 use lib.Dec.{eqb, leb}
 use borrow.Author.Tests.{eqb-true, leb-true}
@@ -14,14 +14,14 @@ use Rattle.recovery.proofs.Byte.{undo-length}
 use Rattle.log.specs.Group.{encodeGroup}
 use Rattle.log.proofs.Basics.{and-left, and-right}
 use Rattle.transaction.specs.Lists.{sumOf}
-use Rattle.transaction.specs.View.{writesOf}
-use Rattle.transaction.specs.Rules.{roomOf}
+use Rattle.transaction.specs.View.{usedBy, writesOf}
+use Rattle.transaction.specs.Rules.{covered, roomOf}
 use Rattle.store.specs.declared.State.{State}
 use Rattle.store.specs.State.{txsOf}
 use Rattle.store.specs.Rules.{tailLength, roomUsed}
-use Rattle.store.specs.Numbers.{txOf, beginChecks, writeChecks, readChecks, precommitChecks, abortChecks, settleChecks}
-use Rattle.store.specs.Calls.{precommitOf, abortOf, beginNumber, writeNumber, appended}
-use Rattle.store.proofs.Calling.{begin-done, begin-refused, write-done, write-refused, read-done, read-refused, answer-done, answer-refused}
+use Rattle.store.specs.Numbers.{txOf, beginChecks, writeChecks, readChecks, answerChecks, precommitChecks, abortChecks, settleChecks}
+use Rattle.store.specs.Calls.{readOf, precommitOf, abortOf, beginNumber, writeNumber, readNumber, appended}
+use Rattle.store.proofs.Calling.{begin-done, begin-refused, write-done, write-refused, read-refused, answer-done, answer-refused}
 use Rattle.store.proofs.Calling.{precommit-done, precommit-refused, abort-done, abort-refused, settle-done, settle-refused}
 use Rattle.history.specs.Calls.{begin, write, read, readAnswer, precommit, abort, settle, part, World, Stepped}
 use Rattle.history.specs.Calls.{returned, changed, stepOf}
@@ -59,6 +59,11 @@ module _ (d m bs : List ℕ) (s : State) (l : Lengths d m bs) where
       (λ z. (ap (changed w) (write-done s m t (record { 0 = id }) a new (e ∙ z)), l'))
       (λ h. (ap (changed w) (write-refused s m t (record { 0 = id }) a new n e h), l))
 
+  read-found : (id a k : ℕ) → readNumber s m t (record { 0 = id }) a k ≡ 0
+      → readOf s m t (record { 0 = id }) a k ≡ cond (covered (usedBy (txOf s id)) a k) (take k (drop a m)) []
+  unfolding readOf
+  read-found id a k e = rw e
+
   pub read-right : (id a k : ℕ) → Right (stepOf (read id a k) w) (readQuick d m bs s id a k)
   unfolding stepOf
   read-right id a k =
@@ -66,14 +71,14 @@ module _ (d m bs : List ℕ) (s : State) (l : Lengths d m bs) where
       let e = shared-number s m bs (readChecks s id a k) (l .memory) (l .tail) in
       let hand : List ℕ → Stepped = λ bytes. record { reply = part bytes; world = w } in
       decide (hand _) n _ _
-      (λ z. (ap hand (read-done s m t (record { 0 = id }) a k (e ∙ z)), l))
+      (λ z. (ap hand (read-found id a k (e ∙ z)), l))
       (λ h. (ap hand (read-refused s m t (record { 0 = id }) a k n e h), l))
 
   pub answer-right : (id a k : ℕ) → Right (stepOf (readAnswer id a k) w) (answerQuick d m bs s id a k)
   unfolding stepOf
   answer-right id a k =
-      let n = numberOf s bs (readChecks s id a k) in
-      let e = shared-number s m bs (readChecks s id a k) (l .memory) (l .tail) in
+      let n = numberOf s bs (answerChecks s id a k) in
+      let e = shared-number s m bs (answerChecks s id a k) (l .memory) (l .tail) in
       decide (returned w _) n _ _
       (λ z. (ap (returned w) (answer-done s m t (record { 0 = id }) a k (e ∙ z)), l))
       (λ h. (ap (returned w) (answer-refused s m t (record { 0 = id }) a k n e h), l))

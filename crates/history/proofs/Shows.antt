@@ -18,16 +18,16 @@ use Rattle.store.specs.declared.State.{State}
 use Rattle.store.specs.State.{unrecovered}
 use Rattle.store.specs.Answer.{Told}
 use Rattle.store.specs.Rules.{roomUsed, unfit}
-use Rattle.store.specs.Numbers.{Check, firstNumber, sharedChecks, beginChecks, writeChecks, precommitChecks, abortChecks, settleChecks}
-use Rattle.store.specs.Calls.{Outcome, beginNumber, writeNumber, precommitNumber, abortNumber, settleNumber, readNumber, appended}
+use Rattle.store.specs.Numbers.{Check, firstNumber, sharedChecks, beginChecks, writeChecks, answerChecks, precommitChecks, abortChecks, settleChecks}
+use Rattle.store.specs.Calls.{Outcome, beginNumber, writeNumber, precommitNumber, abortNumber, settleNumber, answerNumber, appended}
 use Rattle.store.specs.Stored.{DiskOutcome}
 use Rattle.store.specs.Flush.{flushPlan, flushOf}
 use Rattle.store.specs.Checkpoint.{checkpointPlan, checkpointOf}
 use Rattle.store.specs.View.{live}
-use Rattle.store.proofs.Calling.{begin-refused, write-refused, precommit-refused, abort-refused, settle-refused, answer-done, answer-refused}
+use Rattle.store.proofs.Calling.{begin-refused, write-refused, precommit-refused, abort-refused, settle-refused, answer-refused}
 use Rattle.store.proofs.Storing.{diskNumber, stored-refused}
 use Rattle.store.proofs.Appending.{appended-log}
-use Rattle.store.proofs.Stepping.{SizedState, same-or-other}
+use Rattle.store.proofs.Stepping.{SizedState}
 use Rattle.store.proofs.Fits.{Fit}
 use Rattle.store.proofs.Views.{Appends, tail-zeros}
 use Rattle.disk.specs.Layout.{logFrom}
@@ -109,17 +109,11 @@ module _ (w : World) where
   unfolding stepOf
   read-refuses id a k = record { event = refl; world = refl }
 
-  pub answer-refuses : (id a k : ℕ) → Refuses w (readAnswer id a k)
+  pub answer-refuses : (id a k : ℕ) → (answerNumber (w .state) (w .memory) (w .tail) (record { 0 = id }) a k ≡ 0 → ⊥) → Refuses w (readAnswer id a k)
   unfolding stepOf
-  answer-refuses id a k =
-      let n = readNumber (w .state) (w .memory) (w .tail) (record { 0 = id }) a k in
-      same-or-other n 0
-      (λ z.
-      let e = answer-done (w .state) (w .memory) (w .tail) (record { 0 = id }) a k z in
-      record { event = ap (λ (r : Told). eventOf (readAnswer id a k) (returned w r .reply)) e; world = ap (λ (r : Told). returned w r .world) e })
-      (λ h.
-      let e = answer-refused (w .state) (w .memory) (w .tail) (record { 0 = id }) a k n refl h in
-      record { event = ap (λ (r : Told). eventOf (readAnswer id a k) (returned w r .reply)) e; world = ap (λ (r : Told). returned w r .world) e })
+  answer-refuses id a k h =
+      let e = answer-refused (w .state) (w .memory) (w .tail) (record { 0 = id }) a k _ refl h in
+      record { event = ap (λ (r : Told). eventOf (readAnswer id a k) (returned w r .reply)) e; world = ap (λ (r : Told). returned w r .world) e }
 
   pub precommit-refuses : (id : ℕ) → (precommitNumber (w .state) (w .memory) (w .tail) (record { 0 = id }) ≡ 0 → ⊥) → Refuses w (precommit id)
   unfolding stepOf
@@ -178,6 +172,9 @@ module _ (w : World) (r : Resting w) where
 
   pub write-idle : (id a : ℕ) (bs : List ℕ) → Refuses w (write id a bs)
   write-idle id a bs = write-refuses w id a bs (never (writeChecks (w .state) (roomUsed (w .state) (w .tail)) id a (length bs)))
+
+  pub answer-idle : (id a k : ℕ) → Refuses w (readAnswer id a k)
+  answer-idle id a k = answer-refuses w id a k (never (answerChecks (w .state) id a k))
 
   pub precommit-idle : (id : ℕ) → Refuses w (precommit id)
   precommit-idle id = precommit-refuses w id (never (precommitChecks (w .state) id))

@@ -28,9 +28,9 @@ use Rattle.disk.specs.Enough.{Enough}
 use Rattle.history.specs.Calls.{Call, begin, write, read, readAnswer, precommit, abort, flush, settle, checkpoint, restart, told, World, stepOf}
 use Rattle.history.specs.Demand.{eventOf, Happening, called, powerFails, Watched, happen, happenAll, opening, LatestDurable, Survives, Demand3}
 use Rattle.history.proofs.OnDisk.{Start, opens, OnDisk, fresh, fresh-shows, end-shown, memory-shown}
-use Rattle.history.proofs.Shows.{LiveOn, Beside, awake, rests, Shows, FollowsBy, refused-follows, read-refuses, answer-refuses}
-use Rattle.history.proofs.Shows.{begin-idle, write-idle, precommit-idle, abort-idle, settle-idle, flush-idle, checkpoint-idle}
-use Rattle.history.proofs.MemorySteps.{begin-follows, write-follows, precommit-follows, abort-follows, settle-follows}
+use Rattle.history.proofs.Shows.{LiveOn, Beside, awake, rests, Shows, FollowsBy, refused-follows, read-refuses}
+use Rattle.history.proofs.Shows.{begin-idle, write-idle, answer-idle, precommit-idle, abort-idle, settle-idle, flush-idle, checkpoint-idle}
+use Rattle.history.proofs.MemorySteps.{begin-follows, write-follows, answer-follows, precommit-follows, abort-follows, settle-follows}
 use Rattle.history.proofs.FlushSteps.{flush-follows}
 use Rattle.history.proofs.CheckpointSteps.{checkpoint-follows}
 use Rattle.history.proofs.RestartSteps.{log-left, restart-made, restart-follows}
@@ -76,9 +76,9 @@ module _ (from : Start) where
       → FollowsBy from s c (stepOf c w)
   follows (restart a) w s k r o b = restart-step w s k r (o, b) a
   follows (read id a n) w s k r o b = refused-follows s w (read id a n) (o, b) (read-refuses w id a n)
-  follows (readAnswer id a n) w s k r o b = refused-follows s w (readAnswer id a n) (o, b) (answer-refuses w id a n)
   follows begin w s k r o (rests x) = refused-follows s w begin (o, rests x) (begin-idle w x)
   follows (write id a bs) w s k r o (rests x) = refused-follows s w (write id a bs) (o, rests x) (write-idle w x id a bs)
+  follows (readAnswer id a n) w s k r o (rests x) = refused-follows s w (readAnswer id a n) (o, rests x) (answer-idle w x id a n)
   follows (precommit id) w s k r o (rests x) = refused-follows s w (precommit id) (o, rests x) (precommit-idle w x id)
   follows (abort id) w s k r o (rests x) = refused-follows s w (abort id) (o, rests x) (abort-idle w x id)
   follows (settle id) w s k r o (rests x) = refused-follows s w (settle id) (o, rests x) (settle-idle w x id)
@@ -86,6 +86,7 @@ module _ (from : Start) where
   follows (checkpoint a) w s k r o (rests x) = refused-follows s w (checkpoint a) (o, rests x) (checkpoint-idle w x (o .long) a)
   follows begin w s k r o (awake {d} {l} v) = begin-follows w d l o v
   follows (write id a bs) w s k r o (awake {d} {l} v) = write-follows w d l o v id a bs
+  follows (readAnswer id a n) w s k r o (awake {d} {l} v) = answer-follows w d l o v id a n
   follows (precommit id) w s k r o (awake {d} {l} v) = precommit-follows w d l o v id
   follows (abort id) w s k r o (awake {d} {l} v) = abort-follows w d l o v id
   follows (settle id) w s k r o (awake {d} {l} v) = settle-follows w d l o v id

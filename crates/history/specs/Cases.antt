@@ -244,6 +244,63 @@ rows =
       look = listingOver 0 (1 ∷ 0x3F ∷ 0xF8 ∷ []) 33683 loneRedo;
       expected = record { replies = []; seen = ascii "pointer=1\nend=16376\ncsn=0\nid=0\nundone=0\nstop=torn\n" };
     }
+    -- document 02, A.2. Two readers of one byte: neither may write it until the other's hold has ended, by precommit or by abort
+    ∷ record {
+      calls =
+          restart 16384 ∷ begin ∷ begin ∷ readAnswer 1 10 1 ∷ readAnswer 2 10 1 ∷ write 1 10 (5 ∷ []) ∷ write 2 10 (6 ∷ []) ∷ precommit 1
+          ∷ write 2 10 (6 ∷ [])
+          ∷ [];
+      look = byteAt 10;
+      expected = record {
+        replies = opened ∷ told done 1 0 ∷ told done 2 0 ∷ justDone ∷ justDone ∷ refusedBy 9 ∷ refusedBy 9 ∷ told done 1 0 ∷ justDone ∷ [];
+        seen = 6 ∷ [];
+      };
+    }
+    ∷ record {
+      calls = restart 16384 ∷ begin ∷ begin ∷ readAnswer 1 10 1 ∷ write 2 10 (6 ∷ []) ∷ abort 1 ∷ write 2 10 (6 ∷ []) ∷ [];
+      look = byteAt 10;
+      expected = record { replies = opened ∷ told done 1 0 ∷ told done 2 0 ∷ justDone ∷ refusedBy 9 ∷ justDone ∷ justDone ∷ []; seen = 6 ∷ [] };
+    }
+    -- a write over one's own read passes; what is written is held against another's reads
+    ∷ record {
+      calls =
+          restart 16384 ∷ begin ∷ begin ∷ readAnswer 1 10 2 ∷ write 1 11 (5 ∷ []) ∷ read 1 10 2 ∷ readAnswer 2 11 1 ∷ read 2 11 1 ∷ readAnswer 2 10 1
+          ∷ read 2 10 1
+          ∷ [];
+      look = nowhere;
+      expected = record {
+        replies =
+            opened ∷ told done 1 0 ∷ told done 2 0 ∷ justDone ∷ justDone ∷ part (0 ∷ 5 ∷ []) ∷ refusedBy 9 ∷ part [] ∷ justDone ∷ part (0 ∷ []) ∷ [];
+        seen = [];
+      };
+    }
+    -- a part covered by two ranges side by side, by reads and a write; one byte uncovered: empty, and the sister says done
+    ∷ record {
+      calls =
+          restart 16384 ∷ begin ∷ readAnswer 1 10 2 ∷ readAnswer 1 12 2 ∷ read 1 11 2 ∷ write 1 14 (7 ∷ []) ∷ read 1 10 5 ∷ read 1 10 6
+          ∷ readAnswer 1 10 6
+          ∷ read 1 10 6
+          ∷ [];
+      look = nowhere;
+      expected = record {
+        replies =
+            opened ∷ told done 1 0 ∷ justDone ∷ justDone ∷ part (0 ∷ 0 ∷ []) ∷ justDone ∷ part (0 ∷ 0 ∷ 0 ∷ 0 ∷ 7 ∷ []) ∷ part [] ∷ justDone
+            ∷ part (0 ∷ 0 ∷ 0 ∷ 0 ∷ 7 ∷ 0 ∷ [])
+            ∷ [];
+        seen = [];
+      };
+    }
+    -- the sixteenth read range passes, the seventeenth is 15, though it is covered and can be read; 9 comes before 15
+    ∷ record {
+      calls =
+          restart 16384 ∷ begin ∷ begin ∷ write 2 20 (6 ∷ []) ∷ replicate 17 (readAnswer 1 10 1) ++ (read 1 10 1 ∷ readAnswer 1 20 1 ∷ []);
+      look = nowhere;
+      expected = record {
+        replies =
+            opened ∷ told done 1 0 ∷ told done 2 0 ∷ justDone ∷ replicate 16 justDone ++ (refusedBy 15 ∷ part (0 ∷ []) ∷ refusedBy 9 ∷ []);
+        seen = [];
+      };
+    }
     ∷ []
 
 -- ---- what the definitions show

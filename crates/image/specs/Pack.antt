@@ -1,4 +1,4 @@
--- A content laid out in flat arrays: in order from the first place on, without redo records, zeros in every place that is not used.
+-- A content laid out in flat arrays: in order from the first place on, without redo records and extras, zeros in every place that is not used.
 use Prim.Native.Nat.{ℕ}
 use mathlib.Core.List.{List, [], _∷_, map}
 use lib.ListN.{length, replicate}
@@ -7,7 +7,7 @@ use Rattle.layout.specs.{maxTxs}
 use Rattle.recovery.specs.Group.{Write}
 use Rattle.transaction.specs.declared.records.Records.{Records}
 use Rattle.transaction.specs.declared.Tx.{Tx}
-use Rattle.transaction.specs.Flat.{emptyRecords, emptyTx}
+use Rattle.transaction.specs.Flat.{emptyExtras, emptyRecords, emptyTx}
 use Rattle.transaction.specs.Steps.{pushed}
 use Rattle.image.specs.declared.Image.{Image}
 use Rattle.image.specs.Content.{Saved, saved, Content}
@@ -18,7 +18,7 @@ pushedAll r [] = r
 pushedAll r (u ∷ us) = pushedAll (pushed r (u .addr) (u .bytes)) us
 
 unfoldable pub loaded : ℕ → ℕ → ℕ → Records → Tx
-loaded id status csn undo = record { id = record { 0 = id }; status = status; csn = record { 0 = csn }; undo = undo; redo = emptyRecords }
+loaded id status csn undo = record { id = record { 0 = id }; status = status; csn = record { 0 = csn }; undo = undo; redo = emptyRecords; extras = emptyExtras }
 
 abbrev pub packedTx : Saved → Tx
 packedTx (saved id status csn us) = loaded id status csn (pushedAll emptyRecords us)

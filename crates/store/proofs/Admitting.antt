@@ -260,4 +260,4 @@ module _ (s : State) (lent : ℕ) (t : List ℕ) where
         go false q = shared-stops (cs (roomUsed s t)) (eqb-false (x .number) 0 q)
 
     pub seen : Seen x s
-    seen h = let a = admitted h in (a .fits .image, omega (arith, a .room, a .fits .room))
+    seen h = let a = admitted h in (a .fits .image, a .fits .states, omega (arith, a .room, a .fits .room))

@@ -18,7 +18,7 @@ use Rattle.store.specs.State.{txAt}
 use Rattle.store.specs.Extents.{noExtents, withExtents, Taken, HasExtents, bareState}
 use Rattle.store.specs.Numbers.{Check, firstNumber}
 use Rattle.store.specs.Admission.{admission, diskAdmission, choice, Seen}
-use Rattle.store.proofs.Sameness.{AlikeTx, Alike, rules-alike, admission-alike, disk-alike, choice-alike}
+use Rattle.store.proofs.Sameness.{AlikeTx, Alike, rules-alike, states-alike, admission-alike, disk-alike, choice-alike}
 
 -- ---- the slots taken so far
 
@@ -73,6 +73,7 @@ bare-tx t =
       csn = refl;
       undo = record { count = refl; ranges = refl };
       redo = λ q. record { count = refl; ranges = refl };
+      reads = record { count = refl; ranges = refl };
     }
 
 module _ (s : State) (e : StateExtents) (h : HasExtents s e) where
@@ -104,7 +105,7 @@ module _ (s : State) (e : StateExtents) (h : HasExtents s e) where
   disk-by d lent t x q = q ∙ disk-alike (bareState e) s judged d lent t
 
   pub seen-by : (x : Admission) → Seen x s → Seen x (bareState e)
-  seen-by x f z = (rules-alike (bareState e) s judged ∙ f z .0, f z .1)
+  seen-by x f z = (rules-alike (bareState e) s judged ∙ f z .0, states-alike (bareState e) s judged ∙ f z .1, f z .2)
 
   pub chosen-by : (x : Admission) (id : ℕ) (cs ds : List Check) → firstNumber cs ≡ firstNumber ds
       → (r : Choice) → r ≡ choice (bareState e) x id cs → r ≡ choice s x id ds

@@ -1,5 +1,6 @@
 -- The cases of the calls' outcomes, by the number and by what the code has decided on the way.
 use Prim.Native.Nat.{ℕ, _+_}
+use mathlib.Core.Bool.{true, false}
 use mathlib.Core.List.{List, []}
 use mathlib.Core.Path.{_≡_, ap, _∙_}
 use lib.ListN.{length, take, drop}
@@ -8,7 +9,8 @@ use borrow.Author.Tests.{ne-eqb}
 use Rattle.recovery.specs.Group.{committed, aborted}
 use Rattle.recovery.specs.Replay.{undoAll, layBytes}
 use Rattle.log.specs.declared.TxId.{TxId}
-use Rattle.transaction.specs.View.{writesOf}
+use Rattle.transaction.specs.View.{usedBy, writesOf}
+use Rattle.transaction.specs.Rules.{covered}
 use Rattle.store.specs.declared.State.{State}
 use Rattle.store.specs.declared.choose.Choice.{Choice}
 use Rattle.store.specs.declared.admit.Admission.{Admission}
@@ -17,8 +19,8 @@ use Rattle.store.specs.Answer.{done, tells}
 use Rattle.store.specs.Rules.{tailLength, roomUsed}
 use Rattle.store.specs.Numbers.{Check, numberBy, txOf}
 use Rattle.store.specs.Admission.{admission, choice}
-use Rattle.store.specs.Steps.{begunState, writtenState, precommittedState, droppedState}
-use Rattle.store.specs.Calls.{refusing, beginNumber, beginOf, writeNumber, writeOf, readNumber, readOf, readAnswerOf, appended, precommitNumber}
+use Rattle.store.specs.Steps.{begunState, writtenState, readState, precommittedState, droppedState}
+use Rattle.store.specs.Calls.{refusing, beginNumber, beginOf, writeNumber, writeOf, readNumber, readOf, answerNumber, readAnswerOf, appended, precommitNumber}
 use Rattle.store.specs.Calls.{precommitOf, abortNumber, abortOf, settleNumber, settleOf}
 use Rattle.store.proofs.Admitting.{admitted, number-after}
 use Rattle.store.proofs.Choosing.{after-none, choice-own, choice-chosen}
@@ -49,15 +51,19 @@ module _ (s : State) (m t : List ℕ) where
     unfolding readOf
     read-refused a k n e h = rw (e, ne-eqb n 0 h)
 
-    pub read-done : (a k : ℕ) → readNumber s m t id a k ≡ 0 → readOf s m t id a k ≡ take k (drop a m)
+    pub read-done : (a k : ℕ) → readNumber s m t id a k ≡ 0 → covered (usedBy (txOf s (id .0))) a k ≡ true → readOf s m t id a k ≡ take k (drop a m)
     unfolding readOf
-    read-done a k e = rw e
+    read-done a k e h = rw (e, h)
 
-    pub answer-refused : (a k n : ℕ) → readNumber s m t id a k ≡ n → (n ≡ 0 → ⊥) → readAnswerOf s m t id a k ≡ refusing n s
+    pub read-uncovered : (a k : ℕ) → readNumber s m t id a k ≡ 0 → covered (usedBy (txOf s (id .0))) a k ≡ false → readOf s m t id a k ≡ []
+    unfolding readOf
+    read-uncovered a k e h = rw (e, h)
+
+    pub answer-refused : (a k n : ℕ) → answerNumber s m t id a k ≡ n → (n ≡ 0 → ⊥) → readAnswerOf s m t id a k ≡ refusing n s
     unfolding readAnswerOf
     answer-refused a k n e h = rw (e, ne-eqb n 0 h)
 
-    pub answer-done : (a k : ℕ) → readNumber s m t id a k ≡ 0 → readAnswerOf s m t id a k ≡ tells done 0 0 s
+    pub answer-done : (a k : ℕ) → answerNumber s m t id a k ≡ 0 → readAnswerOf s m t id a k ≡ tells done 0 0 (readState s (slotOf s (id .0)) a k)
     unfolding readAnswerOf
     answer-done a k e = rw e
 

@@ -13,13 +13,13 @@ use Rattle.transaction.specs.declared.Tx.{Tx}
 use Rattle.transaction.specs.Lists.{upFrom, every, sumOf}
 use Rattle.transaction.specs.View.{Outline, outlineOf}
 use Rattle.transaction.specs.Rules.{headOk, outlineOk, stateOk, roomOf}
-use Rattle.transaction.proofs.Lists.{every-at, length-up}
+use Rattle.transaction.proofs.Lists.{length-up}
 use Rattle.store.specs.declared.State.{State}
 use Rattle.store.specs.State.{txAt, txsOf, outlineAt, outlinesOf, imageOf}
 use Rattle.image.specs.Rules.{alikeTo, distinct}
 use Rattle.image.proofs.Rules.{image-distinct, head-at, undo-at, distinct-at}
 use Rattle.store.specs.Rules.{keepsImageRules}
-use Rattle.store.proofs.Fits.{Fit}
+use Rattle.store.proofs.Fits.{Fit, rule-at}
 use Rattle.store.proofs.Positions.{Changed, Dropped, every-intro, sum-dropped}
 use Rattle.store.proofs.Stepping.{same-or-other}
 
@@ -70,9 +70,6 @@ module _ (s : State) (t : List ℕ) (f : Fit s t) where
   pub apart : (x y : ℕ) → x < y → y < s .count → alikeTo (outlineAt s x) (outlineAt s y) ≡ false
   apart x y a b = distinct-at (outlineAt s) (s .count) 0 (image-distinct (imageOf s) (f .image)) x y (omega arith) a (omega arith)
 
-  pub state-right : (i : ℕ) → i < s .count → stateOk (txAt s i) ≡ true
-  state-right i h = every-at (txAt s) stateOk (s .count) 0 (f .states) i (omega arith) (omega arith)
-
   -- ---- a state whose slots are those of s but for one, with counters that did not fall
   module _ (r : State) (u : Tx) (j : ℕ) (c : Changed (txAt s) (txAt r) j u) (last : s .lastid .0 ≤ r .lastid .0) (csn : s .assigned .0 ≤ r .assigned .0)
       (old : (i : ℕ) → i < r .count → (i ≡ j → ⊥) → i < s .count) (good : outlineOk (r .lastid .0) (r .assigned .0) (outlineOf u) ≡ true) where
@@ -89,7 +86,7 @@ module _ (s : State) (t : List ℕ) (f : Fit s t) where
         every-intro stateOk (txAt r) (r .count) 0
         (λ i a b.
         same-or-other i j (λ q. subst (λ (x : Tx). stateOk x ≡ true) (sym (ap (txAt r) q ∙ c .here)) e)
-        (λ q. subst (λ (x : Tx). stateOk x ≡ true) (sym (c .other i q)) (state-right i (old i (omega arith) q))))
+        (λ q. subst (λ (x : Tx). stateOk x ≡ true) (sym (c .other i q)) (rule-at s t f i (old i (omega arith) q))))
 
     pub changed-distinct : ((x : ℕ) → x < j → x < s .count → alikeTo (outlineAt s x) (outlineOf u) ≡ false)
         → ((y : ℕ) → j < y → y < s .count → alikeTo (outlineOf u) (outlineAt s y) ≡ false)
@@ -119,7 +116,7 @@ module _ (s : State) (t : List ℕ) (f : Fit s t) where
         ]
 
     -- which slot of s a slot of r was
-    was : (i : ℕ) → i < r .count → (k : ℕ) × (txAt r i ≡ txAt s k) × (k < s .count) × (i ≤ k) × (k ≤ i + 1) × (i < j → k ≡ i) × (j ≤ i → k ≡ i + 1)
+    pub was : (i : ℕ) → i < r .count → (k : ℕ) × (txAt r i ≡ txAt s k) × (k < s .count) × (i ≤ k) × (k ≤ i + 1) × (i < j → k ≡ i) × (j ≤ i → k ≡ i + 1)
     was i l =
         elim (decLt i j) [
           | yes a ↦ (i, d .before i a, omega (arith, l, count), omega arith, omega arith, λ q. refl, λ q. absurd (omega (arith, a, q)))

@@ -9,6 +9,8 @@ use native.Mathlib.Decide.{decLe}
 use borrow.Author.Tests.{eq-eqb, ne-eqb, eqb-true, eqb-false, le-leb, lt-leb, le-ltb, lt-ltb, not-false}
 use Rattle.recovery.specs.Lists.{any}
 use Rattle.log.specs.Record.{inRange}
+use Rattle.transaction.specs.Lists.{every}
+use Rattle.transaction.specs.Rules.{stateOk}
 use Rattle.transaction.proofs.RangeLaws.{in-range}
 use Rattle.image.proofs.Rules.{image-count}
 use Rattle.store.specs.declared.State.{State}
@@ -126,6 +128,7 @@ module _ (s : State) (id slot : ℕ) (e : slot ≡ slotOf s id) where
 -- what a chooser may rely on that goes on from r, where neither the admission nor the checks cs after number 6 refuse; ds are its own
 pub record Slotted (s : State) (x : Admission) (id : ℕ) (r : Choice) (cs : List Check) : Type 0 where
   pub rules : keepsImageRules s ≡ true
+  pub states : every stateOk (txsOf s) ≡ true
   pub few : s .count ≤ 8
   pub own : firstNumber (check6 s id ∷ cs) ≡ 0
   pub listed : r .slot < s .count
@@ -152,12 +155,13 @@ slotted s x id r cs seen p e h =
     let w = seen (a .0) in
     record {
       rules = w .0;
+      states = w .1;
       few = image-count (imageOf s) (w .0);
       own = a .1;
       listed = omega (arith, k, listed-by-6 s id (passed (check6 s id ∷ []) cs refl (a .1) .0 .0) .0);
       slot = k;
       room = ap (λ (y : Choice). y .room) c;
-      small = w .1;
+      small = w .2;
       goes = λ ds. choice-goes s x id r all e p ds h;
       refuses = λ ds. choice-refuses s x id r all e p ds h;
     }

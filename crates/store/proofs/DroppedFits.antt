@@ -14,14 +14,14 @@ use Rattle.store.specs.State.{txAt, txsOf, outlineAt, slotOf, imageOf}
 use Rattle.image.proofs.Rules.{image-logend, image-ordered, image-count, outline-at}
 use Rattle.store.specs.Rules.{keepsImageRules}
 use Rattle.store.specs.Calls.{appended}
-use Rattle.store.proofs.Fits.{Fit}
+use Rattle.store.proofs.Fits.{Fit, rule-at}
 use Rattle.store.proofs.Passing.{RunningPassed}
 use Rattle.store.proofs.Appending.{appended-size, appended-csn, appended-zeros}
 use Rattle.store.proofs.Views.{abort-appends, tail-csn, tail-zeros}
 use Rattle.store.proofs.Positions.{every-intro}
 use Rattle.store.proofs.Stepping.{SizedState, dropped-slot}
 use Rattle.store.specs.Steps.{droppedState}
-use Rattle.store.proofs.Changing.{image-kept, state-right, dropped-each, dropped-distinct, dropped-sum}
+use Rattle.store.proofs.Changing.{image-kept, dropped-each, dropped-distinct, dropped-sum}
 
 dropped-image : (s : State) (t : List ℕ) (j : ℕ) → SizedState s → Fit s t → j < s .count → keepsImageRules (droppedState s j) ≡ true
 unfolding droppedState
@@ -40,7 +40,7 @@ unfolding droppedState
 dropped-states s t j z f h =
     let d = dropped-slot s z j h (image-count (imageOf s) (f .image)) in
     every-intro stateOk (txAt (droppedState s j)) (s .count - 1) 0
-    (λ i a b. dropped-each s t f (droppedState s j) j h d refl stateOk (state-right s t f) i (omega (arith, b)))
+    (λ i a b. dropped-each s t f (droppedState s j) j h d refl stateOk (rule-at s t f) i (omega (arith, b)))
 
 dropped-reserved : (s : State) (t : List ℕ) (j : ℕ) → SizedState s → Fit s t → j < s .count
     → sumOf roomOf (txsOf (droppedState s j)) + roomOf (txAt s j) ≡ sumOf roomOf (txsOf s)

@@ -62,8 +62,11 @@ module _ (s : State) (t : List ℕ) (f : Fit s t) (i : ℕ) (h : i < s .count) w
   pub status-at : (txAt s i .status ≡ 2 → ⊥) → txAt s i .status ≡ 1
   status-at = running-status _ _ _ _ _ (ruled-at (imageOf s) (f .image) i h)
 
+  pub rule-at : stateOk (txAt s i) ≡ true
+  rule-at = every-at (txAt s) stateOk (s .count) 0 (f .states) i (omega arith) (omega arith)
+
   pub redo-at : txAt s i .status ≡ 1 → rangesOf (txAt s i .undo .ranges) ≡ rangesOf (txAt s i .redo .ranges)
-  redo-at = running-ranges (txAt s i) (every-at (txAt s) stateOk (s .count) 0 (f .states) i (omega arith) (omega arith))
+  redo-at = running-ranges (txAt s i) rule-at
 
   pub room-at : roomOf (txAt s i) ≤ sumOf roomOf (txsOf s)
   room-at = part-of-sum roomOf (txAt s) (s .count) 0 i (omega arith) (omega arith)

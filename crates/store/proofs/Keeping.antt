@@ -10,16 +10,17 @@ use Rattle.store.specs.declared.State.{State}
 use Rattle.store.specs.State.{slotOf}
 use Rattle.store.specs.Rules.{unfit}
 use Rattle.store.specs.Answer.{Told}
-use Rattle.store.specs.Calls.{Outcome, appended, beginNumber, beginOf, writeNumber, writeOf, precommitNumber, precommitOf, abortNumber, abortOf}
-use Rattle.store.specs.Calls.{settleNumber, settleOf}
+use Rattle.store.specs.Calls.{Outcome, appended, beginNumber, beginOf, writeNumber, writeOf, answerNumber, readAnswerOf, precommitNumber, precommitOf}
+use Rattle.store.specs.Calls.{abortNumber, abortOf, settleNumber, settleOf}
 use Rattle.store.proofs.Fits.{unfit-no}
-use Rattle.store.proofs.Passing.{begin-passed, write-passed, precommit-passed, abort-passed, settle-passed}
-use Rattle.store.proofs.Calling.{begin-done, write-done, precommit-done, abort-done, settle-done}
+use Rattle.store.proofs.Passing.{begin-passed, write-passed, answer-passed, precommit-passed, abort-passed, settle-passed}
+use Rattle.store.proofs.Calling.{begin-done, write-done, answer-done, precommit-done, abort-done, settle-done}
 use Rattle.store.proofs.Views.{commitOf}
-use Rattle.store.proofs.Stepping.{SizedState, begun-sized, written-sized, precommitted-sized, dropped-sized}
-use Rattle.store.specs.Steps.{begunState, writtenState, precommittedState, droppedState}
+use Rattle.store.proofs.Stepping.{SizedState, begun-sized, written-sized, read-sized, precommitted-sized, dropped-sized}
+use Rattle.store.specs.Steps.{begunState, writtenState, readState, precommittedState, droppedState}
 use Rattle.store.proofs.BegunFits.{begun-fits}
 use Rattle.store.proofs.WrittenFits.{written-fits}
+use Rattle.store.proofs.ReadFits.{read-fits}
 use Rattle.store.proofs.PrecommittedFits.{precommitted-fits}
 use Rattle.store.proofs.DroppedFits.{settled-fits, aborted-fits}
 
@@ -46,6 +47,13 @@ module _ (s : State) (m t : List ℕ) (z : SizedState s) where
           fits = unfit-no (writtenState s at m a bs) t (written-fits s m t (id .0) a bs z p);
           sizes = written-sized s z at (p .runs .listed) (p .runs .few) m a bs;
         })
+
+    pub answer-keeps : (a n : ℕ) → answerNumber s m t id a n ≡ 0 → Kept (readAnswerOf s m t id a n .state) t
+    answer-keeps a n e =
+        let p = answer-passed s m t id a n e in
+        let r = p .read .runs in
+        subst (λ (o : Told). Kept (o .state) t) (sym (answer-done s m t id a n e))
+        (record { fits = unfit-no (readState s at a n) t (read-fits s m t (id .0) a n z p); sizes = read-sized s z at (r .listed) (r .few) a n })
 
     pub precommit-keeps : precommitNumber s m t id ≡ 0 → Kept (precommitOf s m t id .result .state) (precommitOf s m t id .tail)
     precommit-keeps e =

@@ -18,9 +18,11 @@ pub mod Views
 pub mod Changing
 pub mod BegunFits
 pub mod WrittenFits
+pub mod ReadFits
 pub mod PrecommittedFits
 pub mod DroppedFits
 pub mod Keeping
+pub mod Apart
 pub mod Storing
 pub mod Flushing
 pub mod Checkpointing

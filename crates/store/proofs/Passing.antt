@@ -13,17 +13,18 @@ use Rattle.log.specs.declared.TxId.{TxId}
 use Rattle.transaction.specs.declared.ranges.Ranges.{Ranges}
 use Rattle.transaction.specs.Lists.{sumOf}
 use Rattle.transaction.specs.View.{Range, rangeAt, rangesOf}
-use Rattle.transaction.specs.Rules.{recordsOk, heldAgainst, rangesSize, roomOf}
+use Rattle.transaction.specs.Rules.{recordsOk, reading, writing, heldAgainst, rangesSize, roomOf}
 use Rattle.transaction.proofs.Lists.{length-up}
 use Rattle.transaction.proofs.RangeLaws.{counted}
+use Rattle.transaction.proofs.StateRule.{few-reads}
 use Rattle.image.proofs.Rules.{image-count, undo-at}
 use Rattle.store.specs.declared.State.{State}
 use Rattle.store.specs.State.{txsOf, slotOf, imageOf}
 use Rattle.store.specs.Rules.{tailLength, roomUsed}
-use Rattle.store.specs.Numbers.{Check, firstNumber, numberBy, txOf, check8, check9, check10, check12, check13, beginChecks, rangeChecks, abortChecks, settleChecks}
-use Rattle.store.specs.Calls.{beginNumber, writeNumber, readNumber, precommitNumber, abortNumber, settleNumber}
+use Rattle.store.specs.Numbers.{Check, firstNumber, numberBy, txOf, check8, check9, check10, check12, check13, check15, beginChecks, rangeChecks, abortChecks, settleChecks}
+use Rattle.store.specs.Calls.{beginNumber, writeNumber, readNumber, answerNumber, precommitNumber, abortNumber, settleNumber}
 use Rattle.store.proofs.Checks.{passed}
-use Rattle.store.proofs.Fits.{Fit, status-at, redo-at, room-at}
+use Rattle.store.proofs.Fits.{Fit, rule-at, status-at, redo-at, room-at}
 use Rattle.store.proofs.Admitting.{unrefused}
 use Rattle.store.proofs.Choosing.{listed-by-6, Ranged, ranged-by-8}
 use Rattle.store.proofs.Stepping.{same-or-other}
@@ -56,13 +57,18 @@ pub record RunningPassed (s : State) (m t : List ℕ) (id : ℕ) : Type 0 where
 pub record ReadPassed (s : State) (m t : List ℕ) (id a n : ℕ) : Type 0 where
   pub runs : RunningPassed s m t id
   pub range : Ranged a n
-  pub free : any (heldAgainst id a n) (txsOf s) ≡ false
+  pub free : any (heldAgainst reading id a n) (txsOf s) ≡ false
+
+-- these and 15: read's sister
+pub record AnswerPassed (s : State) (m t : List ℕ) (id a n : ℕ) : Type 0 where
+  pub read : ReadPassed s m t id a n
+  pub reads : txOf s id .extras .reads .count < 16
 
 -- these, 8, 9, 10 and 13
 pub record WritePassed (s : State) (m t : List ℕ) (id a n : ℕ) : Type 0 where
   pub runs : RunningPassed s m t id
   pub range : Ranged a n
-  pub free : any (heldAgainst id a n) (txsOf s) ≡ false
+  pub free : any (heldAgainst writing id a n) (txsOf s) ≡ false
   pub undo : txOf s id .undo .ranges .count < 16
   pub redo : txOf s id .redo .ranges .count < 16
   pub room : roomUsed s t + (7 + n) ≤ 16384
@@ -144,14 +150,27 @@ module _ (s : State) (m t : List ℕ) where
 
       pub read-passed : readNumber s m t id a n ≡ 0 → ReadPassed s m t (id .0) a n
       read-passed e =
-          let cs = check9 s (id .0) a n ∷ [] in
+          let cs = check9 s reading (id .0) a n ∷ [] in
           let p = range-passed cs e in
           record { runs = p .0; range = p .1; free = passed cs [] refl (p .2) .0 .0 }
+
+      pub answer-passed : answerNumber s m t id a n ≡ 0 → AnswerPassed s m t (id .0) a n
+      answer-passed e =
+          let x = txOf s (id .0) in
+          let cs = check9 s reading (id .0) a n ∷ check15 s (id .0) ∷ [] in
+          let p = range-passed cs e in
+          let r = p .0 in
+          let q = passed cs [] refl (p .2) .0 in
+          record {
+            read = record { runs = r; range = p .1; free = q .0 };
+            reads =
+                omega (arith, few-reads x (rule-at s t (r .fits) (slotOf s (id .0)) (r .listed)), eqb-false (x .extras .reads .count) 16 (q .1 .0));
+          }
 
       pub write-passed : writeNumber s m t id a n ≡ 0 → WritePassed s m t (id .0) a n
       write-passed e =
           let x = txOf s (id .0) in
-          let cs = check9 s (id .0) a n ∷ check10 s (id .0) ∷ check13 (roomUsed s t) n ∷ [] in
+          let cs = check9 s writing (id .0) a n ∷ check10 s (id .0) ∷ check13 (roomUsed s t) n ∷ [] in
           let p = range-passed cs e in
           let r = p .0 in
           let q = passed cs [] refl (p .2) .0 in

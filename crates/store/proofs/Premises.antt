@@ -14,8 +14,9 @@ use Rattle.log.specs.Flat.{writeAt}
 use Rattle.transaction.specs.declared.records.Records.{Records}
 use Rattle.transaction.specs.Lists.{upFrom, sumOf}
 use Rattle.transaction.specs.View.{rangeAt, rangesOf, writesOf}
-use Rattle.transaction.specs.Rules.{recordsOk, stateOk, meets, heldAgainst, roomOf}
-use Rattle.transaction.proofs.Lists.{every-at, any-same}
+use Rattle.transaction.specs.Rules.{recordsOk, stateOk, meets, reading, writing, heldAgainst, roomOf}
+use Rattle.transaction.proofs.Lists.{every-at, any-same, any-weaker}
+use Rattle.transaction.proofs.Held.{free-read}
 use Rattle.transaction.proofs.RangeLaws.{counted, ranged}
 use Rattle.transaction.proofs.Writes.{writes-up, bytes-length, sized}
 use Rattle.transaction.proofs.Pushed.{Sized}
@@ -51,19 +52,25 @@ module _ (s : State) (m t : List ℕ) (z : SizedState s) (f : Fit s t) where
       go false e = eq-eqb (txAt s i .status) 1 (status-at s t f i h (eqb-false (txAt s i .status) 2 e))
 
   held-at : (id a : ℕ) (bs : List ℕ) (i : ℕ) → i < s .count
-      → heldAgainst id a (length bs) (txAt s i)
+      → heldAgainst reading id a (length bs) (txAt s i)
       ≡ (not (eqb id (viewAt s i .id)) && (not (viewAt s i .committing) && any (λ u. overlap u (record { addr = a; bytes = bs })) (viewAt s i .undo)))
   unfolding heldAgainst
   held-at id a bs i h =
       ap₂ (λ (x y : Bool). not (eqb id (txAt s i .id .0)) && (x && y)) (status i h)
       (over (txAt s i .undo) a bs (z .each i h .undos) (undo-at (imageOf s) (f .image) i h))
 
-  -- number 9
-  pub held-view : (id a : ℕ) (bs : List ℕ) → any (heldAgainst id a (length bs)) (txsOf s) ≡ heldByOther id (record { addr = a; bytes = bs }) (live s m t .txs)
+  -- number 9 of a read
+  pub held-view : (id a : ℕ) (bs : List ℕ) → any (heldAgainst reading id a (length bs)) (txsOf s) ≡ heldByOther id (record { addr = a; bytes = bs }) (live s m t .txs)
   held-view id a bs =
-      any-same (heldAgainst id a (length bs))
+      any-same (heldAgainst reading id a (length bs))
       (λ x. not (eqb id (x .id)) && (not (x .committing) && any (λ u. overlap u (record { addr = a; bytes = bs })) (x .undo))) (txAt s) (viewAt s) (s .count) 0
       (λ i p q. held-at id a bs i (omega arith))
+
+  -- what is free to write is free to read: recovery knows no holds of reads
+  pub free-view : (id a : ℕ) (bs : List ℕ) → any (heldAgainst writing id a (length bs)) (txsOf s) ≡ false
+      → heldByOther id (record { addr = a; bytes = bs }) (live s m t .txs) ≡ false
+  free-view id a bs e = sym (held-view id a bs) ∙ any-weaker (heldAgainst reading id a (length bs)) (heldAgainst writing id a (length bs)) (txsOf s)
+      (λ x q. free-read x a (length bs) id q) e
 
   reserved-at : (i : ℕ) → i < s .count → (ts : List Transaction) → roomOf (txAt s i) + reserved (running ts) ≡ reserved (running (viewAt s i ∷ ts))
   reserved-at i h ts = go (eqb (txAt s i .status) 2) refl

@@ -5,12 +5,12 @@ use mathlib.Core.List.{List, [], _∷_}
 use mathlib.Core.Path.{_≡_, refl, sym, ap, ap₂, _∙_, subst}
 use lib.Dec.{eqb, ltb}
 use Rattle.recovery.specs.Lists.{any}
-use Rattle.transaction.specs.Rules.{heldAgainst}
+use Rattle.transaction.specs.Rules.{reading, writing, heldAgainst}
 use Rattle.store.specs.declared.State.{State}
 use Rattle.store.specs.State.{txAt, txsOf, hasId, slotOf}
 use Rattle.store.specs.Rules.{roomUsed}
-use Rattle.store.specs.Numbers.{Check, firstNumber, numberBy, txOf, check6, check7, check8, check9, check10, check12, check13, check14}
-use Rattle.store.specs.Numbers.{beginChecks, readChecks, writeChecks, precommitChecks, abortChecks, settleChecks}
+use Rattle.store.specs.Numbers.{Check, firstNumber, numberBy, txOf, check6, check7, check8, check9, check10, check12, check13, check14, check15}
+use Rattle.store.specs.Numbers.{beginChecks, readChecks, answerChecks, writeChecks, precommitChecks, abortChecks, settleChecks}
 use Rattle.store.proofs.Slots.{slot-within}
 use Rattle.store.proofs.Sameness.{AlikeTx, Alike, room-alike, number-alike, ids, slots, helds}
 
@@ -63,19 +63,27 @@ module _ (s r : State) (h : Alike s r) where
 
       pub read-first : firstNumber (readChecks s id a n) ≡ firstNumber (readChecks r id a n)
       read-first =
-          listed-alike id (check7 s id ∷ check8 a n ∷ check9 s id a n ∷ []) (check7 r id ∷ check8 a n ∷ check9 r id a n ∷ [])
-          (λ e. ap₂ (λ (k : ℕ) (b : Bool). upTo9 k b 0) (named id e .status) (helds s r h id a n))
+          listed-alike id (check7 s id ∷ check8 a n ∷ check9 s reading id a n ∷ []) (check7 r id ∷ check8 a n ∷ check9 r reading id a n ∷ [])
+          (λ e. ap₂ (λ (k : ℕ) (b : Bool). upTo9 k b 0) (named id e .status) (helds s r h reading id a n))
+
+      pub answer-first : firstNumber (answerChecks s id a n) ≡ firstNumber (answerChecks r id a n)
+      answer-first =
+          listed-alike id (check7 s id ∷ check8 a n ∷ check9 s reading id a n ∷ check15 s id ∷ [])
+          (check7 r id ∷ check8 a n ∷ check9 r reading id a n ∷ check15 r id ∷ [])
+          (λ e.
+          ap₂ (λ (k : ℕ) (b : Bool). upTo9 k b (cond (eqb (txOf s id .extras .reads .count) 16) 15 0)) (named id e .status) (helds s r h reading id a n)
+          ∙ ap (λ (c : ℕ). upTo9 (txOf r id .status) (any (heldAgainst reading id a n) (txsOf r)) (cond (eqb c 16) 15 0)) (named id e .reads .count))
 
       abbrev last : ℕ → ℕ → ℕ
       last records room = cond (eqb records 16) 10 (cond (ltb 16384 (room + (7 + n))) 13 0)
 
       pub write-first : (x y : ℕ) → x ≡ y → firstNumber (writeChecks s x id a n) ≡ firstNumber (writeChecks r y id a n)
       write-first x y q =
-          listed-alike id (check7 s id ∷ check8 a n ∷ check9 s id a n ∷ check10 s id ∷ check13 x n ∷ [])
-          (check7 r id ∷ check8 a n ∷ check9 r id a n ∷ check10 r id ∷ check13 y n ∷ [])
+          listed-alike id (check7 s id ∷ check8 a n ∷ check9 s writing id a n ∷ check10 s id ∷ check13 x n ∷ [])
+          (check7 r id ∷ check8 a n ∷ check9 r writing id a n ∷ check10 r id ∷ check13 y n ∷ [])
           (λ e.
-          ap₂ (λ (k : ℕ) (b : Bool). upTo9 k b (last (txOf s id .undo .ranges .count) x)) (named id e .status) (helds s r h id a n)
-          ∙ ap₂ (λ (c m : ℕ). upTo9 (txOf r id .status) (any (heldAgainst id a n) (txsOf r)) (last c m)) (named id e .undo .count) q)
+          ap₂ (λ (k : ℕ) (b : Bool). upTo9 k b (last (txOf s id .undo .ranges .count) x)) (named id e .status) (helds s r h writing id a n)
+          ∙ ap₂ (λ (c m : ℕ). upTo9 (txOf r id .status) (any (heldAgainst writing id a n) (txsOf r)) (last c m)) (named id e .undo .count) q)
 
   -- ---- the numbers of these calls
 
@@ -91,6 +99,9 @@ module _ (s r : State) (h : Alike s r) where
 
     pub read-alike : (a n : ℕ) → numberBy s lent t (readChecks s id a n) ≡ numberBy r lent t (readChecks r id a n)
     read-alike a n = number-alike s r h lent t (readChecks s id a n) (readChecks r id a n) (read-first id a n)
+
+    pub answer-alike : (a n : ℕ) → numberBy s lent t (answerChecks s id a n) ≡ numberBy r lent t (answerChecks r id a n)
+    answer-alike a n = number-alike s r h lent t (answerChecks s id a n) (answerChecks r id a n) (answer-first id a n)
 
     pub write-alike : (a n : ℕ) → numberBy s lent t (writeChecks s (roomUsed s t) id a n) ≡ numberBy r lent t (writeChecks r (roomUsed r t) id a n)
     write-alike a n =

@@ -11,21 +11,23 @@ use Rattle.recovery.specs.Group.{Write, Group, committed, aborted}
 use Rattle.recovery.specs.Replay.{undoAll, layBytes}
 use Rattle.log.specs.declared.TxId.{TxId}
 use Rattle.log.specs.Group.{encodeGroup}
+use Rattle.transaction.specs.View.{Range, usedBy}
+use Rattle.transaction.specs.Rules.{covered}
 use Rattle.store.specs.declared.State.{State}
 use Rattle.store.specs.State.{txAt, slotOf}
 use Rattle.store.specs.Numbers.{txOf}
 use Rattle.store.specs.Answer.{done, Told, tells}
 use Rattle.store.specs.Rules.{tailLength}
-use Rattle.store.specs.Steps.{begunState, writtenState, precommittedState, droppedState}
-use Rattle.store.specs.Calls.{Outcome, decided, refusing, beginNumber, beginOf, writeNumber, writeOf, readNumber, readOf, readAnswerOf}
-use Rattle.store.specs.Calls.{appended, precommitNumber, precommitOf, abortNumber, abortOf, settleNumber, settleOf}
+use Rattle.store.specs.Steps.{begunState, writtenState, readState, precommittedState, droppedState}
+use Rattle.store.specs.Calls.{Outcome, decided, refusing, beginNumber, beginOf, writeNumber, writeOf, readNumber, readOf}
+use Rattle.store.specs.Calls.{answerNumber, readAnswerOf, appended, precommitNumber, precommitOf, abortNumber, abortOf, settleNumber, settleOf}
 use Rattle.store.specs.Same.{SameTx, ShowsSame, SameTold, SameOutcome}
-use Rattle.store.proofs.Passing.{begin-passed, write-passed, precommit-passed, abort-passed, settle-passed}
+use Rattle.store.proofs.Passing.{begin-passed, write-passed, read-passed, answer-passed, precommit-passed, abort-passed, settle-passed}
 use Rattle.store.proofs.Views.{commitOf}
 use Rattle.store.proofs.Stepping.{SizedState}
-use Rattle.store.proofs.Sameness.{shown, slots}
-use Rattle.store.proofs.SameNumbers.{begin-alike, write-alike, read-alike, precommit-alike, abort-alike, settle-alike}
-use Rattle.store.proofs.SameSteps.{begin-shows, write-shows, precommit-shows, drop-shows}
+use Rattle.store.proofs.Sameness.{shown-tx, shown, used-same, slots}
+use Rattle.store.proofs.SameNumbers.{begin-alike, write-alike, read-alike, answer-alike, precommit-alike, abort-alike, settle-alike}
+use Rattle.store.proofs.SameSteps.{begin-shows, write-shows, read-shows, precommit-shows, drop-shows}
 
 -- ---- from the number to the outcome
 
@@ -64,17 +66,20 @@ module _ (s r : State) (h : ShowsSame s r) where
   appended-same : (t : List ℕ) (x y : Group) → x ≡ y → appended s t x ≡ appended r t y
   appended-same t x y e = ap₂ (λ (n : ℕ) (g : Group). sets t (tailLength n t) (encodeGroup g)) (h .ondisk) e
 
-  -- ---- read and its sister
+  -- ---- read
 
   module _ (m t : List ℕ) (id : TxId) (a n : ℕ) where
+    -- done, both are covered or neither
+    cover-same : readNumber s m t id a n ≡ 0 → covered (usedBy (txOf s (id .0))) a n ≡ covered (usedBy (txOf r (id .0))) a n
+    cover-same e =
+        let l = read-passed s m t id a n e .runs .listed in
+        ap (λ (rs : List Range). covered rs a n) (used-same (txOf s (id .0)) (txOf r (id .0)) (shown-tx (txOf s (id .0)) (txOf r (id .0)) (named s r h (id .0) l)))
+
     pub read-part-same : readOf s m t id a n ≡ readOf r m t id a n
     unfolding readOf
-    read-part-same = ap (λ (k : ℕ). decided k (take n (drop a m)) []) (read-alike s r (shown s r h) (length m) t (id .0) a n)
-
-    pub read-answer-same : SameTold (readAnswerOf s m t id a n) (readAnswerOf r m t id a n)
-    unfolding readAnswerOf
-    read-answer-same =
-        told-same (readNumber s m t id a n) (readNumber r m t id a n) (read-alike s r (shown s r h) (length m) t (id .0) a n) (λ e. done-same refl h)
+    read-part-same =
+        decided-same (λ (x y : List ℕ). x ≡ y) _ _ (λ i. []) (λ i. []) (readNumber s m t id a n) (readNumber r m t id a n)
+        (read-alike s r (shown s r h) (length m) t (id .0) a n) (λ e. ap (λ (b : Bool). cond b (take n (drop a m)) []) (cover-same e)) (λ i. refl)
 
   module _ (z : SizedState s) (y : SizedState r) (m t : List ℕ) where
     -- ---- begin
@@ -117,6 +122,21 @@ module _ (s r : State) (h : ShowsSame s r) where
         write-same =
             outcome-same m t (writeNumber s m t id a (length bs)) (writeNumber r m t id a (length bs)) (write-alike s r (shown s r h) (length m) t (id .0) a (length bs))
             (λ e. record { result = done-same refl (wrote e); memory = refl; tail = refl })
+
+      -- ---- read's sister
+
+      module _ (a n : ℕ) where
+        held : answerNumber s m t id a n ≡ 0 → ShowsSame (readState s j a n) (readState r k a n)
+        held e =
+            let p = answer-passed s m t id a n e in
+            let u = p .read .runs in
+            at-slot (readState s j a n) (λ i. readState r i a n) (read-shows s r h z y j (u .listed) (u .few) (p .reads) a n)
+
+        pub read-answer-same : SameTold (readAnswerOf s m t id a n) (readAnswerOf r m t id a n)
+        unfolding readAnswerOf
+        read-answer-same =
+            told-same (answerNumber s m t id a n) (answerNumber r m t id a n) (answer-alike s r (shown s r h) (length m) t (id .0) a n)
+            (λ e. done-same refl (held e))
 
       -- ---- precommit
 

@@ -9,21 +9,22 @@ use lib.ListN.{length, take, drop, length-take}
 use Rattle.recovery.specs.Group.{Write}
 use Rattle.log.specs.declared.TxId.{TxId}
 use Rattle.log.specs.declared.Csn.{Csn}
+use Rattle.transaction.specs.declared.ranges.Ranges.{Ranges}
 use Rattle.transaction.specs.declared.records.Records.{Records}
 use Rattle.transaction.specs.declared.Tx.{Tx}
 use Rattle.transaction.specs.Flat.{emptyRecords}
 use Rattle.transaction.specs.View.{Range, range, rangesOf}
 use Rattle.transaction.specs.Rules.{recordsOk}
-use Rattle.transaction.specs.Steps.{pushed, freshTx, written, precommitted}
+use Rattle.transaction.specs.Steps.{pushedRange, pushed, freshTx, written, withRead, precommitted}
 use Rattle.transaction.proofs.RangeLaws.{ranged}
-use Rattle.transaction.proofs.Pushed.{Sized, pushed-ranges, pushed-writes}
+use Rattle.transaction.proofs.Pushed.{Sized, SizedRanges, ranges-pushed, pushed-ranges, pushed-writes}
 use Rattle.image.specs.Slots.{slotAt}
 use Rattle.store.specs.declared.State.{State}
 use Rattle.store.specs.State.{txAt, withTxs}
-use Rattle.store.specs.Steps.{begunState, writtenState, precommittedState, droppedState}
-use Rattle.store.specs.Same.{SameRecords, SameTx, ShowsSame}
+use Rattle.store.specs.Steps.{begunState, writtenState, readState, precommittedState, droppedState}
+use Rattle.store.specs.Same.{SameRanges, SameRecords, SameTx, ShowsSame}
 use Rattle.store.proofs.Positions.{Changed}
-use Rattle.store.proofs.Stepping.{SizedTx, SizedState, same-or-other, begun-slot, written-slot, precommitted-slot, dropped-slot}
+use Rattle.store.proofs.Stepping.{SizedTx, SizedState, same-or-other, begun-slot, written-slot, read-slot, precommitted-slot, dropped-slot}
 
 -- ---- one transaction
 
@@ -31,13 +32,20 @@ fresh-same : (n m : ℕ) → n ≡ m → SameTx (freshTx (record { 0 = n + 1 }))
 unfolding freshTx emptyRecords
 fresh-same n m e =
     let none : SameRecords emptyRecords emptyRecords = record { count = refl; ranges = refl; writes = refl } in
-    record { id = ap (λ (k : ℕ). k + 1) e; status = refl; csn = refl; undo = none; redo = λ q. none }
+    record { id = ap (λ (k : ℕ). k + 1) e; status = refl; csn = refl; undo = none; redo = λ q. none; reads = record { count = refl; ranges = refl } }
 
 precommitted-same : (t u : Tx) → SameTx t u → (n m : ℕ) → n ≡ m
     → SameTx (precommitted t (record { 0 = n + 1 })) (precommitted u (record { 0 = m + 1 }))
 unfolding precommitted
 precommitted-same t u h n m e =
-    record { id = h .id; status = refl; csn = ap (λ (k : ℕ). k + 1) e; undo = h .undo; redo = λ q. absurd (omega (arith, q)) }
+    record {
+      id = h .id;
+      status = refl;
+      csn = ap (λ (k : ℕ). k + 1) e;
+      undo = h .undo;
+      redo = λ q. absurd (omega (arith, q));
+      reads = record { count = refl; ranges = refl };
+    }
 
 -- records that keep their rules, with room for one more
 pub record Open (r : Records) : Type 0 where
@@ -75,6 +83,29 @@ written-same t u h z y undo redo a old new lo ln =
       csn = h .csn;
       undo = pushed-same (t .undo) (u .undo) (h .undo) (z .undos) (y .undos) undo a old lo;
       redo = λ e. pushed-same (t .redo) (u .redo) (h .redo e) (z .redos) (y .redos) redo a new ln;
+      reads = h .reads;
+    }
+
+range-same : (r q : Ranges) → SameRanges r q → SizedRanges r → SizedRanges q → r .count < 16 → (a n : ℕ) → SameRanges (pushedRange r a n) (pushedRange q a n)
+range-same r q h z y few a n =
+    record {
+      count = ap (λ (k : ℕ). k + 1) (h .count);
+      ranges =
+          ranges-pushed r a n z few
+          ∙ ap (λ (rs : List Range). rs ++ (range a n ∷ [])) (h .ranges)
+          ∙ sym (ranges-pushed q a n y (omega (arith, few, h .count)));
+    }
+
+read-same : (t u : Tx) → SameTx t u → SizedTx t → SizedTx u → t .extras .reads .count < 16 → (a n : ℕ) → SameTx (withRead t a n) (withRead u a n)
+unfolding withRead
+read-same t u h z y few a n =
+    record {
+      id = h .id;
+      status = h .status;
+      csn = h .csn;
+      undo = h .undo;
+      redo = h .redo;
+      reads = range-same (t .extras .reads) (u .extras .reads) (h .reads) (z .reads) (y .reads) few a n;
     }
 
 -- ---- the slots
@@ -122,6 +153,13 @@ module _ (s r : State) (h : ShowsSame s r) where
           with-same (h .assigned) (h .lastid) (h .count)
           (changed-same j j (s .count) (written-slot s z j l few m a bs) (written-slot r y j there fewer m a bs) refl
           (written-same (txAt s j) (txAt r j) (h .listed j l) (z .each j l) (y .each j there) undo redo a old bs lo short) (λ i q. h .listed i))
+
+      pub read-shows : txAt s j .extras .reads .count < 16 → (a n : ℕ) → ShowsSame (readState s j a n) (readState r j a n)
+      unfolding readState
+      read-shows few16 a n =
+          with-same (h .assigned) (h .lastid) (h .count)
+          (changed-same j j (s .count) (read-slot s z j l few a n) (read-slot r y j there fewer a n) refl
+          (read-same (txAt s j) (txAt r j) (h .listed j l) (z .each j l) (y .each j there) few16 a n) (λ i q. h .listed i))
 
       pub precommit-shows : ShowsSame (precommittedState s j) (precommittedState r j)
       unfolding precommittedState

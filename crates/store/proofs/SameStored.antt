@@ -42,7 +42,14 @@ shows-self s =
       lastid = refl;
       count = refl;
       listed = λ i b.
-          record { id = refl; status = refl; csn = refl; undo = self-records (txAt s i .undo); redo = λ e. self-records (txAt s i .redo) };
+          record {
+            id = refl;
+            status = refl;
+            csn = refl;
+            undo = self-records (txAt s i .undo);
+            redo = λ e. self-records (txAt s i .redo);
+            reads = record { count = refl; ranges = refl };
+          };
     }
 
 record SamePlan (p q : Plan) : Type 0 where
@@ -171,7 +178,7 @@ answered-alike s r h z y =
       begin = begin-same s r h z y;
       write = write-same s r h z y;
       read = read-part-same s r h;
-      readAnswer = read-answer-same s r h;
+      readAnswer = read-answer-same s r h z y;
       precommit = precommit-same s r h z y;
       abort = abort-same s r h z y;
       settle = settle-same s r h z y;

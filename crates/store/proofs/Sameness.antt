@@ -3,17 +3,16 @@
 use Prim.Native.Nat.{ℕ, zero, suc, _+_, _≤_, _<_}
 use native.Mathlib.Omega.{arith}
 use mathlib.Core.Bool.{Bool, true, false, cond, not, _&&_, _||_}
-use mathlib.Core.List.{List, [], _∷_}
+use mathlib.Core.List.{List, [], _∷_, _++_}
 use mathlib.Core.Path.{_≡_, refl, ap, ap₂, _∙_}
 use lib.ListN.{length}
 use lib.Dec.{eqb, ltb}
 use borrow.Author.Tests.{eqb-true}
 use Rattle.recovery.specs.Lists.{any}
-use Rattle.transaction.specs.declared.ranges.Ranges.{Ranges}
 use Rattle.transaction.specs.declared.Tx.{Tx}
 use Rattle.transaction.specs.Lists.{upFrom, every, sumOf}
-use Rattle.transaction.specs.View.{Range, rangesOf, Outline, outline, outlineOf}
-use Rattle.transaction.specs.Rules.{stateOk, meets, heldAgainst, rangesSize, roomOf}
+use Rattle.transaction.specs.View.{Range, rangesOf, usedBy, Outline, outline, outlineOf}
+use Rattle.transaction.specs.Rules.{stateOk, meets, heldFrom, heldAgainst, rangesSize, roomOf}
 use Rattle.transaction.proofs.Lists.{up-same, any-same, every-same, sum-same}
 use Rattle.transaction.proofs.StateRule.{state-same}
 use Rattle.image.specs.Rules.{imageOk}
@@ -23,18 +22,15 @@ use Rattle.store.specs.Rules.{keepsImageRules, tailLength, tailOk, roomU
 use Rattle.store.specs.declared.admit.Admission.{Admission}
 use Rattle.store.specs.Numbers.{Check, check, firstNumber, numberBy}
 use Rattle.store.specs.Admission.{notAdmitted, refusal, admission, diskAdmission, choice}
-use Rattle.store.specs.Same.{SameTx, ShowsSame}
-
-pub record AlikeRanges (r q : Ranges) : Type 0 where
-  pub count : r .count ≡ q .count
-  pub ranges : rangesOf r ≡ rangesOf q
+use Rattle.store.specs.Same.{SameRanges, SameTx, ShowsSame}
 
 pub record AlikeTx (t u : Tx) : Type 0 where
   pub id : t .id .0 ≡ u .id .0
   pub status : t .status ≡ u .status
   pub csn : t .csn .0 ≡ u .csn .0
-  pub undo : AlikeRanges (t .undo .ranges) (u .undo .ranges)
-  pub redo : t .status ≡ 1 → AlikeRanges (t .redo .ranges) (u .redo .ranges)
+  pub undo : SameRanges (t .undo .ranges) (u .undo .ranges)
+  pub redo : t .status ≡ 1 → SameRanges (t .redo .ranges) (u .redo .ranges)
+  pub reads : SameRanges (t .extras .reads) (u .extras .reads)
 
 pub record Alike (s r : State) : Type 0 where
   pub recovered : s .recovered ≡ r .recovered
@@ -45,7 +41,7 @@ pub record Alike (s r : State) : Type 0 where
   pub count : s .count ≡ r .count
   pub listed : (i : ℕ) → i < s .count → AlikeTx (txAt s i) (txAt r i)
 
-shown-tx : (t u : Tx) → SameTx t u → AlikeTx t u
+pub shown-tx : (t u : Tx) → SameTx t u → AlikeTx t u
 shown-tx t u h =
     record {
       id = h .id;
@@ -53,6 +49,7 @@ shown-tx t u h =
       csn = h .csn;
       undo = record { count = h .undo .count; ranges = h .undo .ranges };
       redo = λ e. record { count = h .redo e .count; ranges = h .redo e .ranges };
+      reads = h .reads;
     }
 
 pub shown : (s r : State) → ShowsSame s r → Alike s r
@@ -85,13 +82,20 @@ module _ (t u : Tx) (h : AlikeTx t u) where
       go false e = refl
 
   rule-same : stateOk t ≡ stateOk u
-  rule-same = state-same t u (h .status) (h .undo .ranges) (λ e. h .redo e .ranges)
+  rule-same = state-same t u (h .status) (h .undo .ranges) (λ e. h .redo e .ranges) (h .reads .count) (h .reads .ranges)
 
-  held-same : (id a n : ℕ) → heldAgainst id a n t ≡ heldAgainst id a n u
+  pub used-same : usedBy t ≡ usedBy u
+  used-same = ap₂ (λ (rs qs : List Range). rs ++ qs) (h .undo .ranges) (h .reads .ranges)
+
+  from-same : (w : Bool) → heldFrom w t ≡ heldFrom w u
+  from-same false = h .undo .ranges
+  from-same true = used-same
+
+  held-same : (w : Bool) (id a n : ℕ) → heldAgainst w id a n t ≡ heldAgainst w id a n u
   unfolding heldAgainst
-  held-same id a n =
-      ap (λ (i : ℕ). not (eqb id i) && (eqb (t .status) 1 && any (meets a n) (rangesOf (t .undo .ranges)))) (h .id)
-      ∙ ap₂ (λ (k : ℕ) (rs : List Range). not (eqb id (u .id .0)) && (eqb k 1 && any (meets a n) rs)) (h .status) (h .undo .ranges)
+  held-same w id a n =
+      ap (λ (i : ℕ). not (eqb id i) && (eqb (t .status) 1 && any (meets a n) (heldFrom w t))) (h .id)
+      ∙ ap₂ (λ (k : ℕ) (rs : List Range). not (eqb id (u .id .0)) && (eqb k 1 && any (meets a n) rs)) (h .status) (from-same w)
 
 -- ---- lists of them
 
@@ -112,16 +116,16 @@ module _ (s r : State) (h : Alike s r) where
       sum-same roomOf roomOf (txAt s) (txAt r) (s .count) 0 (λ i a b. room-same (txAt s i) (txAt r i) (h .listed i (omega arith)))
       ∙ ap (λ (k : ℕ). sumOf roomOf (upFrom (txAt r) k 0)) (h .count)
 
-  states : every stateOk (txsOf s) ≡ every stateOk (txsOf r)
-  states =
+  pub states-alike : every stateOk (txsOf s) ≡ every stateOk (txsOf r)
+  states-alike =
       every-same stateOk stateOk (txAt s) (txAt r) (s .count) 0 (λ i a b. rule-same (txAt s i) (txAt r i) (h .listed i (omega arith)))
       ∙ ap (λ (k : ℕ). every stateOk (upFrom (txAt r) k 0)) (h .count)
 
-  pub helds : (id a n : ℕ) → any (heldAgainst id a n) (txsOf s) ≡ any (heldAgainst id a n) (txsOf r)
-  helds id a n =
-      any-same (heldAgainst id a n) (heldAgainst id a n) (txAt s) (txAt r) (s .count) 0
-      (λ i x y. held-same (txAt s i) (txAt r i) (h .listed i (omega arith)) id a n)
-      ∙ ap (λ (k : ℕ). any (heldAgainst id a n) (upFrom (txAt r) k 0)) (h .count)
+  pub helds : (w : Bool) (id a n : ℕ) → any (heldAgainst w id a n) (txsOf s) ≡ any (heldAgainst w id a n) (txsOf r)
+  helds w id a n =
+      any-same (heldAgainst w id a n) (heldAgainst w id a n) (txAt s) (txAt r) (s .count) 0
+      (λ i x y. held-same (txAt s i) (txAt r i) (h .listed i (omega arith)) w id a n)
+      ∙ ap (λ (k : ℕ). any (heldAgainst w id a n) (upFrom (txAt r) k 0)) (h .count)
 
   pub ids : (id : ℕ) → any (hasId id) (txsOf s) ≡ any (hasId id) (txsOf r)
   ids id =
@@ -153,7 +157,7 @@ module _ (s r : State) (h : Alike s r) where
       let tails : tailOk (s .ondisk .0) (s .assigned .0) t ≡ tailOk (r .ondisk .0) (r .assigned .0) t =
       ap₂ (λ (d a : ℕ). tailOk d a t) (h .ondisk) (h .assigned) in
       ap₂ (λ (x y : Bool). after x y (roomUsed s t) (every stateOk (txsOf s)) (tailOk (s .ondisk .0) (s .assigned .0) t)) (h .recovered) rules-alike
-      ∙ ap₂ (λ (n : ℕ) (z : Bool). after (r .recovered) (keepsImageRules r) n z (tailOk (s .ondisk .0) (s .assigned .0) t)) (room-alike t) states
+      ∙ ap₂ (λ (n : ℕ) (z : Bool). after (r .recovered) (keepsImageRules r) n z (tailOk (s .ondisk .0) (s .assigned .0) t)) (room-alike t) states-alike
       ∙ ap (after (r .recovered) (keepsImageRules r) (roomUsed r t) (every stateOk (txsOf r))) tails
 
   pub number-alike : (lent : ℕ) (t : List ℕ) (cs ds : List Check) → firstNumber cs ≡ firstNumber ds → numberBy s lent t cs ≡ numberBy r lent t ds

@@ -11,16 +11,17 @@ use lib.Dec.{eqb}
 use borrow.Author.Tests.{eqb-true, eqb-false}
 use Rattle.transaction.specs.declared.Tx.{Tx}
 use Rattle.transaction.specs.Flat.{emptyTx, noTx}
-use Rattle.transaction.specs.Steps.{freshTx, written, precommitted}
-use Rattle.transaction.proofs.Pushed.{Sized, empty-sized, push-sized}
+use Rattle.transaction.specs.Steps.{freshTx, written, withRead, precommitted}
+use Rattle.transaction.proofs.Pushed.{Sized, SizedRanges, empty-sized, push-sized, none-sized, range-sized}
 use Rattle.store.specs.declared.State.{State}
 use Rattle.store.specs.State.{txAt}
-use Rattle.store.specs.Steps.{begunState, writtenState, precommittedState, without, droppedState}
+use Rattle.store.specs.Steps.{begunState, writtenState, readState, precommittedState, without, droppedState}
 use Rattle.store.proofs.Positions.{Changed, Dropped}
 
 pub record SizedTx (t : Tx) : Type 0 where
   pub undos : Sized (t .undo)
   pub redos : Sized (t .redo)
+  pub reads : SizedRanges (t .extras .reads)
 
 pub record SizedState (s : State) : Type 0 where
   pub slots : length (s .txs) ≡ 8
@@ -62,7 +63,7 @@ module _ (s : State) (z : SizedState s) where
   unfolding begunState freshTx
   begun-sized h =
       set-sized s (begunState s) (s .count) (freshTx (record { 0 = s .lastid .0 + 1 })) refl (omega (arith, z .slots)) z
-      (record { undos = empty-sized; redos = empty-sized }) (λ i l n. omega (arith, l, n))
+      (record { undos = empty-sized; redos = empty-sized; reads = none-sized }) (λ i l n. omega (arith, l, n))
 
   module _ (j : ℕ) (h : j < s .count) (few : s .count ≤ 8) where
     pub written-slot : (m : List ℕ) (a : ℕ) (bs : List ℕ)
@@ -79,7 +80,19 @@ module _ (s : State) (z : SizedState s) where
           undos = push-sized (t .undo) a (take (length bs) (drop a m)) (z .each j h .undos);
           redos = push-sized (t .redo) a bs
               (z .each j h .redos);
+          reads = z .each j h .reads;
         }) (λ i l n. l)
+
+    pub read-slot : (a n : ℕ) → Changed (txAt s) (txAt (readState s j a n)) j (withRead (txAt s j) a n)
+    unfolding readState
+    read-slot a n = set-slot s (readState s j a n) j (withRead (txAt s j) a n) refl (omega (arith, z .slots))
+
+    pub read-sized : (a n : ℕ) → SizedState (readState s j a n)
+    unfolding readState withRead
+    read-sized a n =
+        let y = z .each j h in
+        set-sized s (readState s j a n) j (withRead (txAt s j) a n) refl (omega (arith, z .slots)) z
+        (record { undos = y .undos; redos = y .redos; reads = range-sized (txAt s j .extras .reads) a n (y .reads) }) (λ i l k. l)
 
     pub precommitted-slot : Changed (txAt s) (txAt (precommittedState s j)) j (precommitted (txAt s j) (record { 0 = s .assigned .0 + 1 }))
     unfolding precommittedState
@@ -89,7 +102,7 @@ module _ (s : State) (z : SizedState s) where
     unfolding precommittedState precommitted
     precommitted-sized =
         set-sized s (precommittedState s j) j (precommitted (txAt s j) (record { 0 = s .assigned .0 + 1 })) refl (omega (arith, z .slots)) z
-        (record { undos = z .each j h .undos; redos = empty-sized }) (λ i l n. l)
+        (record { undos = z .each j h .undos; redos = empty-sized; reads = none-sized }) (λ i l n. l)
 
 -- ---- one slot taken out
 

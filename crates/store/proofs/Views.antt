@@ -26,7 +26,7 @@ use Rattle.transaction.specs.Lists.{upFrom}
 use Rattle.transaction.specs.Flat.{emptyRecords}
 use Rattle.transaction.specs.View.{rangesOf, writesOf, viewOf}
 use Rattle.transaction.specs.Rules.{recordsOk, rangesSize}
-use Rattle.transaction.specs.Steps.{freshTx, written, precommitted}
+use Rattle.transaction.specs.Steps.{freshTx, written, withRead, precommitted}
 use Rattle.transaction.proofs.Lists.{up-snoc, up-same}
 use Rattle.transaction.proofs.RangeLaws.{counted, ranged}
 use Rattle.transaction.proofs.Writes.{bytes-length, sized}
@@ -37,23 +37,27 @@ use Rattle.store.specs.Answer.{done, Told, tells}
 use Rattle.store.specs.State.{txAt, slotOf, imageOf}
 use Rattle.store.specs.Rules.{tailLength, allZero}
 use Rattle.store.specs.Numbers.{txOf}
-use Rattle.store.specs.Steps.{begunState, writtenState, precommittedState, droppedState}
-use Rattle.store.specs.Calls.{Outcome, beginNumber, beginOf, writeNumber, writeOf, refusing, readNumber, readAnswerOf}
+use Rattle.store.specs.Steps.{begunState, writtenState, readState, precommittedState, droppedState}
+use Rattle.store.specs.Calls.{Outcome, beginNumber, beginOf, writeNumber, writeOf, answerNumber, readAnswerOf}
 use Rattle.store.specs.Calls.{appended, precommitNumber, precommitOf, abortNumber, abortOf, settleNumber, settleOf}
 use Rattle.store.specs.View.{viewAt, live}
 use Rattle.store.proofs.Slots.{slot}
 use Rattle.store.proofs.Fits.{Fit}
-use Rattle.store.proofs.Passing.{RunningPassed, begin-passed, write-passed, precommit-passed, abort-passed, settle-passed}
-use Rattle.store.proofs.Calling.{begin-done, write-done, precommit-done, abort-done, settle-done}
+use Rattle.store.proofs.Passing.{RunningPassed, begin-passed, write-passed, answer-passed, precommit-passed, abort-passed, settle-passed}
+use Rattle.store.proofs.Calling.{begin-done, write-done, answer-done, precommit-done, abort-done, settle-done}
 use Rattle.store.proofs.Positions.{Changed, Dropped, First, found, edited, removed}
 use Rattle.store.proofs.Appending.{appended-log}
-use Rattle.store.proofs.Stepping.{SizedTx, SizedState, begun-slot, written-slot, precommitted-slot, dropped-slot}
+use Rattle.store.proofs.Stepping.{SizedTx, SizedState, same-or-other, begun-slot, written-slot, read-slot, precommitted-slot, dropped-slot}
 
 -- ---- one transaction
 
 fresh-view : (id : TxId) → viewOf (freshTx id) ≡ newTx (id .0)
 unfolding freshTx emptyRecords
 fresh-view id = refl
+
+read-view : (t : Tx) (a n : ℕ) → viewOf (withRead t a n) ≡ viewOf t
+unfolding withRead
+read-view t a n = refl
 
 precommitted-view : (t : Tx) (n : ℕ) → viewOf (precommitted t (record { 0 = n })) ≡ inCommit n (viewOf t)
 unfolding precommitted emptyRecords
@@ -140,6 +144,10 @@ written-numbers : (s : State) (m t : List ℕ) (j a : ℕ) (bs : List ℕ)
 unfolding writtenState
 written-numbers s m t j a bs = refl
 
+read-numbers : (s : State) (m t : List ℕ) (j a n : ℕ) → live (readState s j a n) m t ≡ with-txs s m t (upFrom (viewAt (readState s j a n)) (s .count) 0)
+unfolding readState
+read-numbers s m t j a n = refl
+
 precommitted-numbers : (s : State) (m t : List ℕ) (j : ℕ)
     → live (precommittedState s j) m t ≡ with-txs s m t (upFrom (viewAt (precommittedState s j)) (s .count) 0)
 unfolding precommittedState
@@ -203,14 +211,17 @@ module _ (s : State) (m t : List ℕ) (z : SizedState s) where
         (edited (viewAt s) (viewAt (writtenState s j m a bs)) (id .0) j g (s .count) 0 (first s (id .0) (r .listed)) d (omega (arith, r .listed))
         ∙ ap (λ (i : ℕ). edit i g (upFrom (viewAt s) (s .count) 0)) (sym (r .named)))
 
-    -- Read's sister gives the state back as it was, refused or not: a read leaves no hold behind.
-    pub read-same : (a n : ℕ) → readAnswerOf s m t id a n .state ≡ s
-    unfolding readAnswerOf
-    read-same a n = go (eqb (readNumber s m t id a n) 0)
-      where
-        go : (b : Bool) → cond b (tells done 0 0 s) (refusing (readNumber s m t id a n) s) .state ≡ s
-        go true = refl
-        go false = refl
+    -- Read's sister changes nothing that the view has: it knows no holds of reads.
+    pub answer-live : (a n : ℕ) → answerNumber s m t id a n ≡ 0 → live (readAnswerOf s m t id a n .state) m t ≡ live s m t
+    answer-live a n e =
+        let r = answer-passed s m t id a n e .read .runs in
+        let u = readState s j a n in
+        let c = view-changed s u j _ (read-slot s z j (r .listed) (r .few) a n) in
+        ap (λ (o : Told). live (o .state) m t) (answer-done s m t id a n e)
+        ∙ read-numbers s m t j a n
+        ∙ ap (with-txs s m t)
+        (up-same (viewAt u) (viewAt s) (s .count) 0
+        (λ i p q. same-or-other i j (λ x. ap (viewAt u) x ∙ c .here ∙ read-view (txAt s j) a n ∙ ap (viewAt s) (sym x)) (c .other i)))
 
     -- Precommit turns the redo list into the group at the tail's end, and marks the transaction committing.
     pub precommit-live : precommitNumber s m t id ≡ 0

@@ -22,12 +22,12 @@ use Rattle.store.specs.declared.State.{State}
 use Rattle.store.specs.State.{txAt, outlineAt, slotOf, imageOf}
 use Rattle.image.specs.Rules.{alikeTo}
 use Rattle.image.proofs.Rules.{image-logend, image-ordered, head-at}
-use Rattle.store.proofs.Fits.{Fit}
+use Rattle.store.proofs.Fits.{Fit, rule-at}
 use Rattle.store.proofs.Passing.{WritePassed}
 use Rattle.store.proofs.Positions.{sum-changed}
 use Rattle.store.proofs.Stepping.{SizedTx, SizedState, written-slot}
 use Rattle.store.specs.Steps.{writtenState}
-use Rattle.store.proofs.Changing.{image-kept, apart, state-right, changed-outlines, changed-states, changed-distinct}
+use Rattle.store.proofs.Changing.{image-kept, apart, changed-outlines, changed-states, changed-distinct}
 
 module _ (t : Tx) (a : ℕ) (old new : List ℕ) (z : SizedTx t) (cu : t .undo .ranges .count < 16) (cr : t .redo .ranges .count < 16) (l : length old ≡ length new) where
   written-outline : (last assigned : ℕ) → headOk last assigned (t .id .0) (t .status) (t .csn .0) ≡ true → recordsOk (rangesOf (t .undo .ranges)) ≡ true
@@ -83,6 +83,6 @@ written-fits s m t id a bs z w =
       room = omega (arith, sum, more, w .room);
       states =
           changed-states s t f r u j c (omega arith) (omega arith) same good
-          (written-state x a old bs (y .undos) (y .redos) (w .undo) (w .redo) l (state-right s t f j h));
+          (written-state x a old bs (y .undos) (y .redos) (w .undo) (w .redo) l (rule-at s t f j h));
       tail = f .tail;
     }

@@ -71,6 +71,6 @@ choice s x id cs = cond (eqb (numberAfter x cs) 0) (chosen s x id) (refusal (num
 unfoldable pub after : Choice → List Check → Choice
 after r cs = cond (eqb (r .number) 0) (cond (eqb (firstNumber cs) 0) r (refusal (firstNumber cs))) r
 
--- what deciding rests on: an admission that does not refuse has seen the image rules kept, and room used that lies within the log
+-- what deciding rests on: an admission that does not refuse has seen number 2's rules of the transactions kept, and room used that lies within the log
 abbrev pub Seen : Admission → State → Type 0
-Seen x s = x .number ≡ 0 → (keepsImageRules s ≡ true) × (x .room ≤ logLen)
+Seen x s = x .number ≡ 0 → (keepsImageRules s ≡ true) × (every stateOk (txsOf s) ≡ true) × (x .room ≤ logLen)

@@ -9,13 +9,14 @@ use Rattle.recovery.specs.Group.{Group, committed, aborted}
 use Rattle.recovery.specs.Replay.{undoAll, layBytes}
 use Rattle.log.specs.declared.TxId.{TxId}
 use Rattle.log.specs.Group.{encodeGroup}
-use Rattle.transaction.specs.View.{writesOf}
+use Rattle.transaction.specs.View.{usedBy, writesOf}
+use Rattle.transaction.specs.Rules.{covered}
 use Rattle.store.specs.declared.State.{State}
 use Rattle.store.specs.State.{slotOf}
 use Rattle.store.specs.Answer.{done, refused, Told, tells}
 use Rattle.store.specs.Rules.{tailLength, roomUsed}
-use Rattle.store.specs.Numbers.{txOf, numberBy, beginChecks, readChecks, writeChecks, precommitChecks, abortChecks, settleChecks}
-use Rattle.store.specs.Steps.{begunState, writtenState, precommittedState, droppedState}
+use Rattle.store.specs.Numbers.{txOf, numberBy, beginChecks, readChecks, answerChecks, writeChecks, precommitChecks, abortChecks, settleChecks}
+use Rattle.store.specs.Steps.{begunState, writtenState, readState, precommittedState, droppedState}
 
 pub record Outcome : Type 0 where
   pub result : Told
@@ -56,13 +57,19 @@ writeOf s m t id a bs =
 abbrev pub readNumber : State → List ℕ → List ℕ → TxId → ℕ → ℕ → ℕ
 readNumber s m t id a n = numberBy s (length m) t (readChecks s (id .0) a n)
 
--- "hands back the part of memory itself; a refused read hands back an empty part"
+-- "hands back the part of memory itself; a refused read hands back an empty part", and so does one of which a byte is not covered: "handed back just
+-- where nothing up to 9 refuses and each of its bytes lies in a range that the transaction has read or written" (document 02, A.2)
 unfoldable pub readOf : State → List ℕ → List ℕ → TxId → ℕ → ℕ → List ℕ
-readOf s m t id a n = decided (readNumber s m t id a n) (take n (drop a m)) []
+readOf s m t id a n = decided (readNumber s m t id a n) (cond (covered (usedBy (txOf s (id .0))) a n) (take n (drop a m)) []) []
 
--- "A sister call with the same arguments tells the number."
+abbrev pub answerNumber : State → List ℕ → List ℕ → TxId → ℕ → ℕ → ℕ
+answerNumber s m t id a n = numberBy s (length m) t (answerChecks s (id .0) a n)
+
+-- "A sister call with the same arguments tells the number"; it "takes the hold" (document 02, A.2)
 unfoldable pub readAnswerOf : State → List ℕ → List ℕ → TxId → ℕ → ℕ → Told
-readAnswerOf s m t id a n = decided (readNumber s m t id a n) (tells done 0 0 s) (refusing (readNumber s m t id a n) s)
+readAnswerOf s m t id a n =
+    let k = answerNumber s m t id a n in
+    decided k (tells done 0 0 (readState s (slotOf s (id .0)) a n)) (refusing k s)
 
 -- ---- precommit
 

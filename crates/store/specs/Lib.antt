@@ -12,3 +12,4 @@ pub mod Stored
 pub mod Flush
 pub mod Checkpoint
 pub mod Same
+pub mod Apart

@@ -7,7 +7,7 @@ use lib.Dec.{eqb, ltb}
 use Rattle.layout.specs.{memoryLen, tailLen, logLen, maxTxs, maxRecords, maxWrite, redoLen, commitLen, statusRunning, statusCommitting}
 use Rattle.recovery.specs.Lists.{any}
 use Rattle.transaction.specs.declared.Tx.{Tx}
-use Rattle.transaction.specs.Rules.{heldAgainst}
+use Rattle.transaction.specs.Rules.{reading, writing, heldAgainst}
 use Rattle.store.specs.declared.State.{State}
 use Rattle.store.specs.State.{txAt, txsOf, hasId, slotOf}
 use Rattle.store.specs.Rules.{unfit}
@@ -45,9 +45,10 @@ check7 s id = check 7 (eqb (txOf s id .status) statusCommitting)
 abbrev pub check8 : ℕ → ℕ → Check
 check8 a n = check 8 (eqb n 0 || ltb maxWrite n || ltb memoryLen (a + n))
 
--- "9. .. a byte of the range is held by another."
-abbrev pub check9 : State → ℕ → ℕ → ℕ → Check
-check9 s id a n = check 9 (any (heldAgainst id a n) (txsOf s))
+-- "9. .. a byte of the range is held by another", against reading or writing it: "Number 9 covers a write over a byte that another has read"
+-- (document 02, A.2)
+abbrev pub check9 : State → Bool → ℕ → ℕ → ℕ → Check
+check9 s wanted id a n = check 9 (any (heldAgainst wanted id a n) (txsOf s))
 
 -- "10. Write: it has 16 undo records."
 abbrev pub check10 : State → ℕ → Check
@@ -62,14 +63,22 @@ abbrev pub rangeChecks : State → ℕ → ℕ → ℕ → List Check
 rangeChecks s id a n = check6 s id ∷ check7 s id ∷ check8 a n ∷ []
 
 abbrev pub readChecks : State → ℕ → ℕ → ℕ → List Check
-readChecks s id a n = rangeChecks s id a n ++ (check9 s id a n ∷ [])
+readChecks s id a n = rangeChecks s id a n ++ (check9 s reading id a n ∷ [])
+
+-- "15, for a seventeenth read range, checked after 9 and only for the sister call" (document 02, A.2)
+abbrev pub check15 : State → ℕ → Check
+check15 s id = check 15 (eqb (txOf s id .extras .reads .count) maxRecords)
+
+-- read's sister
+abbrev pub answerChecks : State → ℕ → ℕ → ℕ → List Check
+answerChecks s id a n = readChecks s id a n ++ (check15 s id ∷ [])
 
 -- "13. .. Write: room used + 7 + length above it."
 abbrev pub check13 : ℕ → ℕ → Check
 check13 room n = check 13 (ltb logLen (room + (redoLen + n)))
 
 abbrev pub writeChecks : State → ℕ → ℕ → ℕ → ℕ → List Check
-writeChecks s room id a n = rangeChecks s id a n ++ (check9 s id a n ∷ check10 s id ∷ check13 room n ∷ [])
+writeChecks s room id a n = rangeChecks s id a n ++ (check9 s writing id a n ∷ check10 s id ∷ check13 room n ∷ [])
 
 -- "12. .. Precommit: last commit number 4,294,967,295."
 abbrev pub check12 : State → Check

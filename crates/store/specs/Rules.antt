@@ -41,8 +41,8 @@ roomUsed s tail = s .logend + tailLength (s .ondisk .0) tail + sumOf roomOf (txs
 -- ---- number 2
 
 -- It is unrecovered, breaks an image rule, uses more than 16,384 bytes of log room, or has a running transaction whose redo records
--- differ from its undo records in count or ranges; or the lent tail isn't whole groups, commit numbers going on from the one on disk
--- up to the one assigned, then zeros.
+-- differ from its undo records in count or ranges, or a transaction with more than it is allowed of what requests add to it (`stateOk`); or the
+-- lent tail isn't whole groups, commit numbers going on from the one on disk up to the one assigned, then zeros.
 unfoldable pub unfit : State → List ℕ → Bool
 unfit s tail =
     not (s .recovered)

@@ -7,6 +7,7 @@ use mathlib.Core.List.{List}
 use mathlib.Core.Path.{_≡_}
 use Rattle.layout.specs.{statusRunning}
 use Rattle.log.specs.declared.TxId.{TxId}
+use Rattle.transaction.specs.declared.ranges.Ranges.{Ranges}
 use Rattle.transaction.specs.declared.records.Records.{Records}
 use Rattle.transaction.specs.declared.Tx.{Tx}
 use Rattle.transaction.specs.View.{rangesOf, writesOf}
@@ -17,6 +18,11 @@ use Rattle.store.specs.Calls.{Outcome, beginOf, writeOf, readOf, readAns
 use Rattle.store.specs.Stored.{DiskOutcome}
 use Rattle.store.specs.Flush.{flushOf}
 use Rattle.store.specs.Checkpoint.{checkpointOf}
+
+-- as many ranges, and the same
+pub record SameRanges (r q : Ranges) : Type 0 where
+  pub count : r .count ≡ q .count
+  pub ranges : rangesOf r ≡ rangesOf q
 
 -- as many records, of the same ranges, with the same bytes
 pub record SameRecords (r q : Records) : Type 0 where
@@ -30,6 +36,7 @@ pub record SameTx (t u : Tx) : Type 0 where
   pub csn : t .csn .0 ≡ u .csn .0
   pub undo : SameRecords (t .undo) (u .undo)
   pub redo : t .status ≡ statusRunning → SameRecords (t .redo) (u .redo)
+  pub reads : SameRanges (t .extras .reads) (u .extras .reads)
 
 pub record ShowsSame (s r : State) : Type 0 where
   pub recovered : s .recovered ≡ r .recovered

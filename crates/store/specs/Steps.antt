@@ -4,7 +4,7 @@ use mathlib.Core.List.{List, _∷_, _++_}
 use lib.ListN.{length, take, drop, set}
 use Rattle.transaction.specs.declared.Tx.{Tx}
 use Rattle.transaction.specs.Flat.{emptyTx}
-use Rattle.transaction.specs.Steps.{freshTx, written, precommitted}
+use Rattle.transaction.specs.Steps.{freshTx, written, withRead, precommitted}
 use Rattle.store.specs.declared.State.{State}
 use Rattle.store.specs.State.{txAt, withTxs}
 
@@ -17,6 +17,10 @@ begunState s =
 unfoldable pub writtenState : State → ℕ → List ℕ → ℕ → List ℕ → State
 writtenState s slot m a bs =
     withTxs s (s .assigned) (s .lastid) (s .count) (set (s .txs) slot (written (txAt s slot) a (take (length bs) (drop a m)) bs))
+
+-- Read's sister: "adds a range to the state" (document 02, A.2)
+unfoldable pub readState : State → ℕ → ℕ → ℕ → State
+readState s slot a n = withTxs s (s .assigned) (s .lastid) (s .count) (set (s .txs) slot (withRead (txAt s slot) a n))
 
 -- Precommit: "assigns the next commit number, .. marks the transaction committing"
 unfoldable pub precommittedState : State → ℕ → State

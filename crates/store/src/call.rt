@@ -76,7 +76,7 @@ impl State {
         }
     }
 
-    // The part of memory itself; an empty part if refused.
+    // The part of memory itself, of bytes that the transaction has read or written; an empty part if refused, or if one is not.
     pub fn read<'a>(
         self,
         memory: &'a [u8],
@@ -93,10 +93,13 @@ impl State {
         if chosen.number != 0 {
             return &memory[0..0];
         }
+        if !seen.covers(chosen.slot, addr, len) {
+            return &memory[0..0];
+        }
         &memory[addr..addr + len]
     }
 
-    // Read's sister: the number that read refuses with.
+    // Read's sister: the number that read refuses with, or the hold is taken.
     pub fn read_answer(
         mut self,
         memory: &[u8],
@@ -109,16 +112,17 @@ impl State {
     {
         let seen = self.extents();
         let admitted = seen.admit(memory.len(), tail);
-        let chosen = seen.choose_read(admitted, id, addr, len);
+        let chosen = seen.choose_answer(admitted, id, addr, len);
         if chosen.number != 0 {
             return Returned {
                 answer: Answer::Refused(chosen.number),
                 state: self,
             };
         }
+        let s = self.read_step(chosen.slot, addr, len);
         Returned {
             answer: Answer::Done,
-            state: self,
+            state: s,
         }
     }
 

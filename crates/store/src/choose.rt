@@ -13,14 +13,16 @@ use log::record::in_range;
 ghost use mathlib.Core.Path.{_≡_};
 ghost use mathlib.Core.Bool.{true};
 ghost use mathlib.Core.List.{[], _∷_};
-ghost use Prim.Native.Nat.{_≤_};
+ghost use Prim.Native.Nat.{_+_, _≤_, _<_};
 ghost use Rattle.layout.specs.{memoryLen, logLen, maxTxs, maxWrite};
 ghost use Rattle.recovery.specs.Lists.{any};
-ghost use Rattle.transaction.specs.Rules.{heldAgainst};
-ghost use Rattle.store.specs.State.{txsOf, slotOf};
+ghost use Rattle.transaction.specs.Lists.{every};
+ghost use Rattle.transaction.specs.View.{usedBy};
+ghost use Rattle.transaction.specs.Rules.{stateOk, heldAgainst, covered};
+ghost use Rattle.store.specs.State.{txAt, txsOf, slotOf};
 ghost use Rattle.store.specs.Extents.{bareState};
 ghost use Rattle.store.specs.Rules.{keepsImageRules};
-ghost use Rattle.store.specs.Numbers.{check8, beginChecks, readChecks, writeChecks, precommitChecks, abortChecks, settleChecks};
+ghost use Rattle.store.specs.Numbers.{check8, beginChecks, readChecks, answerChecks, writeChecks, precommitChecks, abortChecks, settleChecks};
 ghost use Rattle.store.specs.Admission.{numberAfter, listedChecks, refusal, choice, after, Seen};
 
 // The number that refuses, 0 for none; if none, the slot, where the tail's groups end and the log room used.
@@ -92,16 +94,16 @@ impl StateExtents {
         n
     }
 
-    // Number 9.
-    fn held(self, id: TxId, addr: usize, len: usize) -> bool
-        requires { ⌜ (keepsImageRules (bareState self) ≡ true) × (addr ≤ memoryLen) × (len ≤ maxWrite) ⌝ }
-        ensures { λ r. ⌜ r ≡ any (heldAgainst (id .0) addr len) (txsOf (bareState self)) ⌝ }
+    // Number 9, of one that is to read or to write.
+    fn held(self, writing: bool, id: TxId, addr: usize, len: usize) -> bool
+        requires { ⌜ (keepsImageRules (bareState self) ≡ true) × (every stateOk (txsOf (bareState self)) ≡ true) × (addr ≤ memoryLen) × (len ≤ maxWrite) ⌝ }
+        ensures { λ r. ⌜ r ≡ any (heldAgainst writing (id .0) addr len) (txsOf (bareState self)) ⌝ }
     {
         let n = self.count as usize;
         let mut i: usize = 0;
         while i < n {
             let t = self.txs[i];
-            if t.holds_against(id, addr, len) {
+            if t.holds_against(writing, id, addr, len) {
                 return true;
             }
             i += 1;
@@ -161,10 +163,42 @@ impl StateExtents {
         if ranged.number != 0 {
             return ranged;
         }
-        if self.held(id, addr, len) {
+        if self.held(false, id, addr, len) {
             return refuse(9);
         }
         ranged
+    }
+
+    // Numbers 6 to 9 and 15.
+    pub(crate) fn choose_answer(
+        self,
+        admitted: Admission,
+        id: TxId,
+        addr: usize,
+        len: usize,
+    ) -> Choice
+        requires { ⌜ Seen admitted (bareState self) ⌝ }
+        ensures { λ r. ⌜ r ≡ choice (bareState self) admitted (id .0) (answerChecks (bareState self) (id .0) addr len) ⌝ }
+    {
+        let free = self.choose_read(admitted, id, addr, len);
+        if free.number != 0 {
+            return free;
+        }
+        let slot = free.slot;
+        if self.txs[slot].extras.reads.count == RECORDS_MAX {
+            return refuse(15);
+        }
+        free
+    }
+
+    // Whether the transaction of a slot has read or written each of the len bytes from addr on.
+    pub(crate) fn covers(self, slot: usize, addr: usize, len: usize) -> bool
+        requires { ⌜ (slot < self .count) × (keepsImageRules (bareState self) ≡ true) × (every stateOk (txsOf (bareState self)) ≡ true) ⌝ }
+        requires { ⌜ addr + len ≤ memoryLen ⌝ }
+        ensures { λ r. ⌜ r ≡ covered (usedBy (txAt (bareState self) slot)) addr len ⌝ }
+    {
+        let t = self.txs[slot];
+        t.covers(addr, len)
     }
 
     // Numbers 6 to 10 and 13.
@@ -183,7 +217,7 @@ impl StateExtents {
         if ranged.number != 0 {
             return ranged;
         }
-        if self.held(id, addr, len) {
+        if self.held(true, id, addr, len) {
             return refuse(9);
         }
         let slot = ranged.slot;

@@ -17,7 +17,7 @@ ghost use Rattle.log.specs.Group.{encodeGroup};
 ghost use Rattle.transaction.specs.View.{rangesOf, writesOf};
 ghost use Rattle.transaction.specs.Rules.{recordsOk, rangesSize};
 ghost use Rattle.store.specs.State.{txAt};
-ghost use Rattle.store.specs.Steps.{begunState, writtenState, precommittedState, droppedState};
+ghost use Rattle.store.specs.Steps.{begunState, writtenState, readState, precommittedState, droppedState};
 
 impl State {
     pub(crate) fn begin_step(mut self) -> Self
@@ -50,6 +50,16 @@ impl State {
         let u = t.write(addr as u16, &memory[addr..addr + n], bytes);
         self.txs[slot] = u;
         copy(memory, addr, bytes);
+        self
+    }
+
+    pub(crate) fn read_step(mut self, slot: usize, addr: usize, len: usize) -> Self
+        requires { ⌜ (slot < maxTxs) × (len ≤ maxWrite) × (addr ≤ memoryLen) × (txAt self slot .extras .reads .count < maxRecords) ⌝ }
+        ensures { λ r. ⌜ r ≡ readState self slot addr len ⌝ }
+    {
+        let t = self.txs[slot];
+        let u = t.read(addr as u16, len as u8);
+        self.txs[slot] = u;
         self
     }
 

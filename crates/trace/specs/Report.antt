@@ -3,8 +3,10 @@ use Prim.Native.Nat.{ℕ}
 use mathlib.Core.Bool.{Bool}
 use mathlib.Core.List.{List}
 use lib.ListN.{length}
+use Rattle.transaction.specs.Lists.{sumOf}
 use Rattle.store.specs.declared.Answer.{Answer}
 use Rattle.store.specs.declared.State.{State}
+use Rattle.store.specs.State.{txsOf}
 use Rattle.disk.specs.declared.call.Stopped.{Stopped}
 use Rattle.disk.specs.declared.call.Stopped.the-variants.{Untold}
 use Rattle.trace.specs.declared.line.Verdict.the-variants.{Answered, Part, Equal}
@@ -21,6 +23,10 @@ storedOf answer value stores state = restartedOf answer value stores Untold stat
 -- of read: the length of its part, and the part's checksum
 abbrev pub readOf : List ℕ → State → Report
 readOf part state = record { verdict = Part (length part); value = adlerOf part; stores = 0; stop = Untold; state = state }
+
+-- how many ranges the transactions listed have read together; an unrecovered state lists none
+abbrev pub rangesRead : State → ℕ
+rangesRead s = sumOf (λ t. t .extras .reads .count) (txsOf s)
 
 -- of equal in meaning
 abbrev pub comparedOf : Bool → State → Report

@@ -1,12 +1,15 @@
 // The line that a call prints.
 use disk::call::Stopped;
+use layout::MAX_TXS;
 use libc::STDOUT_FILENO;
 use log::stop::Stop;
 use store::Answer;
 use store::State;
+use transaction::Tx;
 ghost use mathlib.Core.Path.{_≡_};
+ghost use Prim.Native.Nat.{_≤_};
 ghost use Rattle.trace.specs.Adler.{adlerOf};
-ghost use Rattle.trace.specs.Report.{storedOf, restartedOf, readOf, comparedOf};
+ghost use Rattle.trace.specs.Report.{storedOf, restartedOf, readOf, rangesRead, comparedOf};
 
 // A line's second field: a call's answer, the length of read's part, or whether two disks are equal in meaning.
 pub enum Verdict {
@@ -154,7 +157,32 @@ fn print_verdict(verdict: Verdict) {
     }
 }
 
-// Recovered, log end, number on disk, number assigned, last id, transactions listed.
+// How many ranges a transaction has read.
+fn reads_of(t: Tx) -> usize
+    ensures { λ r. ⌜ r ≡ t .extras .reads .count ⌝ }
+    ensures { λ r. ⌜ r ≤ 255 ⌝ }
+{
+    t.extras.reads.count as usize
+}
+
+// How many ranges the transactions listed have read together.
+fn ranges_read(s: State) -> usize
+    ensures { λ r. ⌜ r ≡ rangesRead s ⌝ }
+{
+    let n = s.count as usize;
+    let mut sum: usize = 0;
+    let mut i: usize = 0;
+    while i < n {
+        if i < MAX_TXS {
+            let t = s.txs[i];
+            sum = sum + reads_of(t);
+        }
+        i += 1;
+    }
+    sum
+}
+
+// Recovered, log end, number on disk, number assigned, last id, transactions listed, ranges that they have read.
 fn print_state(s: State) {
     if s.recovered {
         text(b" 1");
@@ -166,6 +194,7 @@ fn print_state(s: State) {
     comma_number(s.assigned.0 as usize);
     comma_number(s.lastid.0 as usize);
     comma_number(s.count as usize);
+    comma_number(ranges_read(s));
 }
 
 // Restart's ninth field.

@@ -4,5 +4,6 @@ pub mod RangeLaws
 pub mod Writes
 pub mod Pushed
 pub mod Held
+pub mod Cover
 pub mod Heads
 pub mod StateRule

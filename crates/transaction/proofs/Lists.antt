@@ -9,6 +9,7 @@ use lib.ListN.{length}
 use lib.Dec.{eqb}
 use borrow.Author.Tests.{eqb-true, eqb-false}
 use Rattle.recovery.specs.Lists.{All, nil, cons, any}
+use Rattle.recovery.proofs.Bool.{or-left, or-right}
 use Rattle.log.proofs.Basics.{and-left, and-right}
 use Rattle.transaction.specs.Lists.{upFrom, every, sumOf}
 
@@ -78,6 +79,11 @@ pub any-same : {A B : Type 0} (p : A → Bool) (q : B → Bool) (f : ℕ → A) 
 any-same p q f g zero i h = refl
 any-same p q f g (suc k) i h = ap₂ (λ (a b : Bool). a || b) (h i (omega arith) (omega arith))
     (any-same p q f g k (suc i) (λ x a b. h x (omega arith) (omega arith)))
+
+-- what passes one test passes no stronger one
+pub any-weaker : {A : Type 0} (p q : A → Bool) (xs : List A) → ((x : A) → q x ≡ false → p x ≡ false) → any q xs ≡ false → any p xs ≡ false
+any-weaker p q [] h e = refl
+any-weaker p q (x ∷ xs) h e = rw (h x (or-left (q x) (any q xs) e)) (any-weaker p q xs h (or-right (q x) (any q xs) e))
 
 pub every-same : {A B : Type 0} (p : A → Bool) (q : B → Bool) (f : ℕ → A) (g : ℕ → B) (k i : ℕ) → ((x : ℕ) → i ≤ x → x < i + k → p (f x) ≡ q (g x))
     → every p (upFrom f k i) ≡ every q (upFrom g k i)

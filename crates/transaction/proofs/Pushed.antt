@@ -17,7 +17,7 @@ use Rattle.log.proofs.RoundTrip.{drop-take}
 use Rattle.transaction.specs.declared.ranges.Ranges.{Ranges}
 use Rattle.transaction.specs.declared.records.Records.{Records}
 use Rattle.transaction.specs.Lists.{upFrom, every}
-use Rattle.transaction.specs.Flat.{emptyRecords}
+use Rattle.transaction.specs.Flat.{emptyRanges, emptyRecords}
 use Rattle.transaction.specs.View.{Range, range, rangeAt, rangesOf, writesOf}
 use Rattle.transaction.specs.Rules.{rangeOk, recordsOk, sameRange, sameRanges, rangesSize}
 use Rattle.transaction.specs.Steps.{pushedRange, pushed}
@@ -25,6 +25,10 @@ use Rattle.transaction.proofs.Lists.{up-snoc, up-same}
 use Rattle.transaction.proofs.Writes.{writes-up}
 
 -- the arrays' lengths, which every value of the code has
+pub record SizedRanges (r : Ranges) : Type 0 where
+  pub addrs : length (r .addr) ≡ 16
+  pub lens : length (r .len) ≡ 16
+
 pub record Sized (r : Records) : Type 0 where
   pub addrs : length (r .ranges .addr) ≡ 16
   pub lens : length (r .ranges .len) ≡ 16
@@ -42,6 +46,15 @@ push-sized r a bs z =
       lens = length-set (r .ranges .len) (r .ranges .count) (length bs) ∙ z .lens;
       space = length-sets (r .bytes) (r .ranges .count * 32) bs ∙ z .space;
     }
+
+ranges-sized : (r : Records) → Sized r → SizedRanges (r .ranges)
+ranges-sized r z = record { addrs = z .addrs; lens = z .lens }
+
+pub none-sized : SizedRanges emptyRanges
+none-sized = record { addrs = refl; lens = refl }
+
+pub range-sized : (r : Ranges) (a n : ℕ) → SizedRanges r → SizedRanges (pushedRange r a n)
+range-sized r a n z = record { addrs = length-set (r .addr) (r .count) a ∙ z .addrs; lens = length-set (r .len) (r .count) n ∙ z .lens }
 
 -- ---- a part of a list after stores: before them it is as it was, and where they were made it is what was stored
 
@@ -62,12 +75,12 @@ sets-there d bs q h =
 
 -- ---- the range that was pushed
 
-module _ (r : Ranges) (a n : ℕ) (addrs : length (r .addr) ≡ 16) (lens : length (r .len) ≡ 16) (c : r .count < 16) where
+module _ (r : Ranges) (a n : ℕ) (z : SizedRanges r) (c : r .count < 16) where
   address : getD (set (r .addr) (r .count) a) (r .count) 0 ≡ a
-  address = getD-set-same (r .addr) (r .count) a 0 (omega (arith, addrs))
+  address = getD-set-same (r .addr) (r .count) a 0 (omega (arith, z .addrs))
 
   long : getD (set (r .len) (r .count) n) (r .count) 0 ≡ n
-  long = getD-set-same (r .len) (r .count) n 0 (omega (arith, lens))
+  long = getD-set-same (r .len) (r .count) n 0 (omega (arith, z .lens))
 
   range-kept : (j : ℕ) → j < r .count → rangeAt (pushedRange r a n) j ≡ rangeAt r j
   range-kept j h =
@@ -92,7 +105,7 @@ pushed-count r a bs = add-one (r .ranges .count)
 module _ (r : Records) (a : ℕ) (bs : List ℕ) (z : Sized r) (c : r .ranges .count < 16) where
   pub pushed-ranges : rangesOf (pushed r a bs .ranges) ≡ rangesOf (r .ranges) ++ (range a (length bs) ∷ [])
   unfolding pushed
-  pushed-ranges = ranges-pushed (r .ranges) a (length bs) (z .addrs) (z .lens) c
+  pushed-ranges = ranges-pushed (r .ranges) a (length bs) (ranges-sized r z) c
 
   module _ (l : length bs ≤ 32) (short : (j : ℕ) → j < r .ranges .count → getD (r .ranges .len) j 0 ≤ 32) where
     abbrev seen : Records → ℕ → Write
@@ -111,7 +124,7 @@ module _ (r : Records) (a : ℕ) (bs : List ℕ) (z : Sized r) (c : r .ranges .c
     unfolding pushed
     write-new =
         ap (seen (pushed r a bs)) (zero-add (r .ranges .count))
-        ∙ rw (address (r .ranges) a (length bs) (z .addrs) (z .lens) c, long (r .ranges) a (length bs) (z .addrs) (z .lens) c)
+        ∙ rw (address (r .ranges) a (length bs) (ranges-sized r z) c, long (r .ranges) a (length bs) (ranges-sized r z) c)
         (ap (λ (ds : List ℕ). record { addr = a; bytes = ds }) (sets-there (r .bytes) bs (r .ranges .count * 32) (omega (arith, z .space))))
 
     pub pushed-writes : writesOf (pushed r a bs) ≡ writesOf r ++ (record { addr = a; bytes = bs } ∷ [])

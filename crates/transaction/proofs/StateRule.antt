@@ -1,25 +1,52 @@
 -- What number 2 asks of a transaction beyond the image rules: what it says of one, and what keeps it. The store rests on these laws, not on the
 -- rule's parts.
-use Prim.Native.Nat.{ℕ, _<_}
-use mathlib.Core.Bool.{Bool, true, false, not, _||_}
+use Prim.Native.Nat.{ℕ, _≤_, _<_}
+use native.Mathlib.Omega.{arith}
+use mathlib.Core.Bool.{Bool, true, false, cond, not, _&&_, _||_}
 use mathlib.Core.List.{List, [], _∷_, _++_}
 use mathlib.Core.Path.{_≡_, refl, sym, ap, ap₂, _∙_, subst}
 use lib.ListN.{length}
-use lib.Dec.{eqb}
+use lib.Dec.{eqb, leb}
 use borrow.Author.Tests.{eq-eqb, eqb-true}
 use Rattle.log.specs.declared.TxId.{TxId}
 use Rattle.log.specs.declared.Csn.{Csn}
+use Rattle.log.specs.Record.{inRange}
+use Rattle.log.proofs.Basics.{and-left, and-right, and-both}
 use Rattle.transaction.specs.declared.Tx.{Tx}
 use Rattle.transaction.specs.Flat.{emptyRecords}
-use Rattle.transaction.specs.View.{Range, range, rangesOf}
-use Rattle.transaction.specs.Rules.{sameRanges, stateOk}
-use Rattle.transaction.specs.Steps.{freshTx, written, precommitted}
-use Rattle.transaction.proofs.RangeLaws.{equal-ranges}
-use Rattle.transaction.proofs.Pushed.{Sized, pushed-ranges, ranges-self}
+use Rattle.transaction.specs.Lists.{every}
+use Rattle.transaction.specs.View.{Range, range, rangeAt, rangesOf, readsOf}
+use Rattle.transaction.specs.Rules.{rangeOk, recordsOk, sameRanges, redoOk, extrasOk, stateOk}
+use Rattle.transaction.specs.Steps.{pushedRange, freshTx, written, withRead, precommitted}
+use Rattle.transaction.proofs.Lists.{length-up}
+use Rattle.transaction.proofs.RangeLaws.{counted, equal-ranges}
+use Rattle.transaction.proofs.Pushed.{Sized, SizedRanges, ranges-pushed, pushed-ranges, one-more, ranges-self}
 
-pub running-ranges : (t : Tx) → stateOk t ≡ true → t .status ≡ 1 → rangesOf (t .undo .ranges) ≡ rangesOf (t .redo .ranges)
-unfolding stateOk
-running-ranges t e h = equal-ranges _ _ (rw (eq-eqb (t .status) 1 h) at e)
+-- ---- what it says
+
+module _ (t : Tx) (e : stateOk t ≡ true) where
+  redo-rule : redoOk t ≡ true
+  unfolding stateOk
+  redo-rule = and-left (redoOk t) (extrasOk t) e
+
+  extras-rule : extrasOk t ≡ true
+  unfolding stateOk
+  extras-rule = and-right (redoOk t) (extrasOk t) e
+
+  pub running-ranges : t .status ≡ 1 → rangesOf (t .undo .ranges) ≡ rangesOf (t .redo .ranges)
+  running-ranges h = equal-ranges _ _ (rw (eq-eqb (t .status) 1 h) at redo-rule)
+
+  pub running-reads : t .status ≡ 1 → recordsOk (readsOf t) ≡ true
+  running-reads h = rw (eq-eqb (t .status) 1 h) at extras-rule
+
+  pub few-reads : t .extras .reads .count ≤ 16
+  few-reads = go (eqb (t .status) 1) extras-rule
+    where
+      go : (b : Bool) → cond b (recordsOk (readsOf t)) (eqb (t .extras .reads .count) 0) ≡ true → t .extras .reads .count ≤ 16
+      go true q = counted (t .extras .reads) q
+      go false q = omega (arith, eqb-true (t .extras .reads .count) 0 q)
+
+-- ---- what keeps it
 
 pub fresh-state : (id : TxId) → stateOk (freshTx id) ≡ true
 unfolding stateOk freshTx emptyRecords
@@ -28,6 +55,19 @@ fresh-state id = refl
 pub precommitted-state : (t : Tx) (n : Csn) → stateOk (precommitted t n) ≡ true
 unfolding stateOk precommitted
 precommitted-state t n = refl
+
+-- one read range more
+pub read-state : (t : Tx) (a n : ℕ) → SizedRanges (t .extras .reads) → t .extras .reads .count < 16 → inRange a n ≡ true → t .status ≡ 1
+    → stateOk t ≡ true → stateOk (withRead t a n) ≡ true
+unfolding stateOk withRead
+read-state t a n z c i h e =
+    let reads = readsOf t in
+    let ok = running-reads t e h in
+    let few : length reads < 16 = omega (arith, length-up (rangeAt (t .extras .reads)) (t .extras .reads .count) 0, c) in
+    let more = one-more reads a n few (and-right (leb (length reads) 16) (every rangeOk reads) ok) i in
+    let pushed : recordsOk (rangesOf (pushedRange (t .extras .reads) a n)) ≡ true =
+    subst (λ (rs : List Range). recordsOk rs ≡ true) (sym (ranges-pushed (t .extras .reads) a n z c)) more in
+    rw (redo-rule t e, eq-eqb (t .status) 1 h) pushed
 
 -- ---- one write more
 
@@ -50,7 +90,7 @@ module _ (t : Tx) (a : ℕ) (old new : List ℕ) (zu : Sized (t .undo)) (zr : Si
 
   pub written-state : stateOk t ≡ true → stateOk (written t a old new) ≡ true
   unfolding stateOk written
-  written-state e = go (eqb (t .status) 1) refl
+  written-state e = and-both _ _ (go (eqb (t .status) 1) refl) (extras-rule t e)
     where
       go : (b : Bool) → eqb (t .status) 1 ≡ b → not b || sameRanges (rangesOf (written t a old new .undo .ranges)) (rangesOf (written t a old new .redo .ranges)) ≡ true
       go true q = same-written (running-ranges t e (eqb-true (t .status) 1 q))
@@ -58,13 +98,24 @@ module _ (t : Tx) (a : ℕ) (old new : List ℕ) (zu : Sized (t .undo)) (zr : Si
 
 -- ---- transactions that show the same
 
-pub state-same : (t u : Tx) → t .status ≡ u .status → rangesOf (t .undo .ranges) ≡ rangesOf (u .undo .ranges)
-    → (t .status ≡ 1 → rangesOf (t .redo .ranges) ≡ rangesOf (u .redo .ranges)) → stateOk t ≡ stateOk u
-unfolding stateOk
-state-same t u s undo redo =
-    go (eqb (t .status) 1) refl ∙ ap (λ (n : ℕ). not (eqb n 1) || sameRanges (rangesOf (u .undo .ranges)) (rangesOf (u .redo .ranges))) s
-  where
-    go : (b : Bool) → eqb (t .status) 1 ≡ b
-        → not b || sameRanges (rangesOf (t .undo .ranges)) (rangesOf (t .redo .ranges)) ≡ not b || sameRanges (rangesOf (u .undo .ranges)) (rangesOf (u .redo .ranges))
-    go true e = ap₂ sameRanges undo (redo (eqb-true (t .status) 1 e))
-    go false e = refl
+module _ (t u : Tx) (s : t .status ≡ u .status) where
+  redo-same : rangesOf (t .undo .ranges) ≡ rangesOf (u .undo .ranges) → (t .status ≡ 1 → rangesOf (t .redo .ranges) ≡ rangesOf (u .redo .ranges))
+      → redoOk t ≡ redoOk u
+  redo-same undo redo =
+      go (eqb (t .status) 1) refl ∙ ap (λ (n : ℕ). not (eqb n 1) || sameRanges (rangesOf (u .undo .ranges)) (rangesOf (u .redo .ranges))) s
+    where
+      go : (b : Bool) → eqb (t .status) 1 ≡ b
+          → not b || sameRanges (rangesOf (t .undo .ranges)) (rangesOf (t .redo .ranges)) ≡ not b || sameRanges (rangesOf (u .undo .ranges)) (rangesOf (u .redo .ranges))
+      go true e = ap₂ sameRanges undo (redo (eqb-true (t .status) 1 e))
+      go false e = refl
+
+  extras-same : t .extras .reads .count ≡ u .extras .reads .count → readsOf t ≡ readsOf u → extrasOk t ≡ extrasOk u
+  extras-same count reads =
+      ap (λ (n : ℕ). cond (eqb n 1) (recordsOk (readsOf t)) (eqb (t .extras .reads .count) 0)) s
+      ∙ ap₂ (λ (rs : List Range) (n : ℕ). cond (eqb (u .status) 1) (recordsOk rs) (eqb n 0)) reads count
+
+  pub state-same : rangesOf (t .undo .ranges) ≡ rangesOf (u .undo .ranges) → (t .status ≡ 1 → rangesOf (t .redo .ranges) ≡ rangesOf (u .redo .ranges))
+      → t .extras .reads .count ≡ u .extras .reads .count → readsOf t ≡ readsOf u
+      → stateOk t ≡ stateOk u
+  unfolding stateOk
+  state-same undo redo count reads = ap₂ (λ (x y : Bool). x && y) (redo-same undo redo) (extras-same count reads)

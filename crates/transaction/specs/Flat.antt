@@ -5,6 +5,7 @@ use lib.ListN.{replicate}
 use Rattle.layout.specs.{maxRecords, maxWrite}
 use Rattle.transaction.specs.declared.ranges.Ranges.{Ranges}
 use Rattle.transaction.specs.declared.records.Records.{Records}
+use Rattle.transaction.specs.declared.Extras.{Extras}
 use Rattle.transaction.specs.declared.Tx.{Tx}
 
 abbrev pub emptyRanges : Ranges
@@ -13,12 +14,19 @@ emptyRanges = record { count = 0; addr = replicate maxRecords 0; len = replicate
 unfoldable pub emptyRecords : Records
 emptyRecords = record { ranges = emptyRanges; bytes = replicate (maxRecords * maxWrite) 0 }
 
+-- nothing kept beyond the records
+abbrev pub emptyExtras : Extras
+emptyExtras = record { reads = emptyRanges }
+
 -- what an unused slot holds
 unfoldable pub emptyTx : Tx
-emptyTx = record { id = record { 0 = 0 }; status = 0; csn = record { 0 = 0 }; undo = emptyRecords; redo = emptyRecords }
+emptyTx = record { id = record { 0 = 0 }; status = 0; csn = record { 0 = 0 }; undo = emptyRecords; redo = emptyRecords; extras = emptyExtras }
+
+abbrev pub noRanges : Ranges
+noRanges = record { count = 0; addr = []; len = [] }
 
 abbrev pub noRecords : Records
-noRecords = record { ranges = record { count = 0; addr = []; len = [] }; bytes = [] }
+noRecords = record { ranges = noRanges; bytes = [] }
 
 abbrev pub noTx : Tx
-noTx = record { id = record { 0 = 0 }; status = 0; csn = record { 0 = 0 }; undo = noRecords; redo = noRecords }
+noTx = record { id = record { 0 = 0 }; status = 0; csn = record { 0 = 0 }; undo = noRecords; redo = noRecords; extras = record { reads = noRanges } }

@@ -1,4 +1,4 @@
--- The rules of one transaction: those of an image, for numbers 2 and 4, and those of a state alone, for number 2. Held bytes and log room.
+-- The rules of one transaction: those of an image, for numbers 2 and 4, and those of a state alone, for number 2. Held bytes, cover and log room.
 use Prim.Native.Nat.{ℕ, _+_}
 use mathlib.Core.Bool.{Bool, true, false, cond, not, _&&_, _||_}
 use mathlib.Core.List.{List, [], _∷_}
@@ -8,8 +8,8 @@ use Rattle.layout.specs.{redoLen, commitLen, maxRecords, statusRunning, statusC
 use Rattle.recovery.specs.Lists.{any}
 use Rattle.log.specs.Record.{inRange}
 use Rattle.transaction.specs.declared.Tx.{Tx}
-use Rattle.transaction.specs.Lists.{every, sumOf}
-use Rattle.transaction.specs.View.{Range, range, rangesOf, Outline, outline}
+use Rattle.transaction.specs.Lists.{upFrom, every, sumOf}
+use Rattle.transaction.specs.View.{Range, range, rangesOf, readsOf, writtenBy, usedBy, Outline, outline}
 
 -- ---- the image's part
 
@@ -43,10 +43,17 @@ sameRanges [] (q ∷ qs) = false
 sameRanges (r ∷ rs) [] = false
 sameRanges (r ∷ rs) (q ∷ qs) = sameRange r q && sameRanges rs qs
 
--- What number 2 asks of a transaction beyond the image rules, a conjunct for each thing asked: not "a running transaction whose redo records
--- differ from its undo records in count or ranges".
+-- not "a running transaction whose redo records differ from its undo records in count or ranges"
+abbrev pub redoOk : Tx → Bool
+redoOk t = not (eqb (t .status) statusRunning) || sameRanges (rangesOf (t .undo .ranges)) (rangesOf (t .redo .ranges))
+
+-- Document 02, A.2: at most 16 read ranges, none "outside 8's limits"; of what requests add to a transaction not "any of it on a committing one"
+abbrev pub extrasOk : Tx → Bool
+extrasOk t = cond (eqb (t .status) statusRunning) (recordsOk (readsOf t)) (eqb (t .extras .reads .count) 0)
+
+-- what number 2 asks of a transaction beyond the image rules, a conjunct for each thing asked
 unfoldable pub stateOk : Tx → Bool
-stateOk t = not (eqb (t .status) statusRunning) || sameRanges (rangesOf (t .undo .ranges)) (rangesOf (t .redo .ranges))
+stateOk t = redoOk t && extrasOk t
 
 -- ---- held bytes
 
@@ -54,9 +61,40 @@ stateOk t = not (eqb (t .status) statusRunning) || sameRanges (rangesOf (t .undo
 abbrev pub meets : ℕ → ℕ → Range → Bool
 meets a n (range b m) = ltb b (a + n) && ltb a (b + m)
 
--- "A byte is held while a running transaction has an undo record over it": one of the n from a on, against the transaction of this id
-unfoldable pub heldAgainst : ℕ → ℕ → ℕ → Tx → Bool
-heldAgainst id a n t = not (eqb id (t .id .0)) && (eqb (t .status) statusRunning && any (meets a n) (rangesOf (t .undo .ranges)))
+-- what bytes are wanted for
+abbrev pub reading : Bool
+reading = false
+
+abbrev pub writing : Bool
+writing = true
+
+-- "A byte is held while a running transaction has an undo record over it"; where it has read one, it "holds it against others' writes" (document
+-- 02, A.2)
+abbrev pub heldFrom : Bool → Tx → List Range
+heldFrom false t = writtenBy t
+heldFrom true t = usedBy t
+
+-- one of the n bytes from a on, against the transaction of this id
+unfoldable pub heldAgainst : Bool → ℕ → ℕ → ℕ → Tx → Bool
+heldAgainst wanted id a n t = not (eqb id (t .id .0)) && (eqb (t .status) statusRunning && any (meets a n) (heldFrom wanted t))
+
+-- ---- cover
+
+-- a byte lies in a range
+abbrev pub hasByte : ℕ → Range → Bool
+hasByte b (range a n) = leb a b && ltb b (a + n)
+
+-- "each of its bytes lies in a range that the transaction has read or written": byte by byte, over all of these ranges
+abbrev pub covered : List Range → ℕ → ℕ → Bool
+covered rs a n = every (λ b. any (hasByte b) rs) (upFrom (λ b. b) n a)
+
+-- How far the bytes from a place on lie in these ranges, each looked at once, in order: past a range's end where the place reached lies in it.
+abbrev pub onward : ℕ → Range → ℕ
+onward at (range a n) = cond (hasByte at (range a n)) (a + n) at
+
+abbrev pub reach : ℕ → List Range → ℕ
+reach at [] = at
+reach at (r ∷ rs) = reach (onward at r) rs
 
 -- ---- log room
 

@@ -1,6 +1,6 @@
 -- What is seen in the flat arrays: ranges and outlines for the rules, writes and recovery's transactions for the meaning.
 use Prim.Native.Nat.{ℕ}
-use mathlib.Core.List.{List, []}
+use mathlib.Core.List.{List, [], _++_}
 use lib.ListN.{getD}
 use lib.Dec.{eqb}
 use Rattle.layout.specs.{statusCommitting}
@@ -23,6 +23,16 @@ rangeAt r i = range (getD (r .addr) i 0) (getD (r .len) i 0)
 abbrev pub rangesOf : Ranges → List Range
 rangesOf r = upFrom (rangeAt r) (r .count) 0
 
+-- the ranges that a transaction has read, as its calls of read's sister gave them; those that it has written; both
+abbrev pub readsOf : Tx → List Range
+readsOf t = rangesOf (t .extras .reads)
+
+abbrev pub writtenBy : Tx → List Range
+writtenBy t = rangesOf (t .undo .ranges)
+
+abbrev pub usedBy : Tx → List Range
+usedBy t = writtenBy t ++ readsOf t
+
 abbrev pub writesOf : Records → List Write
 writesOf r = writesFrom (r .ranges .addr) (r .ranges .len) (r .bytes) (r .ranges .count) 0
 
@@ -41,7 +51,7 @@ viewOf t =
 -- ---- without the bytes: what the rules look at
 
 abbrev pub extentsOf : Tx → TxExtents
-extentsOf t = record { id = t .id; status = t .status; csn = t .csn; undo = t .undo .ranges; redo = t .redo .ranges }
+extentsOf t = record { id = t .id; status = t .status; csn = t .csn; undo = t .undo .ranges; redo = t .redo .ranges; extras = t .extras }
 
 -- the transaction of these extents whose records have no bytes
 abbrev pub bareTx : TxExtents → Tx
@@ -52,4 +62,5 @@ bareTx e =
       csn = e .csn;
       undo = record { ranges = e .undo; bytes = [] };
       redo = record { ranges = e .redo; bytes = [] };
+      extras = e .extras;
     }

@@ -19,13 +19,28 @@ ghost use lib.Seq.{sets};
 ghost use Rattle.layout.specs.{memoryLen, commitLen, maxRecords, maxWrite, statusRunning};
 ghost use Rattle.recovery.specs.Group.{committed};
 ghost use Rattle.log.specs.Group.{encodeGroup};
-ghost use Rattle.transaction.specs.Flat.{emptyTx};
-ghost use Rattle.transaction.specs.View.{rangesOf, writesOf, outline, outlineOf, extentsOf, bareTx};
-ghost use Rattle.transaction.specs.Rules.{recordsOk, headOk, outlineOk, alike, stateOk, heldAgainst, rangesSize, roomOf};
-ghost use Rattle.transaction.specs.Steps.{freshTx, written, precommitted};
+ghost use Rattle.transaction.specs.Flat.{emptyExtras, emptyTx};
+ghost use Rattle.transaction.specs.View.{rangesOf, usedBy, writesOf, outline, outlineOf, extentsOf, bareTx};
+ghost use Rattle.transaction.specs.Rules.{recordsOk, headOk, outlineOk, alike, stateOk, heldAgainst, covered, reach, rangesSize, roomOf};
+ghost use Rattle.transaction.specs.Steps.{freshTx, written, withRead, precommitted};
 
-// A transaction. Its status is RUNNING or COMMITTING. What a running one is to keep besides goes into one substructure, `extras`: off the image,
-// emptied by precommit, its rule a conjunct of `stateOk`.
+// What a running transaction keeps besides its records: off the image, emptied by precommit, its rule a conjunct of `stateOk`. The ranges that it
+// has read, oldest first.
+#[repr(C)]
+pub struct Extras {
+    pub reads: Ranges,
+}
+
+impl Extras {
+    pub(crate) fn empty() -> Self
+        ensures { λ r. ⌜ r ≡ emptyExtras ⌝ }
+    {
+        let none = Ranges::empty();
+        Extras { reads: none }
+    }
+}
+
+// A transaction. Its status is RUNNING or COMMITTING.
 #[repr(C)]
 pub struct Tx {
     pub id: TxId,
@@ -33,6 +48,7 @@ pub struct Tx {
     pub csn: Csn,
     pub undo: Records,
     pub redo: Records,
+    pub extras: Extras,
 }
 
 // Whether two transactions have one id, or one commit number where that is one.
@@ -77,6 +93,7 @@ pub struct TxExtents {
     pub csn: Csn,
     pub undo: Ranges,
     pub redo: Ranges,
+    pub extras: Extras,
 }
 
 impl TxExtents {
@@ -96,11 +113,15 @@ impl TxExtents {
         requires { ⌜ self .undo .count ≤ maxRecords ⌝ }
         ensures { λ r. ⌜ r ≡ stateOk (bareTx self) ⌝ }
     {
+        let reads = self.extras.reads;
         if self.status != RUNNING {
-            return true;
+            return reads.count == 0;
         }
         let undo = self.undo;
-        undo.same_ranges(self.redo)
+        if !undo.same_ranges(self.redo) {
+            return false;
+        }
+        reads.ok()
     }
 
     // The log room that it has reserved.
@@ -115,10 +136,10 @@ impl TxExtents {
         redo.size() + COMMIT_LEN
     }
 
-    // Whether it holds one of the len bytes from addr on against the transaction of this id.
-    pub fn holds_against(self, id: TxId, addr: usize, len: usize) -> bool
-        requires { ⌜ (self .undo .count ≤ maxRecords) × (addr ≤ memoryLen) × (len ≤ maxWrite) ⌝ }
-        ensures { λ r. ⌜ r ≡ heldAgainst (id .0) addr len (bareTx self) ⌝ }
+    // Whether it holds one of the len bytes from addr on against the transaction of this id, which wants to read or write them.
+    pub fn holds_against(self, writing: bool, id: TxId, addr: usize, len: usize) -> bool
+        requires { ⌜ (self .undo .count ≤ maxRecords) × (self .extras .reads .count ≤ maxRecords) × (addr ≤ memoryLen) × (len ≤ maxWrite) ⌝ }
+        ensures { λ r. ⌜ r ≡ heldAgainst writing (id .0) addr len (bareTx self) ⌝ }
     {
         if id.0 == self.id.0 {
             return false;
@@ -127,7 +148,42 @@ impl TxExtents {
             return false;
         }
         let undo = self.undo;
-        undo.meets(addr, len)
+        if undo.meets(addr, len) {
+            return true;
+        }
+        if !writing {
+            return false;
+        }
+        let reads = self.extras.reads;
+        reads.meets(addr, len)
+    }
+
+    // How far the bytes from a place on lie in ranges that it has written or read, each looked at once.
+    fn reach(self, at: usize) -> usize
+        requires { ⌜ (self .undo .count ≤ maxRecords) × (self .extras .reads .count ≤ maxRecords) ⌝ }
+        ensures { λ r. ⌜ r ≡ reach at (usedBy (bareTx self)) ⌝ }
+    {
+        let undo = self.undo;
+        let reads = self.extras.reads;
+        let to = undo.reach(at);
+        reads.reach(to)
+    }
+
+    // Whether each of the len bytes from addr on lies in a range that it has written or read.
+    pub fn covers(self, addr: usize, len: usize) -> bool
+        requires { ⌜ (self .undo .count ≤ maxRecords) × (self .extras .reads .count ≤ maxRecords) × (addr + len ≤ memoryLen) ⌝ }
+        ensures { λ r. ⌜ r ≡ covered (usedBy (bareTx self)) addr len ⌝ }
+    {
+        let end = addr + len;
+        let mut at = addr;
+        while at < end {
+            let to = self.reach(at);
+            if to == at {
+                return false;
+            }
+            at = to;
+        }
+        true
     }
 }
 
@@ -136,12 +192,14 @@ impl Tx {
         ensures { λ r. ⌜ r ≡ emptyTx ⌝ }
     {
         let none = Records::empty();
+        let extras = Extras::empty();
         Tx {
             id: TxId(0),
             status: 0,
             csn: Csn(0),
             undo: none,
             redo: none,
+            extras: extras,
         }
     }
 
@@ -150,12 +208,14 @@ impl Tx {
         ensures { λ r. ⌜ r ≡ freshTx id ⌝ }
     {
         let none = Records::empty();
+        let extras = Extras::empty();
         Tx {
             id: id,
             status: RUNNING,
             csn: Csn(0),
             undo: none,
             redo: none,
+            extras: extras,
         }
     }
 
@@ -166,12 +226,14 @@ impl Tx {
         let csn = self.csn;
         let undo = self.undo.ranges;
         let redo = self.redo.ranges;
+        let extras = self.extras;
         TxExtents {
             id: own,
             status: self.status,
             csn: csn,
             undo: undo,
             redo: redo,
+            extras: extras,
         }
     }
 
@@ -187,13 +249,26 @@ impl Tx {
         self
     }
 
-    // Committing, with its redo records gone.
+    // One read range more.
+    pub fn read(mut self, addr: u16, len: u8) -> Self
+        requires { ⌜ self .extras .reads .count < maxRecords ⌝ }
+        ensures { λ r. ⌜ r ≡ withRead self addr len ⌝ }
+    {
+        let reads = self.extras.reads;
+        let more = reads.push(addr, len);
+        let extras = Extras { reads: more };
+        self.extras = extras;
+        self
+    }
+
+    // Committing, with its redo records and extras gone.
     pub fn precommit(mut self, csn: Csn) -> Self
         ensures { λ r. ⌜ r ≡ precommitted self csn ⌝ }
     {
         self.status = COMMITTING;
         self.csn = csn;
         self.redo = Records::empty();
+        self.extras = Extras::empty();
         self
     }
 

@@ -9,7 +9,7 @@ ghost use Rattle.layout.specs.{memoryLen, maxRecords, maxWrite};
 ghost use Rattle.recovery.specs.Lists.{any};
 ghost use Rattle.transaction.specs.Flat.{emptyRanges};
 ghost use Rattle.transaction.specs.View.{rangesOf};
-ghost use Rattle.transaction.specs.Rules.{recordsOk, sameRanges, meets, rangesSize};
+ghost use Rattle.transaction.specs.Rules.{recordsOk, sameRanges, meets, reach, rangesSize};
 ghost use Rattle.transaction.specs.Steps.{pushedRange};
 
 // Ranges, oldest first: the i-th is the len[i] bytes from addr[i] on.
@@ -89,6 +89,27 @@ impl Ranges {
             i += 1;
         }
         false
+    }
+
+    // How far the bytes from a place on lie in these ranges, each looked at once.
+    pub(crate) fn reach(self, from: usize) -> usize
+        requires { ⌜ self .count ≤ maxRecords ⌝ }
+        ensures { λ r. ⌜ r ≡ reach from (rangesOf self) ⌝ }
+    {
+        let n = self.count as usize;
+        let mut at = from;
+        let mut i: usize = 0;
+        while i < n {
+            let a = self.addr[i] as usize;
+            let to = a + self.len[i] as usize;
+            if a <= at {
+                if at < to {
+                    at = to;
+                }
+            }
+            i += 1;
+        }
+        at
     }
 
     // The bytes that redo records of these ranges take in the log.

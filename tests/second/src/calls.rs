@@ -1,7 +1,8 @@
 //! The calls that store nothing on disk: document 01, "The nine calls" and
-//! "Numbers in checking order". A refusal leaves everything untouched.
+//! "Numbers in checking order"; reads that hold: document 02, A.2. A refusal
+//! leaves everything untouched.
 
-use crate::layout::{range_ok, LOG_LEN, MAX_TXS, MAX_UNDOS};
+use crate::layout::{range_ok, Range, LOG_LEN, MAX_READS, MAX_TXS, MAX_UNDOS};
 use crate::log::{undo, Csn, Group, Log, Record, TxId, Write, COMMIT_SIZE};
 use crate::state::{Refusal, State, Status, Tx};
 
@@ -34,7 +35,13 @@ impl State {
         address: usize,
         bytes: &[u8],
     ) -> Result<(), Refusal> {
-        let (groups, index) = self.find_range(memory, tail, id, address, bytes.len())?;
+        let length = bytes.len();
+        let range = Range { address, length };
+        let (groups, index) = self.find_range(memory, tail, id, range)?;
+        let hinders = |tx: &Tx| tx.has_written_any_of(range) || tx.has_read_any_of(range);
+        if self.others(id).any(hinders) {
+            return Err(9);
+        }
         if self.txs[index].undo.len() == MAX_UNDOS {
             return Err(10);
         }
@@ -55,7 +62,8 @@ impl State {
         Ok(())
     }
 
-    /// Read: the part of memory itself, empty when refused.
+    /// Read: the part of memory itself; empty when refused, and where a byte is
+    /// not covered by what the transaction has read or written.
     pub fn read<'a>(
         &self,
         memory: &'a [u8],
@@ -64,22 +72,29 @@ impl State {
         address: usize,
         length: usize,
     ) -> &'a [u8] {
-        match self.check_read(memory, tail, id, address, length) {
-            Ok(()) => &memory[address..address + length],
-            Err(_) => &memory[0..0],
+        let range = Range { address, length };
+        match self.find_readable(memory, tail, id, range) {
+            Ok(index) if self.txs[index].covers(range) => &memory[range.places()],
+            _ => &memory[0..0],
         }
     }
 
-    /// Read's sister: the number of a read with the same arguments.
+    /// Read's sister: takes the hold, or tells why not.
     pub fn check_read(
-        &self,
+        &mut self,
         memory: &[u8],
         tail: &[u8],
         id: TxId,
         address: usize,
         length: usize,
     ) -> Result<(), Refusal> {
-        self.find_range(memory, tail, id, address, length)?;
+        let range = Range { address, length };
+        let index = self.find_readable(memory, tail, id, range)?;
+        let reads = &mut self.txs[index].reads;
+        if reads.len() == MAX_READS {
+            return Err(15);
+        }
+        reads.push(range);
         Ok(())
     }
 
@@ -90,6 +105,7 @@ impl State {
         let tx = &mut self.txs[index];
         tx.status = Status::Committing;
         tx.csn = csn;
+        tx.reads.clear();
         let writes = std::mem::take(&mut tx.redo);
         let group = Group::Commit { id, csn, writes };
         append(tail, groups.end, &group.encode());
@@ -129,24 +145,39 @@ impl State {
         Ok((groups, index))
     }
 
-    /// Numbers 1, 2 and 6 to 9, as write and read share them.
+    /// Numbers 1, 2 and 6 to 8, as write and read share them.
     fn find_range(
         &self,
         memory: &[u8],
         tail: &[u8],
         id: TxId,
-        address: usize,
-        length: usize,
+        range: Range,
     ) -> Result<(Log, usize), Refusal> {
         let (groups, index) = self.find_running(memory, tail, id)?;
-        if !range_ok(address, length) {
+        if !range_ok(range.address, range.length) {
             return Err(8);
         }
-        let mut others = self.txs.iter().filter(|tx| tx.id != id);
-        if others.any(|tx| tx.holds_any_of(address, length)) {
+        Ok((groups, index))
+    }
+
+    /// Numbers 1, 2 and 6 to 9 of read and its sister: readers don't hinder
+    /// readers.
+    fn find_readable(
+        &self,
+        memory: &[u8],
+        tail: &[u8],
+        id: TxId,
+        range: Range,
+    ) -> Result<usize, Refusal> {
+        let (_, index) = self.find_range(memory, tail, id, range)?;
+        if self.others(id).any(|tx| tx.has_written_any_of(range)) {
             return Err(9);
         }
-        Ok((groups, index))
+        Ok(index)
+    }
+
+    fn others(&self, id: TxId) -> impl Iterator<Item = &Tx> {
+        self.txs.iter().filter(move |tx| tx.id != id)
     }
 }
 

@@ -57,7 +57,7 @@ impl<'a> Reader<'a> {
     }
 }
 
-/// The state (redo lists empty) and memory of an image; none if it breaks a
+/// The state (redo lists and read ranges empty) and memory of an image; none if it breaks a
 /// rule. Counts, statuses and lengths are checked before they are stepped
 /// over, so the reading stays within the image's 8,653 bytes.
 pub fn decode(image: &[u8]) -> Option<(State, Vec<u8>)> {
@@ -103,13 +103,11 @@ fn decode_tx(reader: &mut Reader) -> Option<Tx> {
         let bytes = reader.take(length).to_vec();
         undo.push(Write { address, bytes });
     }
-    let redo = Vec::new();
     Some(Tx {
-        id,
         status,
         csn,
         undo,
-        redo,
+        ..Tx::begun(id)
     })
 }
 

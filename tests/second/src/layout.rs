@@ -14,11 +14,35 @@ pub const LOG_LEN: usize = 16_384;
 pub const MAX_TXS: usize = 8;
 pub const MAX_UNDOS: usize = 16;
 pub const MAX_LENGTH: usize = 32;
+/// The read ranges that a running transaction may have (document 02, A.2).
+pub const MAX_READS: usize = 16;
 
 /// The range rule of redo records, image undo records and number 8:
 /// length 1 to 32, address + length at most 4,096. Never wraps.
 pub fn range_ok(address: usize, length: usize) -> bool {
     (1..=MAX_LENGTH).contains(&length) && address <= MEMORY_LEN && address + length <= MEMORY_LEN
+}
+
+/// A range of memory.
+#[derive(Clone, Copy, Debug, PartialEq, Eq)]
+pub struct Range {
+    pub address: usize,
+    pub length: usize,
+}
+
+impl Range {
+    /// Some byte lies in both.
+    pub fn meets(self, other: Range) -> bool {
+        self.address < other.address + other.length && other.address < self.address + self.length
+    }
+
+    pub fn has(self, place: usize) -> bool {
+        self.places().contains(&place)
+    }
+
+    pub fn places(self) -> std::ops::Range<usize> {
+        self.address..self.address + self.length
+    }
 }
 
 /// An unsigned number of two bytes, highest byte first.

@@ -1,11 +1,14 @@
-//! Document 01 a second time, written from the document alone: the store,
-//! restart, disklist, equal in meaning, the ledger, a checker of demand 3, and
-//! a generator of streams for comparing two programs from the outside.
+//! Documents 01 and 02 a second time, written from the documents alone: the
+//! store, restart, disklist, equal in meaning, the ledger, a checker of what the
+//! documents claim, and a generator of streams for comparing two programs from
+//! the outside.
 
 pub mod calls;
 pub mod checker;
+pub mod demand;
 pub mod flush;
 pub mod gen;
+pub mod holds;
 pub mod image;
 pub mod layout;
 pub mod ledger;

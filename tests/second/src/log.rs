@@ -1,7 +1,7 @@
 //! Log records, groups and the log's end: document 01, "Disk, memory, tail";
 //! why it ends there: document 02, A.1.
 
-use crate::layout::{be16, be32, range_ok};
+use crate::layout::{be16, be32, range_ok, Range};
 
 /// A transaction id. 0 is no transaction's id.
 #[derive(Clone, Copy, Debug, Default, PartialEq, Eq, PartialOrd, Ord)]
@@ -37,8 +37,11 @@ impl Write {
         7 + self.bytes.len()
     }
 
-    pub fn covers_any_of(&self, address: usize, length: usize) -> bool {
-        self.address < address + length && address < self.address + self.bytes.len()
+    pub fn range(&self) -> Range {
+        Range {
+            address: self.address,
+            length: self.bytes.len(),
+        }
     }
 }
 

@@ -14,9 +14,9 @@ second disklist                    one disk on standard input
 second equal A B                   are the disks in two files equal in meaning: yes or no
 second gen SEED RECORDS [KIND]     a stream of records (KIND: mixed if none)
 second kinds                       the kinds, each with 'damaged', 'undamaged' or 'long'
-second check [every-store]         demand 3 after every record of a stream, up to the
-                                   first damage record; every-store: also after each
-                                   store inside a call
+second check [every-store]         demand 3 and document 02's claims after every record
+                                   of a stream, up to the first damage record;
+                                   every-store: also after each store inside a call
 second stats                       what a stream reaches
 ";
 
@@ -84,15 +84,20 @@ fn kinds() -> String {
 }
 
 fn check(failures: Failures) -> Result<Vec<u8>, String> {
-    let checked = checker::check(&input()?, failures)?;
+    let checked = checker::check(&input()?, failures).map_err(|faults| {
+        let lines = faults
+            .iter()
+            .map(|(c, fault)| format!("{}: {fault}", c.name()));
+        lines.collect::<Vec<String>>().join("\n")
+    })?;
     let extent = if checked.damaged {
         ", up to the first damage"
     } else {
         ""
     };
     let text = format!(
-        "demand 3 holds after each of {} records{extent} and {} failures inside calls; \
-         {} durable at the end\n",
+        "demand 3 and the claims of document 02 hold after each of {} records{extent} \
+         and {} failures inside calls; {} durable at the end\n",
         checked.records, checked.inside, checked.durable
     );
     Ok(text.into())

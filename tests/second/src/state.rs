@@ -1,7 +1,7 @@
 //! The state between calls, log room and number 2.
 
 use crate::image;
-use crate::layout::{LOG_LEN, MEMORY_LEN, TAIL_LEN};
+use crate::layout::{range_ok, Range, LOG_LEN, MAX_READS, MEMORY_LEN, TAIL_LEN};
 use crate::log::{read_log, Csn, Log, TxId, Write, COMMIT_SIZE};
 
 /// The number of a refusal (document 01, "Numbers in checking order").
@@ -21,6 +21,8 @@ pub struct Tx {
     pub csn: Csn,
     pub undo: Vec<Write>,
     pub redo: Vec<Write>,
+    /// The ranges read (document 02, A.2). Off the disk.
+    pub reads: Vec<Range>,
 }
 
 impl Tx {
@@ -31,6 +33,7 @@ impl Tx {
             csn: Csn(0),
             undo: Vec::new(),
             redo: Vec::new(),
+            reads: Vec::new(),
         }
     }
 
@@ -39,14 +42,35 @@ impl Tx {
     }
 
     /// "A byte is held while a running transaction has an undo record over it."
-    pub fn holds_any_of(&self, address: usize, length: usize) -> bool {
-        self.is_running() && self.undo.iter().any(|u| u.covers_any_of(address, length))
+    pub fn has_written_any_of(&self, range: Range) -> bool {
+        self.is_running() && self.undo.iter().any(|u| u.range().meets(range))
+    }
+
+    /// A byte read is held too, against others' writes alone.
+    pub fn has_read_any_of(&self, range: Range) -> bool {
+        self.is_running() && self.reads.iter().any(|r| r.meets(range))
+    }
+
+    /// Each byte of the range lies in a range that it has read or written.
+    pub fn covers(&self, range: Range) -> bool {
+        let written = self.undo.iter().map(Write::range);
+        let known: Vec<Range> = self.reads.iter().copied().chain(written).collect();
+        range
+            .places()
+            .all(|place| known.iter().any(|r| r.has(place)))
+    }
+
+    /// What number 2 asks of the read ranges.
+    fn reads_ok(&self) -> bool {
+        self.reads.len() <= MAX_READS
+            && self.reads.iter().all(|r| range_ok(r.address, r.length))
+            && (self.is_running() || self.reads.is_empty())
     }
 
     /// A running transaction's redo and undo records agree in count and ranges.
     fn lists_agree(&self) -> bool {
-        let range = |w: &Write| (w.address, w.bytes.len());
-        self.undo.iter().map(range).eq(self.redo.iter().map(range))
+        let (undo, redo) = (self.undo.iter(), self.redo.iter());
+        undo.map(Write::range).eq(redo.map(Write::range))
     }
 
     /// The log room that a running transaction takes.
@@ -87,12 +111,12 @@ impl State {
         if !self.recovered || !image::rules_hold(self) {
             return Err(2);
         }
-        let running = self.txs.iter().filter(|tx| tx.is_running());
-        if !running.clone().all(Tx::lists_agree) {
+        let mut running = self.txs.iter().filter(|tx| tx.is_running());
+        if !running.all(Tx::lists_agree) || !self.txs.iter().all(Tx::reads_ok) {
             return Err(2);
         }
         let groups = read_log(tail, self.csn_on_disk);
-        let then_zeros = tail[groups.end..].iter().all(|&byte| byte == 0);
+        let then_zeros = tail[groups.end..] == [0; TAIL_LEN][groups.end..];
         if groups.last != self.csn_assigned || !then_zeros {
             return Err(2);
         }

@@ -36,10 +36,14 @@ pub fn stats(stream: &[u8]) -> String {
     for call in calls(stream) {
         let need = stores_needed(&world, &call);
         let log = log_before(&world, &call);
+        let uncovered = is_uncovered(&world, &call);
         let outcome = world.run(&call);
         let name = call_name(&call);
         let mut count = |what: String| *counts.entry(what).or_default() += 1;
         count(format!("{name} {}", answer_name(&call, &outcome)));
+        if uncovered {
+            count(format!("{name} uncovered"));
+        }
         if let Some(need) = need {
             count(format!("{name} {}", allowance_name(&call, need)));
         }
@@ -80,6 +84,25 @@ fn answer_name(call: &Call, outcome: &Outcome) -> String {
         Answer::Yes => "yes".to_string(),
         Answer::No => "no".to_string(),
     }
+}
+
+/// A read that no number refuses, of bytes that are not all covered.
+fn is_uncovered(world: &World, call: &Call) -> bool {
+    let Call::Read {
+        id,
+        address,
+        length,
+    } = *call
+    else {
+        return false;
+    };
+    let (memory, tail) = (&world.memory, &world.tail);
+    let number = world
+        .state
+        .clone()
+        .check_read(memory, tail, id, address, length);
+    let part = world.state.read(memory, tail, id, address, length);
+    matches!(number, Ok(()) | Err(15)) && part.is_empty()
 }
 
 /// The log as a restart finds it.
@@ -145,6 +168,7 @@ struct Most {
     room: usize,
     txs: usize,
     undos: usize,
+    reads: usize,
 }
 
 impl Most {
@@ -160,13 +184,16 @@ impl Most {
         self.txs = self.txs.max(state.txs.len());
         let undos = state.txs.iter().map(|tx| tx.undo.len()).max();
         self.undos = self.undos.max(undos.unwrap_or(0));
+        let reads = state.txs.iter().map(|tx| tx.reads.len()).max();
+        self.reads = self.reads.max(reads.unwrap_or(0));
     }
 
     fn lines(&self) -> String {
         format!(
             "{:8} most log end\n{:8} most tail bytes\n{:8} most tail groups\n\
-             {:8} most log room used\n{:8} most transactions\n{:8} most undo records\n",
-            self.log_end, self.tail, self.tail_groups, self.room, self.txs, self.undos
+             {:8} most log room used\n{:8} most transactions\n{:8} most undo records\n\
+             {:8} most read ranges\n",
+            self.log_end, self.tail, self.tail_groups, self.room, self.txs, self.undos, self.reads
         )
     }
 }

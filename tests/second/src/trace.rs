@@ -319,13 +319,14 @@ impl World {
 
 fn state_field(state: &State) -> String {
     format!(
-        "{},{},{},{},{},{}",
+        "{},{},{},{},{},{},{}",
         state.recovered as u8,
         state.log_end,
         state.csn_on_disk.0,
         state.csn_assigned.0,
         state.last_id.0,
-        state.txs.len()
+        state.txs.len(),
+        state.txs.iter().map(|tx| tx.reads.len()).sum::<usize>()
     )
 }
 
@@ -333,10 +334,17 @@ fn state_field(state: &State) -> String {
 pub fn adler32(bytes: &[u8]) -> u32 {
     const MODULUS: u32 = 65_521;
     // As many bytes as can be summed before a u32 could overflow.
-    const STRETCH: usize = 5_552;
+    const STRETCH: usize = 173 * BLOCK;
     let (mut a, mut b) = (1u32, 0u32);
     for stretch in bytes.chunks(STRETCH) {
-        for &byte in stretch {
+        let blocks = stretch.chunks_exact(BLOCK);
+        let rest = blocks.remainder();
+        for block in blocks {
+            let (sum, weighted) = block_sums(block.try_into().expect("a whole block"));
+            b += BLOCK as u32 * a + weighted;
+            a += sum;
+        }
+        for &byte in rest {
             a += byte as u32;
             b += a;
         }
@@ -344,6 +352,21 @@ pub fn adler32(bytes: &[u8]) -> u32 {
         b %= MODULUS;
     }
     b << 16 | a
+}
+
+/// Bytes that are summed at once.
+const BLOCK: usize = 32;
+
+/// The sum of a block's bytes, and that of each times its distance from the
+/// block's end. Far below where a u32 would wrap; unchecked, it is quick.
+fn block_sums(block: &[u8; BLOCK]) -> (u32, u32) {
+    let (mut sum, mut weighted) = (0u32, 0u32);
+    for (place, &byte) in block.iter().enumerate() {
+        let weight = (BLOCK as u32).wrapping_sub(place as u32);
+        sum = sum.wrapping_add(byte as u32);
+        weighted = weighted.wrapping_add(weight.wrapping_mul(byte as u32));
+    }
+    (sum, weighted)
 }
 
 /// The calls of a stream; an incomplete last record is ignored.

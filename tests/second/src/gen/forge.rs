@@ -80,7 +80,7 @@ impl Generator {
     /// Everything, in a fixed round; after the first part, each from an
     /// emptied log.
     pub fn mixed(&mut self) {
-        let parts: [(usize, Scene); 13] = [
+        let parts: [(usize, Scene); 14] = [
             (180, Generator::plain),
             (12, Generator::unrecovered),
             (80, Generator::broken_off),
@@ -89,6 +89,7 @@ impl Generator {
             (80, Generator::damaged_pointer),
             (240, Generator::near_full),
             (200, Generator::limits),
+            (120, Generator::readers),
             (150, Generator::cuts),
             (120, Generator::forged),
             (200, Generator::aborts_near_full),

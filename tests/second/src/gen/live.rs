@@ -1,7 +1,7 @@
 //! Random calls on a running store.
 
 use super::Generator;
-use crate::layout::{LOG_LEN, MAX_LENGTH, MEMORY_LEN};
+use crate::layout::{Range, LOG_LEN, MAX_LENGTH, MEMORY_LEN};
 use crate::log::{Csn, Record, TxId, Write};
 use crate::state::Status;
 use crate::trace::{Call, MAX_DATA};
@@ -42,8 +42,8 @@ pub const PLAIN: Habits = Habits {
     weights: &[
         (Action::Begin, 14),
         (Action::Write, 22),
-        (Action::Read, 7),
-        (Action::CheckRead, 5),
+        (Action::Read, 9),
+        (Action::CheckRead, 7),
         (Action::Precommit, 13),
         (Action::Abort, 4),
         (Action::Flush, 10),
@@ -64,6 +64,8 @@ pub const CUTS: Habits = Habits {
     weights: &[
         (Action::Begin, 16),
         (Action::Write, 20),
+        (Action::Read, 4),
+        (Action::CheckRead, 5),
         (Action::Precommit, 14),
         (Action::Abort, 3),
         (Action::Flush, 18),
@@ -182,22 +184,12 @@ impl Generator {
             }
             Action::Write => self.write_some(habits),
             Action::Read => {
-                let id = self.some_id(Some(Status::Running), habits.wild);
-                let (address, length) = self.some_range(habits);
-                self.emit(Call::Read {
-                    id,
-                    address,
-                    length,
-                });
+                let (id, address, length) = self.something_to_read(habits);
+                self.read(id, address, length);
             }
             Action::CheckRead => {
-                let id = self.some_id(Some(Status::Running), habits.wild);
-                let (address, length) = self.some_range(habits);
-                self.emit(Call::CheckRead {
-                    id,
-                    address,
-                    length,
-                });
+                let (id, address, length) = self.something_to_read(habits);
+                self.check_read(id, address, length);
             }
             Action::Precommit => {
                 let id = self.some_id(Some(Status::Running), habits.wild);
@@ -242,6 +234,37 @@ impl Generator {
             self.rng.bytes(length)
         };
         self.emit(Call::Write { id, address, bytes });
+    }
+
+    /// A transaction and what it is to read: often about what it has read or
+    /// written, also over two such ranges or a byte past them.
+    fn something_to_read(&mut self, habits: &Habits) -> (TxId, usize, usize) {
+        let id = self.some_id(Some(Status::Running), habits.wild);
+        let known = self.known_ranges(id);
+        if known.is_empty() || self.rng.percent(40) {
+            let (address, length) = self.some_range(habits);
+            return (id, address, length);
+        }
+        let (one, other) = (self.rng.pick(&known), self.rng.pick(&known));
+        let from = one.address.min(other.address);
+        let to = one.places().end.max(other.places().end);
+        let past = self.rng.pick(&[0, 0, 0, 1]);
+        if to - from <= MAX_LENGTH {
+            (id, from, to - from + past)
+        } else {
+            (id, one.address, one.length + past)
+        }
+    }
+
+    /// What a transaction has read or written.
+    fn known_ranges(&self, id: TxId) -> Vec<Range> {
+        let state = &self.world.state;
+        let Some(index) = state.find(id) else {
+            return Vec::new();
+        };
+        let tx = &state.txs[index];
+        let written = tx.undo.iter().map(Write::range);
+        tx.reads.iter().copied().chain(written).collect()
     }
 
     /// An id of that status if one is listed; a wild one is any.

@@ -3,6 +3,7 @@
 
 mod forge;
 mod live;
+mod reads;
 mod scenes;
 
 use crate::layout::LOG_LEN;

@@ -34,17 +34,17 @@ impl Generator {
     }
 
     /// Begins a transaction, if one may begin.
-    fn begin(&mut self) -> Option<TxId> {
+    pub fn begin(&mut self) -> Option<TxId> {
         let outcome = self.emit(Call::Begin);
         (outcome.answer == Answer::Done).then_some(TxId(outcome.value as u16))
     }
 
-    fn write(&mut self, id: TxId, address: usize, bytes: Vec<u8>) {
+    pub fn write(&mut self, id: TxId, address: usize, bytes: Vec<u8>) {
         self.emit(Call::Write { id, address, bytes });
     }
 
     /// Settles what is on disk and ends every running transaction.
-    fn tidy(&mut self) {
+    pub fn tidy(&mut self) {
         for id in self.ids_listed(true) {
             if self.rng.percent(50) {
                 self.emit(Call::Abort { id });
@@ -76,6 +76,7 @@ impl Generator {
             let bytes = self.rng.bytes(length);
             self.write(id, address, bytes);
         }
+        self.maybe_reads(id, 10);
         self.emit(Call::Precommit { id });
         self.flush(LOG_LEN, 0);
         self.emit(Call::Settle { id });
@@ -194,6 +195,7 @@ impl Generator {
                 let bytes = self.rng.bytes(3);
                 self.write(id, address, bytes);
             }
+            self.maybe_reads(id, writes / 2);
             // The last one that fits may fill the tail to its last byte.
             let last = self.room_left() == 0 && self.rng.percent(70);
             let listed = self.world.state.txs.len();
@@ -248,6 +250,7 @@ impl Generator {
             if let Some(id) = self.begin() {
                 let address = self.rng.below(32);
                 let bytes = self.rng.bytes(4);
+                self.maybe_reads(id, 30);
                 self.write(id, address, bytes);
             }
         }
@@ -316,6 +319,7 @@ impl Generator {
         self.eight_transactions(length, sixteen);
         self.try_holds();
         self.try_refused_ids();
+        self.within(30, Generator::readers);
         self.within(60, |g| g.live_call(&WILD));
         match self.rng.below(4) {
             0 => {

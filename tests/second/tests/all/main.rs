@@ -4,6 +4,7 @@ mod cases;
 mod excerpt;
 mod ledger;
 mod number2;
+mod reads;
 mod restart;
 mod rig;
 mod stops;

@@ -51,6 +51,28 @@ impl Rig {
         }))
     }
 
+    /// The part that a read hands back.
+    pub fn read(&self, id: u16, address: usize, length: usize) -> Vec<u8> {
+        let world = &self.world;
+        let part = world
+            .state
+            .read(&world.memory, &world.tail, TxId(id), address, length);
+        part.to_vec()
+    }
+
+    pub fn commits(&mut self, id: u16) {
+        self.precommit(id).unwrap();
+    }
+
+    pub fn aborts(&mut self, id: u16) {
+        self.abort(id).unwrap();
+    }
+
+    pub fn line_of_begin(&mut self) -> String {
+        let outcome = self.run(Call::Begin);
+        self.world.line(&Call::Begin, &outcome)
+    }
+
     pub fn precommit(&mut self, id: u16) -> Result<Csn, u8> {
         let outcome = self.run(Call::Precommit { id: TxId(id) });
         number(outcome).map(|()| Csn(outcome.value))

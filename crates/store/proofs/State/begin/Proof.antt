@@ -30,7 +30,7 @@ admitted c =
     admitted-by (a .self) _ (c .before .extents .ensures) (length (a .memory .now)) (a .tail .now) _ (c .admit .ensures)
 
 begin-number-requires : tie.Need-begin-number-requires
-begin-number-requires c κs = λ h. seen _ _ _ _ (admitted c) h .1
+begin-number-requires c κs = λ h. seen _ _ _ _ (admitted c) h .2
 
 abbrev start : tie.After-begin-number → tie.Start
 start c = c .before .before .before .before .before

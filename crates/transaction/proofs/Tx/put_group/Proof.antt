@@ -1,7 +1,7 @@
 use borrow.Author.Needs.{needs}
 use Prim.Native.Nat.{ℕ, _≤_, _<_}
 use native.Mathlib.Omega.{arith}
-use mathlib.Core.Path.{_≡_}
+use mathlib.Core.Path.{_≡_, sym}
 use lib.ListN.{length, getD}
 use Rattle.transaction.proofs.RangeLaws.{counted, ranged}
 use Rattle.transaction.proofs.Writes.{sized}
@@ -23,10 +23,10 @@ lengths : (c : tie.After-struct-known)
 lengths c = (search needs, search needs, search needs)
 
 slice-aggregate-put-group : tie.Need-slice-aggregate-put-group
-slice-aggregate-put-group c = search needs
+slice-aggregate-put-group c = sym (lengths (c .before .before .before .before .before) .0)
 
 slice-aggregate-put-group-2 : tie.Need-slice-aggregate-put-group-2
-slice-aggregate-put-group-2 c = search needs
+slice-aggregate-put-group-2 c = sym (lengths (c .before .before .before .before .before .before) .1)
 
 slice-aggregate-put-group-3 : tie.Need-slice-aggregate-put-group-3
 slice-aggregate-put-group-3 c = search needs

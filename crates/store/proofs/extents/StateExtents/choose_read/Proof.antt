@@ -4,7 +4,7 @@ use mathlib.Core.Bool.{true, false}
 use mathlib.Core.List.{[], _∷_}
 use mathlib.Core.Path.{_≡_, refl, sym, _∙_}
 use Rattle.recovery.specs.Lists.{any}
-use Rattle.transaction.specs.Rules.{heldAgainst}
+use Rattle.transaction.specs.Rules.{reading, heldAgainst}
 use Rattle.store.specs.State.{txsOf}
 use Rattle.store.specs.Extents.{bareState}
 use Rattle.store.specs.Numbers.{abortChecks, rangeChecks, check7, check8, check9}
@@ -30,7 +30,7 @@ returns : tie.Need-returns
 returns c =
     let a = c .before .before .before .before .args in
     choice-stops _ _ _ _ (rangeChecks (bareState (a .self)) (a .id .0) (a .addr) (a .len)) (ranged (c .before .before)) refl
-    (check9 (bareState (a .self)) (a .id .0) (a .addr) (a .len) ∷ []) (c .if1 .taken)
+    (check9 (bareState (a .self)) reading (a .id .0) (a .addr) (a .len) ∷ []) (c .if1 .taken)
 
 -- numbers 1, 2 and 6 to 8 do not refuse
 found : (c : tie.Else1) → let a = c .before .before .before .before .args in
@@ -41,7 +41,7 @@ held-requires : tie.Need-held-requires
 held-requires c κs =
     let a = c .before .before .before .before .args in
     let g = chosen-range (bareState (a .self)) (a .id .0) (a .addr) (a .len) (found c .own) in
-    (found c .rules, omega (arith, g .within), g .short)
+    (found c .rules, found c .states, omega (arith, g .within), g .short)
 
 refuse-requires : tie.Need-refuse-requires
 refuse-requires c κs = search needs
@@ -49,14 +49,14 @@ refuse-requires c κs = search needs
 returns-2 : tie.Need-returns-2
 returns-2 c =
     let a = c .before .before .before .before .before .before .before .args in
-    let held : any (heldAgainst (a .id .0) (a .addr) (a .len)) (txsOf (bareState (a .self))) ≡ true = sym (c .before .before .held .ensures) ∙ c .before .if2 .taken in
-    found (c .before .before .before) .refuses (check9 (bareState (a .self)) (a .id .0) (a .addr) (a .len) ∷ []) 9 refl (rw held) (c .refuse .ensures)
+    let held : any (heldAgainst reading (a .id .0) (a .addr) (a .len)) (txsOf (bareState (a .self))) ≡ true = sym (c .before .before .held .ensures) ∙ c .before .if2 .taken in
+    found (c .before .before .before) .refuses (check9 (bareState (a .self)) reading (a .id .0) (a .addr) (a .len) ∷ []) 9 refl (rw held) (c .refuse .ensures)
 
 returns-3 : tie.Need-returns-3
 returns-3 c =
     let a = c .before .before .before .before .before .before .args in
-    let free : any (heldAgainst (a .id .0) (a .addr) (a .len)) (txsOf (bareState (a .self))) ≡ false = sym (c .before .held .ensures) ∙ c .if2 .left in
-    found (c .before .before) .goes (check9 (bareState (a .self)) (a .id .0) (a .addr) (a .len) ∷ []) (rw free)
+    let free : any (heldAgainst reading (a .id .0) (a .addr) (a .len)) (txsOf (bareState (a .self))) ≡ false = sym (c .before .held .ensures) ∙ c .if2 .left in
+    found (c .before .before) .goes (check9 (bareState (a .self)) reading (a .id .0) (a .addr) (a .len) ∷ []) (rw free)
 
 pub choose-read-spec : {M : Type 1} → statement M
 choose-read-spec =

@@ -8,7 +8,7 @@ use lib.ListN.{getD}
 use borrow.Author.Tests.{eq-eqb, ne-eqb, lt-ltb, le-ltb}
 use Rattle.recovery.specs.Lists.{any}
 use Rattle.transaction.specs.declared.Tx.{Tx}
-use Rattle.transaction.specs.Rules.{heldAgainst}
+use Rattle.transaction.specs.Rules.{writing, heldAgainst}
 use Rattle.store.specs.State.{txAt, txsOf}
 use Rattle.store.specs.Extents.{noExtents, bareState}
 use Rattle.store.specs.Numbers.{Check, txOf, check7, check8, check9, check10, check13, abortChecks, rangeChecks}
@@ -20,7 +20,7 @@ use Rattle.store.proofs.extents.StateExtents.choose_write.Tie as tie
 
 -- what is checked after the range
 abbrev last : tie.Start → List Check
-last c = let a = c .args in check9 (bareState (a .t1)) (a .id .0) (a .addr) (a .len) ∷ check10 (bareState (a .t1)) (a .id .0) ∷ check13 (a .admitted .room) (a .len) ∷ []
+last c = let a = c .args in check9 (bareState (a .t1)) writing (a .id .0) (a .addr) (a .len) ∷ check10 (bareState (a .t1)) (a .id .0) ∷ check13 (a .admitted .room) (a .len) ∷ []
 
 choose-running-requires : tie.Need-choose-running-requires
 choose-running-requires c κs = c .pre
@@ -50,7 +50,7 @@ range : (c : tie.Else1) → let a = c .before .before .before .before .args in R
 range c = let a = c .before .before .before .before .args in chosen-range (bareState (a .t1)) (a .id .0) (a .addr) (a .len) (found c .own)
 
 held-requires : tie.Need-held-requires
-held-requires c κs = (found c .rules, omega (arith, range c .within), range c .short)
+held-requires c κs = (found c .rules, found c .states, omega (arith, range c .within), range c .short)
 
 refuse-requires : tie.Need-refuse-requires
 refuse-requires c κs = search needs
@@ -60,7 +60,7 @@ returns-2 c =
     let else = c .before .before .before in
     let start = else .before .before .before .before in
     let a = start .args in
-    let held : any (heldAgainst (a .id .0) (a .addr) (a .len)) (txsOf (bareState (a .t1))) ≡ true = sym (c .before .before .held .ensures) ∙ c .before .if2 .taken in
+    let held : any (heldAgainst writing (a .id .0) (a .addr) (a .len)) (txsOf (bareState (a .t1))) ≡ true = sym (c .before .before .held .ensures) ∙ c .before .if2 .taken in
     found else .refuses (last start) 9 refl (rw held) (c .refuse .ensures)
 
 -- its undo records are those in the slot chosen
@@ -81,7 +81,7 @@ refuse-requires-2 c κs = search needs
 
 -- no other holds a byte of the range
 free : (c : tie.Else2) → let a = c .before .before .before .before .before .before .args in
-    any (heldAgainst (a .id .0) (a .addr) (a .len)) (txsOf (bareState (a .t1))) ≡ false
+    any (heldAgainst writing (a .id .0) (a .addr) (a .len)) (txsOf (bareState (a .t1))) ≡ false
 free c = sym (c .before .held .ensures) ∙ c .if2 .left
 
 returns-3 : tie.Need-returns-3

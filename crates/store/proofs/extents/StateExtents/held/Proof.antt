@@ -6,8 +6,9 @@ use mathlib.Core.Path.{_≡_, sym, ap, _∙_, subst}
 use Rattle.recovery.specs.Lists.{any}
 use Rattle.transaction.specs.declared.Tx.{Tx}
 use Rattle.transaction.specs.Lists.{upFrom}
-use Rattle.transaction.specs.Rules.{heldAgainst}
-use Rattle.transaction.proofs.Lists.{up-done, any-hit, any-miss}
+use Rattle.transaction.specs.Rules.{stateOk, heldAgainst}
+use Rattle.transaction.proofs.Lists.{up-done, every-at, any-hit, any-miss}
+use Rattle.transaction.proofs.StateRule.{few-reads}
 use Rattle.transaction.proofs.RangeLaws.{counted}
 use Rattle.image.proofs.Rules.{image-count, undo-at}
 use Rattle.store.specs.State.{txAt, txsOf, imageOf}
@@ -17,11 +18,11 @@ use Rattle.store.proofs.extents.StateExtents.held.Statement.{statement}
 use Rattle.store.proofs.extents.StateExtents.held.Tie as tie
 
 abbrev Inv-loop : tie.InvT-loop
-Inv-loop id addr len self n i₀ i =
-    (i ≤ n) × (any (heldAgainst (id .0) addr len) (txsOf (bareState self)) ≡ any (heldAgainst (id .0) addr len) (upFrom (txAt (bareState self)) (n - i) i))
+Inv-loop writing id addr len self n i₀ i =
+    (i ≤ n) × (any (heldAgainst writing (id .0) addr len) (txsOf (bareState self)) ≡ any (heldAgainst writing (id .0) addr len) (upFrom (txAt (bareState self)) (n - i) i))
 
 abbrev μ-loop : tie.MeasureT-loop
-μ-loop id addr len self n i₀ i = n - i
+μ-loop writing id addr len self n i₀ i = n - i
 
 cast-n : tie.Need-cast-n Inv-loop μ-loop
 cast-n c = search needs
@@ -41,8 +42,11 @@ holds-against-requires c κs =
     let i = c .before .before .loop .i in (
       subst (λ (t : Tx). t .undo .ranges .count ≤ 16) (bare-at e i)
           (counted (txAt (bareState e) i .undo .ranges) (undo-at (imageOf (bareState e)) (c .before .before .before .pre .0) i (c .before .loop-test .taken))),
-      c .before .before .before .pre .1,
+      subst (λ (t : Tx). t .extras .reads .count ≤ 16) (bare-at e i)
+          (few-reads (txAt (bareState e) i) (every-at (txAt (bareState e)) stateOk (e .count) 0 (c .before .before .before .pre .1) i (omega arith)
+          (omega (arith, c .before .loop-test .taken)))),
       c .before .before .before .pre .2,
+      c .before .before .before .pre .3,
     )
 
 returns : tie.Need-returns Inv-loop μ-loop
@@ -50,8 +54,8 @@ returns c =
     let a = c .before .before .before .before .before .args in
     let i = c .before .before .before .before .loop .i in
     sym (c .before .before .before .before .loop .inv .1
-    ∙ any-hit (txAt (bareState (a .t1))) _ _ (c .before .before .before .loop-test .taken) (heldAgainst _ _ _)
-    (ap (heldAgainst (a .id .0) (a .addr) (a .len)) (bare-at (a .t1) i) ∙ sym (c .before .holds-against .ensures) ∙ c .if1 .taken))
+    ∙ any-hit (txAt (bareState (a .t1))) _ _ (c .before .before .before .loop-test .taken) (heldAgainst _ _ _ _)
+    (ap (heldAgainst (a .writing) (a .id .0) (a .addr) (a .len)) (bare-at (a .t1) i) ∙ sym (c .before .holds-against .ensures) ∙ c .if1 .taken))
 
 add-i : tie.Need-add-i Inv-loop μ-loop
 add-i c = search needs
@@ -65,15 +69,15 @@ loop-again c =
     let i = c .before .before .before .before .loop .i in (
       omega arith,
       c .before .before .before .before .loop .inv .1
-          ∙ any-miss (txAt (bareState (a .t1))) _ _ (c .before .before .before .loop-test .taken) (heldAgainst _ _ _)
-          (ap (heldAgainst (a .id .0) (a .addr) (a .len)) (bare-at (a .t1) i) ∙ sym (c .before .holds-against .ensures) ∙ c .if1 .left),
+          ∙ any-miss (txAt (bareState (a .t1))) _ _ (c .before .before .before .loop-test .taken) (heldAgainst _ _ _ _)
+          (ap (heldAgainst (a .writing) (a .id .0) (a .addr) (a .len)) (bare-at (a .t1) i) ∙ sym (c .before .holds-against .ensures) ∙ c .if1 .left),
     )
 
 returns-2 : tie.Need-returns-2 Inv-loop μ-loop
 returns-2 c =
     let args = c .before .before .args in
     let s = bareState (args .t1) in
-    sym (c .before .loop .inv .1 ∙ ap (any (heldAgainst (args .id .0) (args .addr) (args .len)))
+    sym (c .before .loop .inv .1 ∙ ap (any (heldAgainst (args .writing) (args .id .0) (args .addr) (args .len)))
     (up-done (txAt s) (s .count) (c .before .loop .i) (c .loop-test .left)))
 
 pub held-spec : {M : Type 1} → statement M

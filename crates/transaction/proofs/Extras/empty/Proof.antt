@@ -1,0 +1,12 @@
+use borrow.Author.Needs.{needs}
+use Rattle.transaction.proofs.Extras.empty.Statement.{statement}
+use Rattle.transaction.proofs.Extras.empty.Tie as tie
+
+empty-requires : tie.Need-empty-requires
+empty-requires c κs = search needs
+
+returns : tie.Need-returns
+returns c = rw (c .empty .ensures)
+
+pub empty-spec : {M : Type 1} → statement M
+empty-spec = tie.close (tie.spec empty-requires returns)
