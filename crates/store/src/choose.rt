@@ -25,6 +25,11 @@ ghost use Rattle.store.specs.Rules.{keepsImageRules};
 ghost use Rattle.store.specs.Numbers.{check8, beginChecks, readChecks, answerChecks, writeChecks, precommitChecks, abortChecks, settleChecks};
 ghost use Rattle.store.specs.Admission.{numberAfter, listedChecks, refusal, choice, after, Seen};
 
+// What bytes are wanted for, to number 9.
+const READING: bool = false;
+
+const WRITING: bool = true;
+
 // The number that refuses, 0 for none; if none, the slot, where the tail's groups end and the log room used.
 pub(crate) struct Choice {
     pub number: u8,
@@ -163,7 +168,7 @@ impl StateExtents {
         if ranged.number != 0 {
             return ranged;
         }
-        if self.held(false, id, addr, len) {
+        if self.held(READING, id, addr, len) {
             return refuse(9);
         }
         ranged
@@ -217,7 +222,7 @@ impl StateExtents {
         if ranged.number != 0 {
             return ranged;
         }
-        if self.held(true, id, addr, len) {
+        if self.held(WRITING, id, addr, len) {
             return refuse(9);
         }
         let slot = ranged.slot;
