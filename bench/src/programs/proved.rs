@@ -2,7 +2,7 @@
 //! comes back in the reply.
 
 use super::flat::{flat, unflat};
-use super::outcome::{part, stored, yes_or_no};
+use super::outcome::{part, stored, told, yes_or_no};
 use super::{Buffers, Program, StepWrite};
 use crate::tuned::state::State;
 use second::log::Stop;
@@ -21,7 +21,7 @@ struct Reply {
     state: State,
 }
 
-const _: () = assert!(size_of::<State>() == 9_488 && size_of::<Reply>() == 9_504);
+const _: () = assert!(size_of::<State>() == 9_552 && size_of::<Reply>() == 9_568);
 
 /// Of the first groups: `answer` and `number` as in `Reply`.
 #[repr(C)]
@@ -73,6 +73,24 @@ mod c {
             id: u16,
             addr: usize,
             len: usize,
+        ) -> Reply;
+        pub fn luppaneth_savepoint(
+            state: State,
+            memory: *const u8,
+            memory_len: usize,
+            tail: *const u8,
+            tail_len: usize,
+            id: u16,
+            name: u8,
+        ) -> Reply;
+        pub fn luppaneth_go_back(
+            state: State,
+            memory: *mut u8,
+            memory_len: usize,
+            tail: *const u8,
+            tail_len: usize,
+            id: u16,
+            name: u8,
         ) -> Reply;
         pub fn luppaneth_precommit(
             state: State,
@@ -135,6 +153,13 @@ mod c {
             memory_len: usize,
             groups: usize,
         ) -> GroupsReply;
+        pub fn luppaneth_read_page(
+            disk: *const u8,
+            disk_len: usize,
+            page: usize,
+            buffer: *mut u8,
+            buffer_len: usize,
+        ) -> u8;
         pub fn luppaneth_equal(a: *const u8, a_len: usize, b: *const u8, b_len: usize) -> bool;
     }
 }
@@ -199,6 +224,19 @@ impl Proved {
     }
 
     #[inline(never)]
+    fn savepoint(&mut self, id: u16, name: u8) -> Outcome {
+        let reply = call!(luppaneth_savepoint, *self.state; self.lent; shared memory, shared tail; id, name);
+        self.told(&reply)
+    }
+
+    #[inline(never)]
+    fn go_back(&mut self, id: u16, name: u8) -> Outcome {
+        let reply =
+            call!(luppaneth_go_back, *self.state; self.lent; lent memory, shared tail; id, name);
+        self.told(&reply)
+    }
+
+    #[inline(never)]
     fn precommit(&mut self, id: u16) -> Outcome {
         let reply =
             call!(luppaneth_precommit, *self.state; self.lent; shared memory, lent tail; id);
@@ -249,6 +287,16 @@ impl Proved {
             stores: csn as usize,
             ..Outcome::told(answered(answer, number), end as u32)
         }
+    }
+
+    #[inline(never)]
+    fn one_page(&mut self, page: usize) -> Outcome {
+        let buffer = &mut self.lent.page;
+        let number = call!(luppaneth_read_page,; self.lent; shared disk; page, buffer.as_mut_ptr(), buffer.len());
+        told(match black_box(number) {
+            0 => Ok(0),
+            number => Err(number),
+        })
     }
 }
 
@@ -305,6 +353,8 @@ impl Program for Proved {
                 address,
                 length,
             } => self.read_answer(id.0, *address, *length),
+            Call::SetSavepoint { id, name } => self.savepoint(id.0, *name),
+            Call::GoBack { id, name } => self.go_back(id.0, *name),
             Call::Precommit { id } => self.precommit(id.0),
             Call::Abort { id } => self.abort(id.0),
             Call::Flush { groups, allowed } => self.flush(*groups, *allowed),
@@ -313,6 +363,7 @@ impl Program for Proved {
             Call::Restart { allowed } => self.restart(*allowed),
             Call::Equal => yes_or_no(call!(luppaneth_equal,; self.lent; shared disk, shared kept;)),
             Call::FirstGroups { groups } => self.first_groups(*groups),
+            Call::OnePage { page } => self.one_page(*page),
             _ => stored(Ok((false, 0, 0))),
         }
     }

@@ -2,7 +2,7 @@
 
 use super::outcome::{part, reached, restarted, stored, told, yes_or_no};
 use super::{Buffers, Program, StepWrite};
-use second::inspect::first_groups;
+use second::inspect::{first_groups, one_page};
 use second::layout::{MAX_TXS, MAX_UNDOS};
 use second::log::Write;
 use second::restart::{equal_in_meaning, restart};
@@ -67,6 +67,7 @@ impl Program for Second {
             memory,
             tail,
             seen,
+            page: buffer,
         } = &mut self.lent;
         let state = &mut self.state;
         match call {
@@ -87,6 +88,10 @@ impl Program for Second {
                 let result = state.check_read(memory, tail, *id, *address, *length);
                 told(result.map(|()| 0))
             }
+            Call::SetSavepoint { id, name } => {
+                told(state.set_savepoint(memory, tail, *id, *name).map(|()| 0))
+            }
+            Call::GoBack { id, name } => told(state.go_back(memory, tail, *id, *name).map(|()| 0)),
             Call::Precommit { id } => told(state.precommit(memory, tail, *id).map(|csn| csn.0)),
             Call::Abort { id } => told(state.abort(memory, tail, *id).map(|()| 0)),
             Call::Flush { groups, allowed } => {
@@ -111,6 +116,7 @@ impl Program for Second {
             Call::FirstGroups { groups } => {
                 reached(first_groups(disk, seen, *groups).map(|r| (r.log_end, r.csn.0)))
             }
+            Call::OnePage { page } => told(one_page(disk, buffer, *page).map(|()| 0)),
             _ => told(Ok(0)),
         }
     }
