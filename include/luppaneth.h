@@ -103,6 +103,14 @@ struct luppaneth_reply {
     struct luppaneth_state state; /* for the next call; as it went in where refused. Restart's, refused or cut: the unrecovered one */
 };
 
+/* Of luppaneth_first_groups. */
+struct luppaneth_groups_reply {
+    uint8_t answer; /* enum luppaneth_answer */
+    uint8_t number; /* enum luppaneth_number where refused, else 0 */
+    uint32_t csn;   /* the last commit number reached; 0 where refused */
+    size_t end;     /* the log's end reached, counted from its first byte; 0 where refused */
+};
+
 /* ---- The library's calls. memory, tail and disk have to have the lengths above, else number 1. */
 
 /* The state before any restart. Every other call refuses it by number 2. */
@@ -152,6 +160,11 @@ struct luppaneth_reply luppaneth_checkpoint(struct luppaneth_state state, unsign
  * ended where it did, before it was cleared. */
 struct luppaneth_reply luppaneth_restart(unsigned char *disk, size_t disk_len, unsigned char *memory, size_t memory_len, unsigned char *tail,
                                          size_t tail_len, size_t allowed);
+
+/* Looks at a disk without a state and stores nothing on it: memory becomes what it is after the first groups of the log from the image's place
+ * on, or all if there are fewer, on the way through a restart. Refused by 1 (memory stays), 3 or 4 (memory is zeroed). */
+struct luppaneth_groups_reply luppaneth_first_groups(const unsigned char *disk, size_t disk_len, unsigned char *memory, size_t memory_len,
+                                                     size_t groups);
 
 /* Whether a restart accepts both disks and leaves the same memory. Neither is changed. */
 bool luppaneth_equal(const unsigned char *a, size_t a_len, const unsigned char *b, size_t b_len);
@@ -204,6 +217,15 @@ static inline int lup_restart(struct luppaneth *l, size_t allowed, uint32_t *und
     *undone = r.value;
     l->stop = r.stop;
     return lup_take(l, &r);
+}
+
+/* Memory as it is after the first groups of l->disk's log: for a look at a disk before its restart, which makes memory anew. */
+static inline int lup_first_groups(struct luppaneth *l, size_t groups, size_t *end, uint32_t *csn)
+{
+    struct luppaneth_groups_reply r = luppaneth_first_groups(l->disk, sizeof l->disk, l->memory, sizeof l->memory, groups);
+    *end = r.end;
+    *csn = r.csn;
+    return r.number;
 }
 
 static inline int lup_begin(struct luppaneth *l, uint16_t *id)

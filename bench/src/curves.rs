@@ -1,10 +1,11 @@
-//! What is plotted: restart over the log's length, begin over the tail's.
+//! What is plotted: restart over the log's length, twice, and begin over the
+//! tail's.
 
 use crate::clock::Clock;
 use crate::measure::{self, Times};
-use crate::plot::{Curve, Plot};
+use crate::plot::{Curve, Plot, Times as Axis};
 use crate::programs::Program;
-use crate::rows::{abort_many, commit_groups, logged, opened, RESTART};
+use crate::rows::{abort_many, commit_groups, logged, opened, EMPTY_GROUPS, FULL_GROUPS, RESTART};
 use second::layout::MAX_UNDOS;
 use second::log::Csn;
 use second::trace::{Call, World};
@@ -12,8 +13,6 @@ use std::path::Path;
 
 /// Points of a curve, beside the one at 0.
 const POINTS: usize = 8;
-const FULL_GROUPS: usize = 25;
-const EMPTY_GROUPS: usize = 2_033;
 const ABORTS: usize = 4_060;
 
 const COLOURS: [(&str, &str); 3] = [
@@ -22,7 +21,7 @@ const COLOURS: [(&str, &str); 3] = [
     ("tuned", "#2e8b57"),
 ];
 
-/// Writes both plots into a folder. All their points are gone through together,
+/// Writes the plots into a folder. All their points are gone through together,
 /// so that a slow moment of the machine bends no curve.
 pub fn write_all(
     folder: &Path,
@@ -37,20 +36,40 @@ pub fn write_all(
     let calls: Vec<_> = points().collect();
     let times = measure::least(|| measure::calls(clock, programs, &calls));
     let names: Vec<&str> = programs.iter().map(|program| program.name()).collect();
-    let mut curves = curves(&sets, &names, &times);
-    let begin = Plot {
-        title: "Begin over the length of the tail, time on a logarithmic scale".to_string(),
-        x_title: "bytes of groups in the tail".to_string(),
-        curves: curves.split_off(curves.len() / 2),
-    };
-    let restart = Plot {
-        title: "Restart over the length of the log, time on a logarithmic scale".to_string(),
-        x_title: "bytes of groups in the log".to_string(),
-        curves,
-    };
-    std::fs::write(folder.join("restart.svg"), restart.svg())?;
-    std::fs::write(folder.join("tail.svg"), begin.svg())
+    let mut curves = curves(&sets, &names, &times).into_iter();
+    for (file, title, x_title, axis) in PLOTS {
+        let plot = Plot {
+            title: title.to_string(),
+            x_title: x_title.to_string(),
+            axis,
+            curves: curves.by_ref().take(2 * names.len()).collect(),
+        };
+        std::fs::write(folder.join(file), plot.svg())?;
+    }
+    Ok(())
 }
+
+/// The file of each plot, its titles and its axis of times: two sets each.
+const PLOTS: [(&str, &str, &str, Axis); 3] = [
+    (
+        "restart.svg",
+        "Restart over the length of the log, time on a logarithmic scale",
+        "bytes of groups in the log",
+        Axis::Logarithmic,
+    ),
+    (
+        "tail.svg",
+        "Begin over the length of the tail, time on a logarithmic scale",
+        "bytes of groups in the tail",
+        Axis::Logarithmic,
+    ),
+    (
+        "power-up.svg",
+        "Restart over the length of a log of empty groups",
+        "bytes of groups in the log",
+        Axis::Linear,
+    ),
+];
 
 /// Worlds with so many bytes of groups.
 type Worlds = Vec<(usize, World)>;
@@ -63,8 +82,9 @@ struct Set {
     worlds: Worlds,
 }
 
-/// Two of restart, then two of begin.
-fn sets() -> [Set; 4] {
+/// Two of restart, two of begin, and two of restart with and without eight
+/// transactions in the image.
+fn sets() -> [Set; 6] {
     let set = |groups, dashed, call, worlds| Set {
         groups,
         dashed,
@@ -73,9 +93,11 @@ fn sets() -> [Set; 4] {
     };
     [
         set("632-byte groups", false, RESTART, full_logs()),
-        set("empty groups", true, RESTART, empty_logs()),
+        set("empty groups", true, RESTART, empty_logs(false)),
         set("632-byte groups", false, Call::Begin, full_tails()),
         set("aborts", true, Call::Begin, abort_tails()),
+        set("no image", false, RESTART, empty_logs(false)),
+        set("eight in the image", true, RESTART, empty_logs(true)),
     ]
 }
 
@@ -90,8 +112,8 @@ fn full_logs() -> Worlds {
     parts(FULL_GROUPS).map(world).collect()
 }
 
-fn empty_logs() -> Worlds {
-    let world = |k| (8 * k, logged(false, k, 0));
+fn empty_logs(image: bool) -> Worlds {
+    let world = |k| (8 * k, logged(image, k, 0));
     parts(EMPTY_GROUPS).map(world).collect()
 }
 

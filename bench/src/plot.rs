@@ -1,4 +1,5 @@
-//! A plot of curves over bytes, with times on a logarithmic scale, as SVG.
+//! A plot of curves over bytes, with times on a logarithmic or a linear scale,
+//! as SVG.
 
 use std::fmt::Write;
 
@@ -10,9 +11,18 @@ pub struct Curve {
     pub points: Vec<(f64, f64)>,
 }
 
+/// How times are laid out.
+#[derive(Clone, Copy)]
+pub enum Times {
+    Logarithmic,
+    /// From 0 on: what grows by a fixed time for each byte is a straight line.
+    Linear,
+}
+
 pub struct Plot {
     pub title: String,
     pub x_title: String,
+    pub axis: Times,
     pub curves: Vec<Curve>,
 }
 
@@ -27,7 +37,7 @@ const MOST_BYTES: f64 = 16_384.0;
 
 impl Plot {
     pub fn svg(&self) -> String {
-        let scale = Scale::of(&self.curves);
+        let scale = Scale::of(&self.curves, self.axis);
         let mut svg = format!(
             "<svg xmlns=\"http://www.w3.org/2000/svg\" viewBox=\"0 0 {WIDTH} {HEIGHT}\" \
              font-family=\"sans-serif\" font-size=\"13\">\n\
@@ -46,20 +56,41 @@ impl Plot {
     }
 }
 
-/// Whole decades of nanoseconds.
+/// Marks at heights of the frame, the highest at its top.
 struct Scale {
-    lowest: i32,
-    highest: i32,
+    axis: Times,
+    /// Decades of nanoseconds, or nanoseconds.
+    lowest: f64,
+    highest: f64,
+    /// From one mark to the next.
+    step: f64,
 }
 
 impl Scale {
-    fn of(curves: &[Curve]) -> Scale {
+    fn of(curves: &[Curve], axis: Times) -> Scale {
         let times = || curves.iter().flat_map(|c| c.points.iter().map(|p| p.1));
         let least = times().fold(f64::INFINITY, f64::min);
         let most = times().fold(1.0, f64::max);
-        Scale {
-            lowest: least.log10().floor() as i32,
-            highest: most.log10().ceil() as i32,
+        match axis {
+            Times::Logarithmic => Scale {
+                axis,
+                lowest: least.log10().floor(),
+                highest: most.log10().ceil(),
+                step: 1.0,
+            },
+            Times::Linear => {
+                // Ten marks at most, at 1, 2 or 5 of some power of ten.
+                let power = 10f64.powf((most / 10.0).log10().floor());
+                let steps = [1.0, 2.0, 5.0, 10.0].map(|k| k * power);
+                let step = steps.into_iter().find(|step| most <= 10.0 * step);
+                let step = step.expect("ten times the power is enough");
+                Scale {
+                    axis,
+                    lowest: 0.0,
+                    highest: (most / step).ceil() * step,
+                    step,
+                }
+            }
         }
     }
 
@@ -68,15 +99,27 @@ impl Scale {
     }
 
     fn y(&self, nanos: f64) -> f64 {
-        let part = (nanos.log10() - self.lowest as f64) / (self.highest - self.lowest) as f64;
-        BOTTOM - (BOTTOM - TOP) * part
+        match self.axis {
+            Times::Logarithmic => self.height(nanos.log10()),
+            Times::Linear => self.height(nanos),
+        }
+    }
+
+    fn height(&self, mark: f64) -> f64 {
+        BOTTOM - (BOTTOM - TOP) * (mark - self.lowest) / (self.highest - self.lowest)
     }
 
     fn draw(&self, svg: &mut String) {
-        for decade in self.lowest..=self.highest {
-            let y = self.y(10f64.powi(decade));
+        let marks = ((self.highest - self.lowest) / self.step).round() as usize;
+        for i in 0..=marks {
+            let mark = self.lowest + self.step * i as f64;
+            let label = match self.axis {
+                Times::Logarithmic => time_label(mark as i32),
+                Times::Linear => format!("{} µs", mark / 1_000.0),
+            };
+            let y = self.height(mark);
             line(svg, (LEFT, y), (RIGHT, y));
-            text(svg, LEFT - 8.0, y + 4.0, "end", &time_label(decade));
+            text(svg, LEFT - 8.0, y + 4.0, "end", &label);
         }
         for bytes in (0..=16_384).step_by(4_096) {
             let x = self.x(bytes as f64);

@@ -15,10 +15,11 @@ pub struct Row {
     pub tuned_goal: bool,
 }
 
-/// Every row: the calls in each case, then the restarts.
+/// Every row: the calls in each case, the restarts, then the first groups.
 pub fn all() -> Vec<Row> {
     let mut rows: Vec<Row> = CASES.iter().flat_map(Case::rows).collect();
     rows.extend(restarts());
+    rows.extend(first_groups());
     rows
 }
 
@@ -244,6 +245,11 @@ pub fn logged(image: bool, groups: usize, writes: usize) -> World {
     world
 }
 
+/// How many groups stand in the logs: of sixteen writes of 32 bytes as many as
+/// there is room for, and of no write, with room left for restart's aborts.
+pub const FULL_GROUPS: usize = LOG_LEN / 632;
+pub const EMPTY_GROUPS: usize = 2_033;
+
 fn restarts() -> Vec<Row> {
     let row = |image, case, groups, writes| Row {
         name: "restart",
@@ -252,7 +258,7 @@ fn restarts() -> Vec<Row> {
         world: logged(image, groups, writes),
         tuned_goal: true,
     };
-    let (full, empty) = (LOG_LEN / 632, 2_033);
+    let (full, empty) = (FULL_GROUPS, EMPTY_GROUPS);
     vec![
         row(false, "empty log", 0, 0),
         row(false, "log full of 632-byte groups", full, MAX_UNDOS),
@@ -260,5 +266,31 @@ fn restarts() -> Vec<Row> {
         row(true, "empty log, eight in the image", 0, 0),
         row(true, "632-byte groups, eight in the image", full, MAX_UNDOS),
         row(true, "2,033 empty groups, eight in the image", empty, 0),
+    ]
+}
+
+/// The first groups (document 02, A.3) of logs with as many as restart's rows
+/// have.
+fn first_groups() -> Vec<Row> {
+    let row = |image, case, groups, (standing, writes)| Row {
+        name: "first groups",
+        case,
+        call: Call::FirstGroups { groups },
+        world: logged(image, standing, writes),
+        tuned_goal: true,
+    };
+    let (full, empty) = ((FULL_GROUPS, MAX_UNDOS), (EMPTY_GROUPS, 0));
+    vec![
+        row(false, "none of 2,033 empty groups", 0, empty),
+        row(false, "1,016 of 2,033 empty groups", 1_016, empty),
+        row(false, "2,033 empty groups", EMPTY_GROUPS, empty),
+        row(
+            true,
+            "2,033 empty groups, eight in the image",
+            EMPTY_GROUPS,
+            empty,
+        ),
+        row(false, "12 of 25 632-byte groups", 12, full),
+        row(false, "25 632-byte groups", FULL_GROUPS, full),
     ]
 }

@@ -107,6 +107,14 @@ static void test_reply(void)
            "an offset in the reply is not as stated");
 }
 
+static void test_looks(void)
+{
+    expect(sizeof(struct luppaneth_groups_reply) == 16 && offsetof(struct luppaneth_groups_reply, answer) == 0 &&
+               offsetof(struct luppaneth_groups_reply, number) == 1 && offsetof(struct luppaneth_groups_reply, csn) == 4 &&
+               offsetof(struct luppaneth_groups_reply, end) == 8,
+           "an offset in the reply of the first groups is not as stated");
+}
+
 static void test_sizes(void)
 {
     expect(luppaneth_memory_len() == LUPPANETH_MEMORY_LEN, "memory's length");
@@ -232,6 +240,28 @@ static void test_holds(struct luppaneth *l)
     expect(lup_abort(l, reader) == 0 && lup_write(l, writer, 30, "x", 1) == 0 && lup_abort(l, writer) == 0, "the end of a hold");
 }
 
+/* M1's disk, with its image of test_disks and without: the booking is the log's one group. */
+static void test_first_groups(struct luppaneth *l)
+{
+    static struct luppaneth copy;
+    size_t end = 7;
+    uint32_t csn = 7;
+    copy = *l;
+    copy.disk[0] = 0;
+    expect(lup_first_groups(&copy, 0, &end, &csn) == 0 && end == 0 && csn == 0 && copy.memory[10] == 0, "no groups");
+    expect(lup_first_groups(&copy, 1, &end, &csn) == 0 && end == 17 && csn == 1 && copy.memory[10] == 0x41, "the first group");
+    expect(lup_first_groups(&copy, LUPPANETH_ALL, &end, &csn) == 0 && end == 17 && csn == 1, "all groups");
+    copy.disk[0] = 1;
+    expect(lup_first_groups(&copy, 0, &end, &csn) == 0 && end == 17 && csn == 1 && copy.memory[10] == 0x41, "an image's own");
+    copy.disk[0] = 3;
+    expect(lup_first_groups(&copy, 1, &end, &csn) == LUPPANETH_BAD_POINTER && end == 0 && csn == 0 && zeros(copy.memory, sizeof copy.memory),
+           "the first groups of a disk that is refused");
+    copy.memory[0] = 9;
+    expect(luppaneth_first_groups(l->disk, sizeof l->disk - 1, copy.memory, sizeof copy.memory, 1).number == LUPPANETH_WRONG_LENGTH &&
+               copy.memory[0] == 9,
+           "the first groups of a disk that is too short");
+}
+
 static void test_layer(struct luppaneth *l)
 {
     const unsigned char *part;
@@ -250,12 +280,14 @@ int main(void)
     test_sizes();
     test_state();
     test_reply();
+    test_looks();
     if (failed) /* no state may be passed between sides that differ in its size */
         return EXIT_FAILURE;
     test_fresh(&l);
     test_booking(&l);
     test_disks(&l);
     test_holds(&l);
+    test_first_groups(&l);
     test_layer(&l);
     if (!failed)
         printf("layout: the header agrees with the library\n");

@@ -39,15 +39,17 @@ pub trait Program {
     fn step(&mut self, writes: &[StepWrite; 3]) -> bool;
 
     fn state(&self) -> State;
-    fn buffers(&self) -> &Buffers;
+    fn buffers(&mut self) -> &mut Buffers;
 }
 
-/// What is lent to the calls, and the copy of a disk for "equal in meaning".
+/// What is lent to the calls, the copy of a disk for "equal in meaning", and
+/// the memory lent to a look at the disk: what it leaves is told by no outcome.
 pub struct Buffers {
     pub disk: Vec<u8>,
     pub kept: Vec<u8>,
     pub memory: Vec<u8>,
     pub tail: Vec<u8>,
+    pub seen: Vec<u8>,
 }
 
 impl Buffers {
@@ -57,6 +59,7 @@ impl Buffers {
             kept: world.kept.clone(),
             memory: world.memory.clone(),
             tail: world.tail.clone(),
+            seen: world.memory.clone(),
         }
     }
 

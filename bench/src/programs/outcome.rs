@@ -16,10 +16,8 @@ pub fn stored(result: Result<(bool, usize, usize), Refusal>) -> Outcome {
         Err(number) => (Answer::Refused(number), 0, 0),
     };
     Outcome {
-        answer,
-        value: value as u32,
         stores,
-        stop: None,
+        ..Outcome::told(answer, value as u32)
     }
 }
 
@@ -31,19 +29,15 @@ pub fn restarted(result: Result<(bool, usize, usize), Refusal>, stop: Option<Sto
     }
 }
 
+/// The log end and the csn that the first groups reach: value and stores.
+pub fn reached(result: Result<(usize, u32), Refusal>) -> Outcome {
+    stored(result.map(|(end, csn)| (false, csn as usize, end)))
+}
+
 pub fn part(part: &[u8]) -> Outcome {
-    answer(Answer::Part(part.len()))
+    Outcome::told(Answer::Part(part.len()), 0)
 }
 
 pub fn yes_or_no(yes: bool) -> Outcome {
-    answer(if yes { Answer::Yes } else { Answer::No })
-}
-
-fn answer(answer: Answer) -> Outcome {
-    Outcome {
-        answer,
-        value: 0,
-        stores: 0,
-        stop: None,
-    }
+    Outcome::told(if yes { Answer::Yes } else { Answer::No }, 0)
 }

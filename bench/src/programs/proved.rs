@@ -2,11 +2,11 @@
 //! comes back in the reply.
 
 use super::flat::{flat, unflat};
-use super::outcome::{part, restarted, stored, yes_or_no};
+use super::outcome::{part, stored, yes_or_no};
 use super::{Buffers, Program, StepWrite};
 use crate::tuned::state::State;
 use second::log::Stop;
-use second::trace::{Call, Outcome, World};
+use second::trace::{Answer, Call, Outcome, World};
 use std::hint::black_box;
 
 #[repr(C)]
@@ -23,9 +23,18 @@ struct Reply {
 
 const _: () = assert!(size_of::<State>() == 9_488 && size_of::<Reply>() == 9_504);
 
+/// Of the first groups: `answer` and `number` as in `Reply`.
+#[repr(C)]
+struct GroupsReply {
+    answer: u8,
+    number: u8,
+    csn: u32,
+    end: usize,
+}
+
 /// The interface; a slice is a pointer and a length.
 mod c {
-    use super::{Reply, State};
+    use super::{GroupsReply, Reply, State};
     extern "C" {
         pub fn luppaneth_begin(
             state: State,
@@ -119,6 +128,13 @@ mod c {
             tail_len: usize,
             allowed: usize,
         ) -> Reply;
+        pub fn luppaneth_first_groups(
+            disk: *const u8,
+            disk_len: usize,
+            memory: *mut u8,
+            memory_len: usize,
+            groups: usize,
+        ) -> GroupsReply;
         pub fn luppaneth_equal(a: *const u8, a_len: usize, b: *const u8, b_len: usize) -> bool;
     }
 }
@@ -219,20 +235,46 @@ impl Proved {
             call!(luppaneth_restart,; self.lent; lent disk, lent memory, lent tail; allowed);
         self.told(&reply)
     }
+
+    #[inline(never)]
+    fn first_groups(&mut self, groups: usize) -> Outcome {
+        let reply = call!(luppaneth_first_groups,; self.lent; shared disk, lent seen; groups);
+        let GroupsReply {
+            answer,
+            number,
+            csn,
+            end,
+        } = black_box(reply);
+        Outcome {
+            stores: csn as usize,
+            ..Outcome::told(answered(answer, number), end as u32)
+        }
+    }
 }
 
+fn answered(answer: u8, number: u8) -> Answer {
+    match (answer, number) {
+        (0, 0) => Answer::Done,
+        (1, 0) => Answer::Cut,
+        (2, number) => Answer::Refused(number),
+        odd => panic!("{odd:?} is no answer"),
+    }
+}
+
+/// All that the reply has, also where it is a refusal's.
 fn outcome(reply: &Reply) -> Outcome {
-    let result = match reply.answer {
-        2 => Err(reply.number),
-        answer => Ok((answer == 1, reply.stores, reply.value as usize)),
-    };
     let stop = match reply.stop {
+        0 => None,
         1 => Some(Stop::Full),
         2 => Some(Stop::Zero),
         3 => Some(Stop::Torn),
-        _ => None,
+        odd => panic!("{odd} is no stop"),
     };
-    restarted(result, stop)
+    Outcome {
+        stores: reply.stores,
+        stop,
+        ..Outcome::told(answered(reply.answer, reply.number), reply.value)
+    }
 }
 
 fn is_done(reply: &Reply) -> bool {
@@ -270,6 +312,7 @@ impl Program for Proved {
             Call::Checkpoint { allowed } => self.checkpoint(*allowed),
             Call::Restart { allowed } => self.restart(*allowed),
             Call::Equal => yes_or_no(call!(luppaneth_equal,; self.lent; shared disk, shared kept;)),
+            Call::FirstGroups { groups } => self.first_groups(*groups),
             _ => stored(Ok((false, 0, 0))),
         }
     }
@@ -303,7 +346,7 @@ impl Program for Proved {
         unflat(&self.state)
     }
 
-    fn buffers(&self) -> &Buffers {
-        &self.lent
+    fn buffers(&mut self) -> &mut Buffers {
+        &mut self.lent
     }
 }

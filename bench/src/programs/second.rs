@@ -1,7 +1,8 @@
 //! The second program, tests/second.
 
-use super::outcome::{part, restarted, stored, told, yes_or_no};
+use super::outcome::{part, reached, restarted, stored, told, yes_or_no};
 use super::{Buffers, Program, StepWrite};
+use second::inspect::first_groups;
 use second::layout::{MAX_TXS, MAX_UNDOS};
 use second::log::Write;
 use second::restart::{equal_in_meaning, restart};
@@ -65,6 +66,7 @@ impl Program for Second {
             kept,
             memory,
             tail,
+            seen,
         } = &mut self.lent;
         let state = &mut self.state;
         match call {
@@ -106,6 +108,9 @@ impl Program for Second {
                 )
             }
             Call::Equal => yes_or_no(equal_in_meaning(disk, kept)),
+            Call::FirstGroups { groups } => {
+                reached(first_groups(disk, seen, *groups).map(|r| (r.log_end, r.csn.0)))
+            }
             _ => told(Ok(0)),
         }
     }
@@ -118,7 +123,7 @@ impl Program for Second {
         self.state.clone()
     }
 
-    fn buffers(&self) -> &Buffers {
-        &self.lent
+    fn buffers(&mut self) -> &mut Buffers {
+        &mut self.lent
     }
 }

@@ -1,9 +1,9 @@
 //! The tuned program, `crate::tuned`.
 
 use super::flat::{flat, unflat};
-use super::outcome::{part, restarted, stored, told, yes_or_no};
+use super::outcome::{part, reached, restarted, stored, told, yes_or_no};
 use super::{Buffers, Program, StepWrite};
-use crate::tuned::restart::{equal_in_meaning, restart};
+use crate::tuned::restart::{equal_in_meaning, first_groups, restart};
 use crate::tuned::state::State;
 use crate::tuned::{Refusal, Stored};
 use second::trace::{Call, Outcome, World};
@@ -52,6 +52,7 @@ impl Program for Tuned {
             kept,
             memory,
             tail,
+            seen,
         } = &mut self.lent;
         let state = &mut self.state;
         let counts = |s: Stored| (s.cut, s.stores, 0);
@@ -89,6 +90,7 @@ impl Program for Tuned {
                 restarted(result.map(|(s, undone, _)| (s.cut, s.stores, undone)), stop)
             }
             Call::Equal => yes_or_no(equal_in_meaning(disk, kept)),
+            Call::FirstGroups { groups } => reached(first_groups(disk, seen, *groups)),
             _ => told(Ok(0)),
         }
     }
@@ -101,7 +103,7 @@ impl Program for Tuned {
         unflat(&self.state)
     }
 
-    fn buffers(&self) -> &Buffers {
-        &self.lent
+    fn buffers(&mut self) -> &mut Buffers {
+        &mut self.lent
     }
 }

@@ -85,8 +85,9 @@ fn redo_group(bytes: &[u8], owner: u16, mut at: usize, previous: u32) -> Option<
     }
 }
 
-/// Lays a commit group's redo records over memory, in order.
-pub fn redo(group: &[u8], memory: &mut [u8]) {
+/// Lays a commit group's redo records over memory, in order. Each of the two
+/// passes has one of its own, which is built into its loop.
+pub fn redo<const COUNTED: bool>(group: &[u8], memory: &mut [u8]) {
     let mut at = 0;
     while group[at] == REDO {
         let addr = u16::from_be_bytes([group[at + 3], group[at + 4]]) as usize;

@@ -1,4 +1,4 @@
-//! Restart and "equal in meaning".
+//! Restart, the first groups of the log, and "equal in meaning".
 
 use super::image::{decode, Image};
 use super::log::{group, put_abort, redo};
@@ -31,7 +31,7 @@ fn named_image<'a>(disk: &'a [u8], image: &mut Image<'a>) -> Result<(), Refusal>
 
 /// Steps 2 to 5 over the image's memory; number 5.
 fn recover(image: &mut Image, log: &[u8], memory: &mut [u8]) -> Result<Found, Refusal> {
-    let mut found = forward(log, image, memory);
+    let mut found = forward::<false>(log, image, memory, 0);
     undo_unfinished(image, &mut found, memory);
     if found.end + 4 * found.undone_count > LOG_LEN {
         return Err(5);
@@ -40,7 +40,15 @@ fn recover(image: &mut Image, log: &[u8], memory: &mut [u8]) -> Result<Found, Re
 }
 
 /// Steps 2 and 3 in one: a group is carried out as soon as it is seen whole.
-fn forward(log: &[u8], image: &mut Image, memory: &mut [u8]) -> Found {
+/// Only so many groups if they are `COUNTED`, or all if fewer: restart's loop
+/// counts nothing, which would cost it time.
+fn forward<const COUNTED: bool>(
+    log: &[u8],
+    image: &mut Image,
+    memory: &mut [u8],
+    groups: usize,
+) -> Found {
+    let mut left = groups;
     let mut found = Found {
         end: image.log_end,
         last: image.ondisk,
@@ -49,10 +57,16 @@ fn forward(log: &[u8], image: &mut Image, memory: &mut [u8]) -> Found {
         undone_count: 0,
     };
     while let Some(next) = group(&log[found.end..], found.last) {
+        if COUNTED {
+            if left == 0 {
+                break;
+            }
+            left -= 1;
+        }
         let end = found.end + next.size;
         match next.commit {
             Some(csn) => {
-                redo(&log[found.end..end], memory);
+                redo::<COUNTED>(&log[found.end..end], memory);
                 found.last = csn;
                 if let Some(listed) = image.find(next.id) {
                     listed.finished = true;
@@ -144,15 +158,37 @@ pub fn restart(
     Ok((stored, found.undone_count, Some(stop)))
 }
 
-/// Steps 1 to 5: memory is left as restart leaves it, if not refused.
-fn recover_into(disk: &[u8], memory: &mut [u8]) -> Result<Found, Refusal> {
-    let mut image = Image::default();
-    named_image(disk, &mut image)?;
+/// Step 1: memory is the image's, if not refused.
+fn open<'a>(disk: &'a [u8], memory: &mut [u8], image: &mut Image<'a>) -> Result<(), Refusal> {
+    named_image(disk, image)?;
     match image.memory {
         Some(bytes) => memory.copy_from_slice(bytes),
         None => memory.fill(0),
     }
+    Ok(())
+}
+
+/// Steps 1 to 5: memory is left as restart leaves it, if not refused.
+fn recover_into(disk: &[u8], memory: &mut [u8]) -> Result<Found, Refusal> {
+    let mut image = Image::default();
+    open(disk, memory, &mut image)?;
     recover(&mut image, &disk[LOG..], memory)
+}
+
+/// Memory after the first groups, or all if fewer (document 02, A.3); the log
+/// end and the commit number reached.
+pub fn first_groups(
+    disk: &[u8],
+    memory: &mut [u8],
+    groups: usize,
+) -> Result<(usize, u32), Refusal> {
+    if disk.len() != DISK_LEN || memory.len() != MEMORY_LEN {
+        return Err(1);
+    }
+    let mut image = Image::default();
+    open(disk, memory, &mut image).inspect_err(|_| memory.fill(0))?;
+    let found = forward::<true>(&disk[LOG..], &mut image, memory, groups);
+    Ok((found.end, found.last))
 }
 
 /// The memory that restart leaves; none if it refuses the disk.

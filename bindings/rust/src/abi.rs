@@ -59,6 +59,16 @@ pub struct Reply {
     pub state: State,
 }
 
+/// Of the first groups: `answer` and `number` as in `Reply`.
+#[derive(Clone, Copy)]
+#[repr(C)]
+pub struct GroupsReply {
+    pub answer: u8,
+    pub number: u8,
+    pub csn: u32,
+    pub end: usize,
+}
+
 const _: () = assert!(size_of::<State>() == 9_488 && align_of::<State>() == 4);
 const _: () = assert!(size_of::<Reply>() == 9_504 && align_of::<Reply>() == 8);
 
@@ -156,6 +166,13 @@ extern "C" {
         tail_len: usize,
         allowed: usize,
     ) -> Reply;
+    pub fn luppaneth_first_groups(
+        disk: *const u8,
+        disk_len: usize,
+        memory: *mut u8,
+        memory_len: usize,
+        groups: usize,
+    ) -> GroupsReply;
     pub fn luppaneth_equal(a: *const u8, a_len: usize, b: *const u8, b_len: usize) -> bool;
     pub fn luppaneth_list(disk: *mut u8, disk_len: usize, text: *mut u8) -> usize;
 }

@@ -24,7 +24,7 @@
 //!
 //! - [`Store`] on a [`Device`] ([`FileDevice`], [`MemoryDevice`] or one of your own) is what most programs want. It owns its buffers and brings
 //!   the new bytes to the device in the order that the theorem speaks of.
-//! - [`calls`] has the proved calls themselves, for a host that owns the buffers.
+//! - [`calls`] has the proved calls themselves, for a host that owns the buffers; [`inspect`] those that look at a disk without a state.
 //!
 //! docs/EMBEDDING.md says what a host owes for the theorem to hold, and what a file adds to that. The crate needs the proved library: run
 //! `rt staticlib embed` at the repository's root first.
@@ -37,6 +37,7 @@ mod device;
 mod error;
 #[cfg(unix)]
 mod file;
+pub mod inspect;
 mod refusal;
 mod store;
 

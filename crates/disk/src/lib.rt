@@ -2,4 +2,4 @@
 pub mod call;
 pub mod equal;
 mod examine;
-mod open;
+pub mod open;

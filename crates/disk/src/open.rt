@@ -21,7 +21,7 @@ ghost use Rattle.disk.specs.Open.{loadOf, notOpened, openOf};
 ghost use Rattle.disk.specs.Heads.{headsNamed, shutBy, openedOf};
 
 // The number that refuses, 0 for none. If none: the heads of the image, where it stands, and from where to where the log is read.
-pub(crate) struct Opened {
+pub struct Opened {
     pub number: u8,
     pub heads: Heads,
     pub image: usize,
@@ -72,7 +72,7 @@ fn shut(number: u8, memory: &mut [u8]) -> Opened
 }
 
 // Memory becomes the image's; what it held doesn't matter.
-pub(crate) fn open(disk: &[u8], memory: &mut [u8]) -> Opened
+pub fn open(disk: &[u8], memory: &mut [u8]) -> Opened
     requires { ⌜ (length (now disk) ≡ diskLen) × (length (now memory) ≡ memoryLen) ⌝ }
     ensures { λ r. ⌜ r ≡ openedOf (now (disk .entry)) ⌝ }
     ensures { λ _. ⌜ now (memory .exit) ≡ openOf (now (disk .entry)) .memory ⌝ }

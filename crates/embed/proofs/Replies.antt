@@ -17,7 +17,7 @@ use Rattle.disk.specs.Restart.{restartPlan, refusedWith, ofMeaning, restartOf}
 use Rattle.disk.proofs.Examining.{roomy}
 use Rattle.embed.specs.Reply.{answerOf, numberOf, restartReply, wordOf, ofReply, stoppedBy}
 
-word-back : (w : Word) → wordOf (answerOf w) (numberOf w) ≡ w
+pub word-back : (w : Word) → wordOf (answerOf w) (numberOf w) ≡ w
 word-back done = refl
 word-back cut = refl
 word-back (refused n) = refl

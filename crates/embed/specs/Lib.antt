@@ -1,2 +1,3 @@
 -- What the exported calls answer with, in the calls' own words.
 pub mod Reply
+pub mod Looks

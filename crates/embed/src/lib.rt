@@ -1,6 +1,7 @@
 // The calls for hosts that are not written in Rattle, by C's rules: numbers, structs laid out as in C, a slice as a pointer and a length.
-// include/luppaneth.h declares them for C. Each is the call of `store`, `disk` or `listing`, and its contract says so.
+// include/luppaneth.h declares them for C. Each is the call of `store`, `disk`, `inspect` or `listing`, and its contract says so.
 mod disks;
+mod looks;
 mod memory;
 mod sizes;
 
@@ -27,9 +28,9 @@ pub struct Reply {
 }
 
 // An answer and its number.
-struct Pair(u8, u8);
+pub(crate) struct Pair(u8, u8);
 
-fn numbers(answer: Answer) -> Pair
+pub(crate) fn numbers(answer: Answer) -> Pair
     ensures { λ r. ⌜ r ≡ record { 0 = answerOf (word answer); 1 = numberOf (word answer) } ⌝ }
 {
     match answer {

@@ -1,11 +1,11 @@
 -- What the pass over groups leaves: the codes, memory as recovery's `forward` has it, and the numbers.
-use Prim.Native.Nat.{ℕ, _+_, _≤_, _<_, max}
+use Prim.Native.Nat.{ℕ, zero, suc, _+_, _≤_, _<_, max}
 use native.Mathlib.Omega.{arith}
 use mathlib.Core.Bool.{Bool, true, false, cond, not, _||_}
 use mathlib.Core.List.{List, [], _∷_}
 use mathlib.Core.Option.{Option}
 use mathlib.Core.Path.{_≡_, refl, sym, ap, _∙_}
-use lib.ListN.{length, getD, set, length-set}
+use lib.ListN.{length, getD, set, replicate, length-set}
 use lib.Dec.{eqb}
 use lib.Seq.{getD-set-same, getD-set-other}
 use borrow.Author.Tests.{eqb-true, eqb-false, ne-eqb}
@@ -22,9 +22,14 @@ use Rattle.restart.specs.declared.forward.Slot.{Slot}
 use Rattle.restart.specs.declared.forward.Slot.the-variants.{At, Nowhere}
 use Rattle.image.specs.Content.{transactionsIn}
 use Rattle.restart.specs.Slots.{transactionAt, hasIdAt, imageSlot}
-use Rattle.restart.specs.Forward.{Went, codeOf, marked, undoLogged, past, afterGroup, goOver}
+use Rattle.restart.specs.Forward.{Went, codeOf, marked, undoLogged, past, afterGroup, goOver, startOf}
 use Rattle.restart.proofs.SlotLaws.{first-at, first-none}
 use Rattle.restart.proofs.Rules.{same-slot, lookup-at, lookup-nowhere}
+
+pub zero-at : (k i : ℕ) → _≡_ {A = ℕ} (getD (replicate k 0) i 0) 0
+zero-at zero i = refl
+zero-at (suc k) zero = refl
+zero-at (suc k) (suc i) = zero-at k i
 
 -- ---- the numbers
 
@@ -191,6 +196,10 @@ module _ (image : Image) (ok : keepsRules image ≡ true) where
         memory = s .memory ∙ ap (forward layBytes (transactionsIn image) gs (id ∷ f)) (abort-group (w .pass .found) f (w .memory) id r);
         marks = s .marks;
       }
+
+  -- from the start: no code is set, and no id is finished
+  pub started : (gs : List Group) (m : List ℕ) → Seen gs (startOf image m) []
+  started gs m = seen gs (startOf image m) [] refl (λ i h. sym (ap (λ (x : ℕ). not (eqb x 0)) (zero-at 8 i)))
 
 -- the codes of slots that are not used
 pub unused-codes : (image : Image) (gs : List Group) (w : Went) (i : ℕ) → image .count ≤ i

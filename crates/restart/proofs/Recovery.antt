@@ -32,15 +32,10 @@ use Rattle.restart.specs.Restart.{recoverOf}
 use Rattle.restart.specs.Turns.{undoneList, undoneIds, abortsLaid}
 use Rattle.restart.proofs.SlotLaws.{filter-up, txs-up}
 use Rattle.restart.proofs.Undos.{aborts-length, laid-all}
-use Rattle.restart.proofs.Passed.{highestId, ids-below, counted, firstCode, codes-from, unused-codes, Marks, Seen, seen}
+use Rattle.restart.proofs.Passed.{zero-at, highestId, ids-below, counted, firstCode, codes-from, unused-codes, Marks, Seen, started}
 
 abbrev pub zeros : ℕ → List ℕ
 zeros n = replicate n 0
-
-zero-at : (k i : ℕ) → getD (zeros k) i 0 ≡ 0
-zero-at zero i = refl
-zero-at (suc k) zero = refl
-zero-at (suc k) (suc i) = zero-at k i
 
 -- ---- how many step 4 undoes
 
@@ -143,7 +138,7 @@ module _ (image : Image) (ok : keepsRules image ≡ true) where
 
   module _ (log m : List ℕ) where
     passed : Seen image ok (groupsOf image log) (startOf image m) []
-    passed = seen image ok (groupsOf image log) (startOf image m) [] refl (λ i h. sym (ap (λ (x : ℕ). not (eqb x 0)) (zero-at 8 i)))
+    passed = started image ok (groupsOf image log) m
 
     -- those undone in step 4, in order
     pub undone-is : undoneOf image (forwardOf image log m .pass) ≡ undoneBy image log

@@ -1,13 +1,13 @@
 -- Laws of the pass over the log, a group at a time.
-use Prim.Native.Nat.{ℕ, _+_, _≤_, _<_}
+use Prim.Native.Nat.{ℕ, suc, _+_, _-_, _≤_, _<_}
 use native.Mathlib.Omega.{arith}
 use mathlib.Core.Bool.{Bool, true, false, cond}
-use mathlib.Core.List.{List}
+use mathlib.Core.List.{List, [], _∷_}
 use mathlib.Core.Option.{Option, none, some}
 use mathlib.Core.Path.{_≡_, refl, sym, ap, _∙_}
 use lib.Dec.{eqb}
-use lib.ListN.{length, getD, drop, length-drop}
-use lib.Seq.{drop-drop}
+use lib.ListN.{length, getD, take, drop, length-drop}
+use lib.Seq.{drop-drop, take-nil}
 use Rattle.recovery.specs.Group.{Write, Group, committed, aborted, redoSize, groupSize, csnAfter}
 use Rattle.recovery.specs.Replay.{redoAll, undoAll, layBytes}
 use Rattle.log.specs.Group.{readGroup}
@@ -29,9 +29,9 @@ use Rattle.restart.specs.Turns.{hasIdIn, slotIn, unfinishedAt, frontWrit
 use Rattle.restart.proofs.SlotLaws.{first-at, slot-in}
 use Rattle.restart.proofs.RedoLaws.{front-body}
 
--- what the pass leads to from here
-abbrev pub rest : Image → List ℕ → Went → Went
-rest image log w = goOver image (readLog (w .pass .csn .0) (drop (w .pass .end) log)) w
+-- what the pass leads to from here, over k groups more
+abbrev pub rest : ℕ → Image → List ℕ → Went → Went
+rest k image log w = goOver image (take k (readLog (w .pass .csn .0) (drop (w .pass .end) log))) w
 
 -- the group at the end reached, if one stands there
 abbrev onFound : Image → Option Group → Went → Went
@@ -61,19 +61,31 @@ module _ (image : Image) (log : List ℕ) (w : Went) where
   unfolding past
   end-after g = refl
 
-  rest-group : (g : Group) → here ≡ some g → rest image log w ≡ rest image log (afterGroup image g w)
-  unfolding past
-  rest-group g e =
-      ap (λ (gs : List Group). goOver image gs w) (log-more _ _ g e)
-      ∙ ap (λ (s : List ℕ). goOver image (readLog (csnAfter (w .pass .csn .0) g) s) (afterGroup image g w)) (drop-drop (groupSize g) (w .pass .end) log)
+  -- none stands there
+  rest-none : (k : ℕ) → here ≡ none → rest k image log w ≡ w
+  rest-none k e = ap (λ (gs : List Group). goOver image (take k gs) w) (log-none _ _ e) ∙ ap (λ (gs : List Group). goOver image gs w) (take-nil k)
 
-  -- a turn of the code's loop
-  pub rest-step : rest image log w ≡ rest image log (groupStep image log w)
-  rest-step = go here refl
+  rest-group : (k : ℕ) (g : Group) → here ≡ some g → rest (suc k) image log w ≡ rest k image log (afterGroup image g w)
+  unfolding past
+  rest-group k g e =
+      ap (λ (gs : List Group). goOver image (take (suc k) gs) w) (log-more _ _ g e)
+      ∙ ap (λ (s : List ℕ). goOver image (take k (readLog (csnAfter (w .pass .csn .0) g) s)) (afterGroup image g w))
+      (drop-drop (groupSize g) (w .pass .end) log)
+
+  -- one group less is left to go over
+  pub rest-more : (k : ℕ) → rest (suc k) image log w ≡ rest k image log (groupStep image log w)
+  rest-more k = go here refl
     where
-      go : (x : Option Group) → here ≡ x → rest image log w ≡ rest image log (groupStep image log w)
-      go none e = ap (rest image log) (sym (step-none e))
-      go (some g) e = rest-group g e ∙ ap (rest image log) (sym (step-by (some g) e))
+      go : (x : Option Group) → here ≡ x → rest (suc k) image log w ≡ rest k image log (groupStep image log w)
+      go none e = rest-none (suc k) e ∙ sym (rest-none k e) ∙ ap (rest k image log) (sym (step-none e))
+      go (some g) e = rest-group k g e ∙ ap (rest k image log) (sym (step-by (some g) e))
+
+  -- a turn of the code's loop, and its end
+  pub rest-step : (k : ℕ) → 0 < k → rest k image log w ≡ rest (k - 1) image log (groupStep image log w)
+  rest-step k h = let e : k ≡ suc (k - 1) = omega arith in ap (λ (j : ℕ). rest j image log w) e ∙ rest-more (k - 1)
+
+  pub rest-zero : (k : ℕ) → k ≡ 0 → rest k image log w ≡ w
+  rest-zero k e = ap (λ (j : ℕ). rest j image log w) e
 
   grown : (g : Group) → here ≡ some g → groupStep image log w .pass .end ≡ w .pass .end + groupSize g
   grown g e = ap (λ (v : Went). v .pass .end) (step-by (some g) e) ∙ end-after g
@@ -88,12 +100,12 @@ module _ (image : Image) (log : List ℕ) (w : Went) where
           let r = step-room log (w .pass) g h e in
           (omega arith, omega arith)
 
-  -- the last turn: the end stands still
-  pub rest-done : groupStep image log w .pass .end ≡ w .pass .end → rest image log w ≡ groupStep image log w
-  rest-done h = go here refl
+  -- the last turn where no group stands any more: the end stands still
+  pub rest-done : (k : ℕ) → groupStep image log w .pass .end ≡ w .pass .end → rest k image log w ≡ groupStep image log w
+  rest-done k h = go here refl
     where
-      go : (x : Option Group) → here ≡ x → rest image log w ≡ groupStep image log w
-      go none e = ap (λ (gs : List Group). goOver image gs w) (log-none _ _ e) ∙ sym (step-none e)
+      go : (x : Option Group) → here ≡ x → rest k image log w ≡ groupStep image log w
+      go none e = rest-none k e ∙ sym (step-none e)
       go (some g) e =
           let k = grown g e in
           let z = group-within _ _ g e in
@@ -138,6 +150,12 @@ module _ (ids : List TxId) (n : ℕ) (log : List ℕ) (w : Went) where
   turn-commit id csn k slot ws m e h x q =
       let f = front-body (w .pass .csn .0) id ws (drop (w .pass .end) log) (group-inv _ _ (committed id csn ws) e .1) in
       rw (q, h, x, f) (turn-by _ e)
+
+  -- a commit alone leaves memory
+  pub turn-empty : (id csn k : ℕ) (slot : Slot) (ws : List Write) → read ≡ some (committed id csn ws) → k ≡ redoSize ws + 8 → k ≡ 8
+      → slot ≡ slotIn ids n id → turnStep ids n log w ≡ turnEndBy (w .memory) (past (w .pass) slot id csn 1 (w .pass .end + k)) Nowhere
+  turn-empty id csn k slot [] e h z x = rw (h, x) (turn-by _ e)
+  turn-empty id csn k slot (v ∷ ws) e h z x = absurd (omega (arith, h, z))
 
   -- the two parts of a turn from those of what it is
   pub as-turn : (v : TurnEnd) (t : Turn) (m : List ℕ) → turnStep ids n log w ≡ v → t ≡ v .turn → m ≡ v .memory

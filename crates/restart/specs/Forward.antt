@@ -2,7 +2,7 @@
 use Prim.Native.Nat.{ℕ, _+_, max}
 use mathlib.Core.Bool.{cond}
 use mathlib.Core.List.{List, [], _∷_}
-use lib.ListN.{getD, set, replicate}
+use lib.ListN.{getD, set, take, replicate}
 use lib.Dec.{eqb}
 use Rattle.layout.specs.{maxTxs}
 use Rattle.recovery.specs.Group.{Group, committed, aborted, groupSize, csnAfter}
@@ -69,3 +69,7 @@ groupsOf image log = readLog (image .ondisk .0) log
 
 unfoldable pub forwardOf : Image → List ℕ → List ℕ → Went
 forwardOf image log m = goOver image (groupsOf image log) (startOf image m)
+
+-- the same, over the first k groups alone, or all if fewer (document 02, A.3)
+unfoldable pub firstOf : ℕ → Image → List ℕ → List ℕ → Went
+firstOf k image log m = goOver image (take k (groupsOf image log)) (startOf image m)

@@ -21,16 +21,16 @@ ghost use Rattle.recovery.specs.Replay.{redoAll, layBytes};
 ghost use Rattle.log.specs.Record.{redo, readRecord};
 ghost use Rattle.log.specs.Group.{readBody};
 ghost use Rattle.image.specs.Heads.{imageBy, HeadsFit};
-ghost use Rattle.restart.specs.Forward.{wentBy, past, forwardOf};
+ghost use Rattle.restart.specs.Forward.{wentBy, past, firstOf};
 ghost use Rattle.restart.specs.Turns.{Below, slotIn, unfinishedAt, layFront, frontSize, frontWrites, turnStep};
 
 // What the pass has found: the end that it reached, the last commit number, the highest id, and for each transaction of the image a code by
 // the first group of its id: 0 none, 1 a commit, 2 an abort. A transaction with a code is finished.
-pub(crate) struct Pass {
-    pub(crate) end: usize,
-    pub(crate) csn: Csn,
-    pub(crate) last: TxId,
-    pub(crate) found: [u8; MAX_TXS],
+pub struct Pass {
+    pub end: usize,
+    pub csn: Csn,
+    pub last: TxId,
+    pub found: [u8; MAX_TXS],
 }
 
 // The slot of a transaction in the image.
@@ -152,8 +152,15 @@ fn step(ids: [TxId; MAX_TXS], n: usize, p: Pass, log: &[u8], memory: &mut [u8]) 
         }
         GroupEnd::Committed { id, csn: c, end } => {
             let slot = find(ids, n, id);
-            redo_all(memory, &log[at..], end - COMMIT_LEN);
             let pass = pass_group(p, slot, id, c, 1, at + end);
+            // A commit alone: a log can have thousands.
+            if end == COMMIT_LEN {
+                return Turn {
+                    pass: pass,
+                    undo: Slot::Nowhere,
+                };
+            }
+            redo_all(memory, &log[at..], end - COMMIT_LEN);
             return Turn {
                 pass: pass,
                 undo: Slot::Nowhere,
@@ -168,12 +175,12 @@ fn step(ids: [TxId; MAX_TXS], n: usize, p: Pass, log: &[u8], memory: &mut [u8]) 
     }
 }
 
-// s has the transactions of the image that h shows.
-pub(crate) fn forward(h: Heads, s: &[u8], log: &[u8], memory: &mut [u8]) -> Pass
+// Over the first groups of the log, or all if fewer. s has the transactions of the image that h shows.
+pub fn forward(h: Heads, s: &[u8], log: &[u8], groups: usize, memory: &mut [u8]) -> Pass
     requires { ⌜ HeadsFit h (now s) × (h .count ≤ maxTxs) ⌝ }
     requires { ⌜ length (now memory) ≡ memoryLen ⌝ }
-    ensures { λ r. ⌜ r ≡ forwardOf (imageBy h (now (s .entry))) (now (log .entry)) (now (memory .entry)) .pass ⌝ }
-    ensures { λ _. ⌜ now (memory .exit) ≡ forwardOf (imageBy h (now (s .entry))) (now (log .entry)) (now (memory .entry)) .memory ⌝ }
+    ensures { λ r. ⌜ r ≡ firstOf groups (imageBy h (now (s .entry))) (now (log .entry)) (now (memory .entry)) .pass ⌝ }
+    ensures { λ _. ⌜ now (memory .exit) ≡ firstOf groups (imageBy h (now (s .entry))) (now (log .entry)) (now (memory .entry)) .memory ⌝ }
 {
     let n = h.count as usize;
     let keys = h.keys;
@@ -186,7 +193,9 @@ pub(crate) fn forward(h: Heads, s: &[u8], log: &[u8], memory: &mut [u8]) -> Pass
         last: last,
         found: [0; MAX_TXS],
     };
-    loop {
+    let mut left = groups;
+    while 0 < left {
+        left = left - 1;
         let at = p.end;
         let turn = step(ids, n, p, log, memory);
         p = turn.pass;
@@ -200,4 +209,5 @@ pub(crate) fn forward(h: Heads, s: &[u8], log: &[u8], memory: &mut [u8]) -> Pass
         let place = h.at[i];
         lay_back(&s[place..], memory);
     }
+    p
 }

@@ -1,5 +1,5 @@
 // Restart's core, steps 2 to 5, from the heads of an image on: once over the log, then what is left unfinished is undone.
-mod forward;
+pub mod forward;
 pub mod undo;
 
 use crate::forward::forward;
@@ -41,7 +41,8 @@ pub fn recover(h: Heads, s: &[u8], log: &[u8], memory: &mut [u8]) -> Replayed
     ensures { λ _. ⌜ now (memory .exit) ≡ recoverOf (imageBy h (now (s .entry))) (now (log .entry)) (now (memory .entry)) (replicate tailLen 0) .memory ⌝ }
     ensures { λ r. ⌜ r .ids ≡ undoneIds (imageBy h (now (s .entry))) (now (log .entry)) (now (memory .entry)) ⌝ }
 {
-    let p = forward(h, s, log, memory);
+    // The log can't have more groups than bytes.
+    let p = forward(h, s, log, log.len(), memory);
     let left = undo_left(h, s, p, memory);
     let csn = p.csn;
     let last = p.last;

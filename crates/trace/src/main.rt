@@ -10,6 +10,7 @@ use crate::record::data_of;
 use crate::record::read_record;
 use disk::call::restart;
 use disk::equal::equal;
+use inspect::groups::first_groups;
 use layout::DISK_LEN;
 use layout::MEMORY_LEN;
 use layout::TAIL_LEN;
@@ -84,6 +85,13 @@ fn stream_call(
     Report::compared(equal(&*disk, &*kept), s)
 }
 
+// The first groups, into a memory of the stream's own. The line's memory is that one; value and stores are the end and the number reached.
+fn groups_call(r: Record, s: State, disk: &[u8], seen: &mut [u8]) -> Report {
+    let x = first_groups(disk, seen, r.groups);
+    let answer = x.answer;
+    Report::stored(answer, x.end, x.csn.0 as usize, s)
+}
+
 // The calls that work in memory.
 fn memory_call(r: Record, data: &[u8], s: State, memory: &mut [u8], tail: &mut [u8]) -> Report {
     let id = r.id;
@@ -152,6 +160,12 @@ fn step(
         11..=14 => {
             let out = stream_call(r, data_of(bytes), s, disk, kept, memory, tail);
             print_line(call, out, &*disk, &*memory, &*tail);
+            out.state
+        }
+        15 => {
+            let mut seen = [165u8; MEMORY_LEN];
+            let out = groups_call(r, s, &*disk, &mut seen);
+            print_line(call, out, &*disk, &seen, &*tail);
             out.state
         }
         _ => {

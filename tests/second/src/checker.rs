@@ -166,12 +166,7 @@ impl Checker {
     }
 }
 
-const CUT: Outcome = Outcome {
-    answer: Answer::Cut,
-    value: 0,
-    stores: 0,
-    stop: None,
-};
+const CUT: Outcome = Outcome::told(Answer::Cut, 0);
 
 /// The same call with other stores allowed.
 fn allowing(call: &Call, allowed: usize) -> Call {

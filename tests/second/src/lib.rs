@@ -10,6 +10,7 @@ pub mod flush;
 pub mod gen;
 pub mod holds;
 pub mod image;
+pub mod inspect;
 pub mod layout;
 pub mod ledger;
 pub mod log;

@@ -179,6 +179,14 @@ impl Group {
         }
     }
 
+    /// Of a commit; an abort has none.
+    pub fn csn(&self) -> Option<Csn> {
+        match self {
+            Group::Commit { csn, .. } => Some(*csn),
+            Group::Abort { .. } => None,
+        }
+    }
+
     pub fn encode(&self) -> Vec<u8> {
         match self {
             Group::Commit { id, csn, writes } => {

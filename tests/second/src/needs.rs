@@ -1,10 +1,10 @@
-//! The stores of a call, found before it is run.
+//! What a call needs, found before it is run: its stores, its groups.
 
 use crate::flush::{checkpoint_stores, flush_stores};
 use crate::image;
-use crate::layout::POINTER;
-use crate::log::Group;
-use crate::restart::{clear_stores, recover};
+use crate::layout::{LOG, POINTER};
+use crate::log::{read_log, Group};
+use crate::restart::{clear_stores, named_image, recover};
 use crate::stores::Store;
 use crate::trace::{Call, World};
 
@@ -35,4 +35,11 @@ pub fn stores_of(world: &World, call: &Call) -> Option<Vec<Store>> {
 /// How many they are.
 pub fn stores_needed(world: &World, call: &Call) -> Option<usize> {
     stores_of(world, call).map(|stores| stores.len())
+}
+
+/// How many groups a restart would read; none where it is refused by 3 or 4.
+pub fn groups_to_restart(disk: &[u8]) -> Option<usize> {
+    let (image, _) = named_image(disk).ok()?;
+    let log = read_log(&disk[LOG + image.log_end..], image.csn_on_disk);
+    Some(log.groups.len())
 }

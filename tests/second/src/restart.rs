@@ -23,7 +23,7 @@ pub struct Recovery {
 }
 
 /// A transaction of the image on the way through the log.
-struct Listed {
+pub struct Listed {
     tx: Tx,
     finished: bool,
 }
@@ -41,10 +41,7 @@ pub fn recover(disk: &[u8]) -> Result<Recovery, Refusal> {
     let log = read_log(&disk[LOG + image.log_end..], image.csn_on_disk);
     let end = image.log_end + log.end;
 
-    let mut listed: Vec<Listed> = image.txs.into_iter().map(Listed::unfinished).collect();
-    for group in &log.groups {
-        apply(group, &mut listed, &mut memory);
-    }
+    let listed = go_forward(&log.groups, image.txs, &mut memory);
     let undone = undo_unfinished(&listed, log.last, &mut memory);
     if end + ABORT_SIZE * undone.len() > LOG_LEN {
         return Err(5);
@@ -68,7 +65,7 @@ pub fn recover(disk: &[u8]) -> Result<Recovery, Refusal> {
 }
 
 /// Step 1: the image that the pointer byte names.
-fn named_image(disk: &[u8]) -> Result<(State, Vec<u8>), Refusal> {
+pub fn named_image(disk: &[u8]) -> Result<(State, Vec<u8>), Refusal> {
     let slot = match disk[POINTER] {
         0 => return Ok((State::default(), vec![0; MEMORY_LEN])),
         1 => IMAGE_A,
@@ -76,6 +73,16 @@ fn named_image(disk: &[u8]) -> Result<(State, Vec<u8>), Refusal> {
         _ => return Err(3),
     };
     image::decode(&disk[slot..slot + IMAGE_LEN]).ok_or(4)
+}
+
+/// Step 3 over these groups: gives the image's transactions, each finished or
+/// not.
+pub fn go_forward(groups: &[Group], txs: Vec<Tx>, memory: &mut [u8]) -> Vec<Listed> {
+    let mut listed: Vec<Listed> = txs.into_iter().map(Listed::unfinished).collect();
+    for group in groups {
+        apply(group, &mut listed, memory);
+    }
+    listed
 }
 
 /// Step 3 for one group.

@@ -6,11 +6,11 @@ use std::collections::BTreeMap;
 
 use crate::layout::LOG;
 use crate::log::{read_record, Record, Stop};
-use crate::needs::stores_needed;
+use crate::needs::{groups_to_restart, stores_needed};
 use crate::restart::recover;
 use crate::trace::{calls, Answer, Call, Outcome, World};
 
-const NAMES: [&str; 15] = [
+const NAMES: [&str; 16] = [
     "unknown",
     "begin",
     "write",
@@ -26,6 +26,7 @@ const NAMES: [&str; 15] = [
     "damage",
     "keep copy",
     "equal",
+    "first groups",
 ];
 
 /// Lines `count name`, sorted by name, then what the store grew to.
@@ -53,6 +54,11 @@ pub fn stats(stream: &[u8]) -> String {
         }
         if call == Call::Equal {
             for what in compared_names(&world, &outcome) {
+                count(format!("{name} {what}"));
+            }
+        }
+        if let Call::FirstGroups { groups } = call {
+            for what in first_groups_names(&world, groups) {
                 count(format!("{name} {what}"));
             }
         }
@@ -138,6 +144,26 @@ fn compared_names(world: &World, outcome: &Outcome) -> Vec<String> {
         }
     }
     names
+}
+
+/// The groups asked for, seen from those that there are; and a disk that
+/// restart refuses by 5, or on which it has something left to undo.
+fn first_groups_names(world: &World, asked: usize) -> Vec<String> {
+    let Some(count) = groups_to_restart(&world.disk) else {
+        return Vec::new();
+    };
+    let amount = match asked {
+        0 => "none",
+        asked if asked < count => "some",
+        asked if asked == count => "all",
+        _ => "more",
+    };
+    let disk = match recover(&world.disk) {
+        Err(number) => format!("of a disk refused={number:02}"),
+        Ok(found) if found.undone.is_empty() => "before no undoing".to_string(),
+        Ok(_) => "before some undoing".to_string(),
+    };
+    vec![amount.to_string(), disk]
 }
 
 /// The stores allowed, seen from the stores needed.

@@ -1,5 +1,6 @@
 //! The stream of 64-byte records: parsing, running and printing one line each.
 
+use crate::inspect::first_groups;
 use crate::layout::{be16, be32, DISK_LEN, MEMORY_LEN, TAIL_LEN};
 use crate::log::{Stop, TxId};
 use crate::restart::{equal_in_meaning, restart};
@@ -10,7 +11,8 @@ pub const RECORD_LEN: usize = 64;
 pub const DATA: usize = 24;
 pub const MAX_DATA: usize = 40;
 
-/// What memory and tail are filled with when the current fails.
+/// What memory and tail are filled with when the current fails, and a buffer
+/// that the stream lends.
 const JUNK: u8 = 165;
 
 #[derive(Clone, Debug, PartialEq, Eq)]
@@ -59,6 +61,9 @@ pub enum Call {
     KeepCopy,
     /// Is the disk equal in meaning to the copy kept?
     Equal,
+    FirstGroups {
+        groups: usize,
+    },
     Unknown {
         number: u8,
     },
@@ -96,6 +101,7 @@ impl Call {
             12 => Call::Damage { address, bytes },
             13 => Call::KeepCopy,
             14 => Call::Equal,
+            15 => Call::FirstGroups { groups },
             number => Call::Unknown { number },
         }
     }
@@ -116,6 +122,7 @@ impl Call {
             Call::Damage { .. } => 12,
             Call::KeepCopy => 13,
             Call::Equal => 14,
+            Call::FirstGroups { .. } => 15,
             Call::Unknown { number } => *number,
         }
     }
@@ -138,59 +145,58 @@ pub enum Answer {
 pub struct Outcome {
     pub answer: Answer,
     /// Begin's id, precommit's csn, restart's count of transactions undone,
-    /// the Adler-32 of read's part, else 0.
+    /// the Adler-32 of read's part, the log end that the first groups reach,
+    /// else 0.
     pub value: u32,
+    /// The stores made; of the first groups the last csn reached.
     pub stores: usize,
     /// Of a restart that is done: why the log ended where it did.
     pub stop: Option<Stop>,
+    /// The Adler-32 of a buffer that the stream lent in place of memory.
+    pub lent: Option<u32>,
 }
 
 impl Outcome {
-    fn of_value(result: Result<u32, Refusal>) -> Outcome {
-        let (answer, value) = match result {
-            Ok(value) => (Answer::Done, value),
-            Err(number) => (Answer::Refused(number), 0),
-        };
+    /// An answer with a value, and nothing else to tell.
+    pub const fn told(answer: Answer, value: u32) -> Outcome {
         Outcome {
             answer,
             value,
             stores: 0,
             stop: None,
+            lent: None,
+        }
+    }
+
+    fn of_value(result: Result<u32, Refusal>) -> Outcome {
+        match result {
+            Ok(value) => Outcome::told(Answer::Done, value),
+            Err(number) => Outcome::told(Answer::Refused(number), 0),
         }
     }
 
     fn of_stored(result: Result<(Stored, usize), Refusal>) -> Outcome {
-        match result {
-            Ok((stored, value)) => Outcome {
-                answer: if stored.cut {
-                    Answer::Cut
-                } else {
-                    Answer::Done
-                },
-                value: value as u32,
-                stores: stored.stores,
-                stop: None,
-            },
-            Err(number) => Outcome::of_value(Err(number)),
+        let (stored, value) = match result {
+            Ok(done) => done,
+            Err(number) => return Outcome::of_value(Err(number)),
+        };
+        let answer = if stored.cut {
+            Answer::Cut
+        } else {
+            Answer::Done
+        };
+        Outcome {
+            stores: stored.stores,
+            ..Outcome::told(answer, value as u32)
         }
     }
 
     fn of_part(part: &[u8]) -> Outcome {
-        Outcome {
-            answer: Answer::Part(part.len()),
-            value: adler32(part),
-            stores: 0,
-            stop: None,
-        }
+        Outcome::told(Answer::Part(part.len()), adler32(part))
     }
 
     fn of_equal(equal: bool) -> Outcome {
-        Outcome {
-            answer: if equal { Answer::Yes } else { Answer::No },
-            value: 0,
-            stores: 0,
-            stop: None,
-        }
+        Outcome::told(if equal { Answer::Yes } else { Answer::No }, 0)
     }
 }
 
@@ -218,72 +224,116 @@ impl World {
     }
 
     pub fn run(&mut self, call: &Call) -> Outcome {
+        let told = self
+            .state_call(call)
+            .or_else(|| self.storing_call(call))
+            .or_else(|| self.looking_call(call));
+        told.unwrap_or_else(|| self.stream_call(call))
+    }
+
+    /// The calls that store nothing on disk.
+    fn state_call(&mut self, call: &Call) -> Option<Outcome> {
         let World {
-            disk,
-            kept,
             memory,
             tail,
             state,
+            ..
         } = self;
-        match call {
-            Call::Begin => Outcome::of_value(state.begin(memory, tail).map(|id| id.0 as u32)),
+        let result = match call {
+            Call::Begin => state.begin(memory, tail).map(|id| id.0 as u32),
             Call::Write { id, address, bytes } => {
                 let result = state.write(memory, tail, *id, *address, bytes);
-                Outcome::of_value(result.map(|()| 0))
+                result.map(|()| 0)
             }
             Call::Read {
                 id,
                 address,
                 length,
-            } => Outcome::of_part(state.read(memory, tail, *id, *address, *length)),
+            } => {
+                let part = state.read(memory, tail, *id, *address, *length);
+                return Some(Outcome::of_part(part));
+            }
             Call::CheckRead {
                 id,
                 address,
                 length,
             } => {
                 let result = state.check_read(memory, tail, *id, *address, *length);
-                Outcome::of_value(result.map(|()| 0))
+                result.map(|()| 0)
             }
-            Call::Precommit { id } => {
-                Outcome::of_value(state.precommit(memory, tail, *id).map(|csn| csn.0))
-            }
-            Call::Abort { id } => Outcome::of_value(state.abort(memory, tail, *id).map(|()| 0)),
+            Call::Precommit { id } => state.precommit(memory, tail, *id).map(|csn| csn.0),
+            Call::Abort { id } => state.abort(memory, tail, *id).map(|()| 0),
+            Call::Settle { id } => state.settle(memory, tail, *id).map(|()| 0),
+            _ => return None,
+        };
+        Some(Outcome::of_value(result))
+    }
+
+    /// The calls that store on disk.
+    fn storing_call(&mut self, call: &Call) -> Option<Outcome> {
+        let World {
+            disk,
+            memory,
+            tail,
+            state,
+            ..
+        } = self;
+        match call {
             Call::Flush { groups, allowed } => {
                 let result = state.flush(disk, memory, tail, *groups, *allowed);
-                Outcome::of_stored(result.map(|stored| (stored, 0)))
+                Some(Outcome::of_stored(result.map(|stored| (stored, 0))))
             }
-            Call::Settle { id } => Outcome::of_value(state.settle(memory, tail, *id).map(|()| 0)),
             Call::Checkpoint { allowed } => {
                 let result = state.checkpoint(disk, memory, tail, *allowed);
-                Outcome::of_stored(result.map(|stored| (stored, 0)))
+                Some(Outcome::of_stored(result.map(|stored| (stored, 0))))
             }
             Call::Restart { allowed } => {
                 let (new, result) = restart(disk, memory, tail, *allowed);
                 *state = new;
-                Outcome {
+                Some(Outcome {
                     stop: result.ok().and_then(|done| done.stop),
                     ..Outcome::of_stored(result.map(|done| (done.stored, done.undone)))
-                }
+                })
             }
+            _ => None,
+        }
+    }
+
+    /// The calls that look at the disk without a state; what is lent to them is
+    /// the stream's own.
+    fn looking_call(&self, call: &Call) -> Option<Outcome> {
+        match call {
+            Call::Equal => Some(Outcome::of_equal(equal_in_meaning(&self.disk, &self.kept))),
+            Call::FirstGroups { groups } => {
+                let mut lent = vec![JUNK; MEMORY_LEN];
+                let result = first_groups(&self.disk, &mut lent, *groups);
+                Some(Outcome {
+                    stores: result.map_or(0, |reached| reached.csn.0 as usize),
+                    lent: Some(adler32(&lent)),
+                    ..Outcome::of_value(result.map(|reached| reached.log_end as u32))
+                })
+            }
+            _ => None,
+        }
+    }
+
+    /// The stream's own.
+    fn stream_call(&mut self, call: &Call) -> Outcome {
+        match call {
             Call::PowerFails => {
-                memory.fill(JUNK);
-                tail.fill(JUNK);
-                *state = State::default();
-                Outcome::of_value(Ok(0))
+                self.memory.fill(JUNK);
+                self.tail.fill(JUNK);
+                self.state = State::default();
             }
             Call::Damage { address, bytes } => {
-                for (offset, byte) in (*address..disk.len()).zip(bytes) {
-                    disk[offset] = *byte;
+                for (offset, byte) in (*address..self.disk.len()).zip(bytes) {
+                    self.disk[offset] = *byte;
                 }
-                Outcome::of_value(Ok(0))
             }
-            Call::KeepCopy => {
-                kept.clone_from(disk);
-                Outcome::of_value(Ok(0))
-            }
-            Call::Equal => Outcome::of_equal(equal_in_meaning(disk, kept)),
-            Call::Unknown { .. } => Outcome::of_value(Ok(0)),
+            Call::KeepCopy => self.kept.clone_from(&self.disk),
+            _ => {}
         }
+        Outcome::told(Answer::Done, 0)
     }
 
     /// The line for a call just run.
@@ -306,7 +356,7 @@ impl World {
             outcome.value,
             outcome.stores,
             adler32(&self.disk),
-            adler32(&self.memory),
+            outcome.lent.unwrap_or_else(|| adler32(&self.memory)),
             adler32(&self.tail),
             state_field(&self.state)
         );

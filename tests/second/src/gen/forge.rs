@@ -485,8 +485,13 @@ impl Generator {
         for _ in 0..self.rng.between(3, 9) {
             self.live_call(&PLAIN);
         }
-        let pointer = self.rng.pick(&[0, 1, 2, 3, 4, 255]);
+        let pointer = self.rng.pick(&[0, 1, 2, 3, 3, 4, 255]);
         self.put(POINTER, &[pointer]);
+        if pointer > 2 {
+            self.look();
+            self.emit(Call::KeepCopy);
+            self.emit(Call::Equal);
+        }
         if self.rng.percent(60) {
             self.checkpoint(20);
         }

@@ -19,6 +19,7 @@ pub enum Action {
     Checkpoint,
     Restart,
     PowerFails,
+    Look,
     Unknown,
 }
 
@@ -51,6 +52,7 @@ pub const PLAIN: Habits = Habits {
         (Action::Checkpoint, 4),
         (Action::Restart, 2),
         (Action::PowerFails, 2),
+        (Action::Look, 3),
         (Action::Unknown, 1),
     ],
     cut: 12,
@@ -73,6 +75,7 @@ pub const CUTS: Habits = Habits {
         (Action::Checkpoint, 14),
         (Action::Restart, 6),
         (Action::PowerFails, 1),
+        (Action::Look, 3),
     ],
     cut: 45,
     wild: 2,
@@ -92,6 +95,7 @@ pub const WILD: Habits = Habits {
         (Action::Flush, 3),
         (Action::Settle, 8),
         (Action::Checkpoint, 1),
+        (Action::Look, 2),
         (Action::Unknown, 2),
     ],
     cut: 2,
@@ -216,9 +220,10 @@ impl Generator {
             Action::PowerFails => {
                 self.emit(Call::PowerFails);
             }
+            Action::Look => self.look(),
             Action::Unknown => {
-                let high = self.rng.between(15, 255) as u8;
-                let number = self.rng.pick(&[0, 15, 255, high]);
+                let high = self.rng.between(16, 255) as u8;
+                let number = self.rng.pick(&[0, 16, 255, high]);
                 self.emit(Call::Unknown { number });
             }
         }

@@ -3,6 +3,7 @@
 
 mod forge;
 mod live;
+mod look;
 mod reads;
 mod scenes;
 
@@ -86,6 +87,8 @@ pub fn stream(seed: u64, records: usize, kind: Kind) -> Vec<u8> {
         image_fault: 0,
         log_fault: 0,
         near_full_turn: 0,
+        cut_turn: 0,
+        readers_turn: 0,
     };
     generator.open();
     while !generator.is_full() {
@@ -114,10 +117,13 @@ struct Generator {
     out: Vec<[u8; RECORD_LEN]>,
     /// The records that the stream, or the scene in hand, may have.
     limit: usize,
-    /// Faults and room left are taken in turn; these were the last.
+    /// Faults, room left, allowances and scenes of readers are taken in turn;
+    /// these were the last.
     image_fault: usize,
     log_fault: usize,
     near_full_turn: usize,
+    cut_turn: usize,
+    readers_turn: usize,
 }
 
 impl Generator {
@@ -171,12 +177,7 @@ impl Generator {
     /// Adds the call's record and runs it. Past the limit nothing happens.
     fn add(&mut self, call: Call) -> Outcome {
         if self.is_full() {
-            return Outcome {
-                answer: Answer::Refused(0),
-                value: 0,
-                stores: 0,
-                stop: None,
-            };
+            return Outcome::told(Answer::Refused(0), 0);
         }
         let record = self.encode(&call);
         self.out.push(record);
@@ -207,6 +208,7 @@ impl Generator {
                 put(16, *allowed);
             }
             Call::Checkpoint { allowed } | Call::Restart { allowed } => put(16, *allowed),
+            Call::FirstGroups { groups } => put(12, *groups),
             _ => {}
         }
         if let Some(id) = id_of(call) {
@@ -232,8 +234,9 @@ impl Generator {
     fn allowance(&mut self, need: usize, cut: usize) -> usize {
         if need > 0 && self.rng.percent(cut) {
             let somewhere = self.rng.below(need);
-            let few = [0, 1, need - 1, need.saturating_sub(2), somewhere, somewhere];
-            self.rng.pick(&few).min(need - 1)
+            let few = [0, 1, need - 1, need.saturating_sub(2), somewhere];
+            self.cut_turn += self.rng.between(1, 2);
+            few[self.cut_turn % few.len()].min(need - 1)
         } else {
             let more = need + self.rng.below(1_000);
             self.rng
@@ -260,6 +263,7 @@ impl Generator {
     }
 
     fn restart(&mut self, cut: usize) -> Outcome {
+        self.maybe_look(25);
         let need = self.need(&Call::Restart { allowed: 0 });
         let allowed = self.allowance(need, cut);
         self.emit(Call::Restart { allowed })
@@ -284,7 +288,7 @@ impl Generator {
         let mut bytes = self.out.concat();
         if self.rng.percent(70) {
             let count = self.rng.between(1, RECORD_LEN - 1);
-            bytes.push(self.rng.between(1, 14) as u8);
+            bytes.push(self.rng.between(1, 15) as u8);
             bytes.extend(self.rng.bytes(count - 1));
         }
         bytes

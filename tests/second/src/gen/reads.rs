@@ -32,11 +32,12 @@ impl Generator {
         }
     }
 
-    /// Readers at every limit.
+    /// Readers at every limit, by turns.
     pub fn readers(&mut self) {
         self.recover_if_needed();
         self.tidy();
-        match self.rng.below(3) {
+        self.readers_turn += 1;
+        match self.readers_turn % 3 {
             0 => self.two_readers(),
             1 => self.covered_parts(),
             _ => self.sixteen_ranges(),

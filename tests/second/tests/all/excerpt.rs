@@ -96,7 +96,7 @@ fn a_copy_is_kept_and_compared() {
         record(14, 0, 0, 0, [0, 0], &[]),
         record(13, 0, 0, 0, [0, 0], &[]),
         record(14, 0, 0, 0, [0, 0], &[]),
-        record(15, 0, 0, 0, [0, 0], &[]),
+        record(255, 0, 0, 0, [0, 0], &[]),
     ];
     let lines = trace(&records.concat());
     let lines: Vec<Vec<&str>> = lines.lines().map(|l| l.split(' ').collect()).collect();

@@ -5,14 +5,7 @@ use second::log::TxId;
 use second::trace::{Answer, Call, Outcome};
 
 fn feed(ledger: &mut Ledger, call: Call, answer: Answer, value: u32) {
-    let (stores, stop) = (0, None);
-    let outcome = Outcome {
-        answer,
-        value,
-        stores,
-        stop,
-    };
-    ledger.feed(&call, &outcome);
+    ledger.feed(&call, &Outcome::told(answer, value));
 }
 
 fn done(ledger: &mut Ledger, call: Call, value: u32) {

@@ -2,6 +2,7 @@
 
 mod cases;
 mod excerpt;
+mod inspect;
 mod ledger;
 mod number2;
 mod reads;

@@ -17,14 +17,11 @@ use Rattle.restart.specs.declared.forward.Slot.the-variants.{Nowhere}
 use Rattle.restart.specs.Forward.{wentBy}
 use Rattle.restart.specs.Turns.{hasIdIn, frontWrites}
 use Rattle.restart.proofs.SlotLaws.{found-below}
-use Rattle.restart.proofs.Steps.{as-turn, turn-none, turn-abort, turn-commit, step-room}
+use Rattle.restart.proofs.Steps.{as-turn, turn-none, turn-abort, turn-empty, turn-commit, step-room}
 use Rattle.restart.proofs.forward.step.Statement.{statement}
 use Rattle.restart.proofs.forward.step.Tie as tie
 
 -- places of the code by name
-
-abbrev afterGroup2FromPassGroup2 : tie.After-pass-group2 → tie.After-group2
-afterGroup2FromPassGroup2 c = c .before .before .before .before .before .before .before .before
 
 abbrev entryFromFound : tie.After-found → tie.Start
 entryFromFound c = c .before .before .before .before .before .before .before .before .before .before
@@ -35,11 +32,11 @@ entryFromUnfinished c = entryFromFound (c .before)
 abbrev entryFromPassGroup : tie.After-pass-group → tie.Start
 entryFromPassGroup c = entryFromUnfinished (c .before)
 
-abbrev entryFromSliceKnown2 : tie.After-slice-known2 → tie.Start
-entryFromSliceKnown2 c = c .before .before .before .before .before .before .before .before .before .before .before .before .before .before
+abbrev entryFromFind2 : tie.After-find2 → tie.Start
+entryFromFind2 c = c .before .before .before .before .before .before .before .before .before
 
-abbrev entryFromPassGroup2 : tie.After-pass-group2 → tie.Start
-entryFromPassGroup2 c = entryFromSliceKnown2 (c .before)
+abbrev find2FromSliceKnown2 : tie.After-slice-known2 → tie.After-find2
+find2FromSliceKnown2 c = c .before .before .before .before .before .before .before
 
 -- what was read at the end reached
 read-at : (c : tie.After-read-group)
@@ -111,6 +108,26 @@ enum-known-group-2 c = search needs
 find-requires-2 : tie.Need-find-requires-2
 find-requires-2 c κs = search needs
 
+add-pass-group-2 : tie.Need-add-pass-group-2
+add-pass-group-2 c =
+    let s = entryFromFind2 c in
+    let e = commit-at (c .before .before) in
+    omega (arith, step-room (s .args .log .now) (s .args .p) _ (s .pre .1 .1) (e .1), e .2, s .good)
+
+pass-group-requires-2 : tie.Need-pass-group-requires-2
+pass-group-requires-2 c κs =
+    let s = entryFromFind2 c in
+    found-below (hasIdIn (s .args .ids) _) (s .args .n) 8 _ (s .pre .0) (c .find2 .ensures)
+
+returns-2 : tie.Need-returns-2
+returns-2 c =
+    let f = c .before .before in
+    let a = entryFromFind2 f .args in
+    let e = commit-at (f .before .before) in
+    let t = turn-empty (a .ids) (a .n) (a .log .now) (wentBy (a .memory .now) (a .p)) _ _ _ _ (e .0) (e .1) (e .2) (c .if1 .taken) (f .find2 .ensures) in
+    as-turn (a .ids) (a .n) (a .log .now) (wentBy (a .memory .now) (a .p)) _ _ _ t
+    (ap (λ (p : Pass). record { pass = p; undo = Nowhere }) (c .before .pass-group2 .ensures)) refl
+
 sub-redo-all : tie.Need-sub-redo-all
 sub-redo-all c = search needs
 
@@ -121,46 +138,36 @@ part-redo-all-end : tie.Need-part-redo-all-end
 part-redo-all-end c = search needs
 
 sub-redo-all-2 : tie.Need-sub-redo-all-2
-sub-redo-all-2 c = omega (arith, commit-at (c .before .before .before .before) .2)
+sub-redo-all-2 c = omega (arith, commit-at (c .before .before .before .before .before .before) .2)
 
 redo-all-requires : tie.Need-redo-all-requires
 redo-all-requires c κs =
-    let s = c .before .before .before .before .before .before .before .before .before .before .before in
+    let f = c .before .before .before .before in
+    let s = entryFromFind2 f in
     let a = s .args in
-    let e = commit-at (c .before .before .before .before) in
+    let e = commit-at (f .before .before) in
     let g = group-inv _ _ (committed _ _ (e .0)) (e .1) in
     ((a .p .csn .0, _, e .0, ap (readBody (a .p .csn .0) _) (from (a .log .now) (a .p .end)) ∙ g .1, omega (arith, e .2)), s .pre .1 .0)
-
-add-pass-group-2 : tie.Need-add-pass-group-2
-add-pass-group-2 c =
-    let s = entryFromSliceKnown2 c in
-    let e = commit-at (c .before .before .before .before .before .before .before) in
-    omega (arith, step-room (s .args .log .now) (s .args .p) _ (s .pre .1 .1) (e .1), e .2, s .good)
-
-pass-group-requires-2 : tie.Need-pass-group-requires-2
-pass-group-requires-2 c κs =
-    let s = entryFromSliceKnown2 c in
-    found-below (hasIdIn (s .args .ids) _) (s .args .n) 8 _ (s .pre .0) (c .before .before .before .before .before .find2 .ensures)
 
 same-length : tie.Need-same-length
 same-length c = search needs
 
-returns-2 : tie.Need-returns-2
-returns-2 c =
-    let a = entryFromPassGroup2 c .args in
-    let e = commit-at (afterGroup2FromPassGroup2 c) in
-    let m = c .before .before .before .redo-all .ensures
+returns-3 : tie.Need-returns-3
+returns-3 c =
+    let f = find2FromSliceKnown2 c in
+    let a = entryFromFind2 f .args in
+    let e = commit-at (f .before .before) in
+    let m = c .before .before .redo-all .ensures
     ∙ ap (λ (t : List ℕ). redoAll layBytes (frontWrites t) (a .memory .now)) (from (a .log .now) (a .p .end)) in
-    let t = turn-commit (a .ids) (a .n) (a .log .now) (wentBy (a .memory .now) (a .p)) _ _ _ _ (e .0) _ (e .1) (e .2)
-    (c .before .before .before .before .before .before .find2 .ensures) m in
+    let t = turn-commit (a .ids) (a .n) (a .log .now) (wentBy (a .memory .now) (a .p)) _ _ _ _ (e .0) _ (e .1) (e .2) (f .find2 .ensures) m in
     as-turn (a .ids) (a .n) (a .log .now) (wentBy (a .memory .now) (a .p)) _ _ _ t
-    (ap (λ (p : Pass). record { pass = p; undo = Nowhere }) (c .pass-group2 .ensures)) refl
+    (ap (λ (p : Pass). record { pass = p; undo = Nowhere }) (c .before .before .before .before .before .before .pass-group2 .ensures)) refl
 
 enum-told : tie.Need-enum-told
 enum-told c = search needs
 
-returns-3 : tie.Need-returns-3
-returns-3 c =
+returns-4 : tie.Need-returns-4
+returns-4 c =
     let a = c .before .before .before .before .before .before .before .args in
     let t = turn-none (a .ids) (a .n) (a .log .now) (wentBy (a .memory .now) (a .p))
     (end-none _ _ _ (sym (read-at (c .before .before)) ∙ c .enum-told .given .1) .0) in
@@ -182,14 +189,15 @@ step-spec =
     returns
     enum-known-group-2
     find-requires-2
+    add-pass-group-2
+    pass-group-requires-2
+    returns-2
     sub-redo-all
     part-redo-all-start
     part-redo-all-end
     sub-redo-all-2
     redo-all-requires
-    add-pass-group-2
-    pass-group-requires-2
     same-length
-    returns-2
+    returns-3
     enum-told
-    returns-3)
+    returns-4)

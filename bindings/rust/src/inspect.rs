@@ -1,0 +1,56 @@
+//! What can be looked up on a disk without a state. Nothing is stored on it.
+
+use crate::abi;
+use crate::calls::{Csn, Disk, Memory, DISK_LEN, MEMORY_LEN};
+use crate::refusal::Refusal;
+
+/// How far into the log the first groups reach.
+#[derive(Clone, Copy, Debug, PartialEq, Eq)]
+pub struct FirstGroups {
+    /// Where they end, counted from the log's first byte; with no group where the image's log ends.
+    pub end: usize,
+    /// The last commit number up to there.
+    pub csn: Csn,
+}
+
+fn answer(number: u8) -> Result<(), Refusal> {
+    match Refusal::from_number(number) {
+        Some(refusal) => Err(refusal),
+        None => Ok(()),
+    }
+}
+
+/// Makes memory what it is after the first groups of the log from the image's place on, or all if there are fewer, on the way through a
+/// restart: nothing that is left unfinished there is undone yet. Refused by 3 and 4, as a restart is, memory is zero.
+///
+/// ```
+/// use luppaneth::calls::*;
+/// use luppaneth::inspect::first_groups;
+///
+/// let mut memory = [7; MEMORY_LEN];
+/// let reached = first_groups(&[0; DISK_LEN], &mut memory, 3).unwrap();
+/// assert_eq!((reached.end, reached.csn), (0, Csn(0)));
+/// assert_eq!(memory, [0; MEMORY_LEN]);
+/// ```
+pub fn first_groups(
+    disk: &Disk,
+    memory: &mut Memory,
+    groups: usize,
+) -> Result<FirstGroups, Refusal> {
+    // SAFETY: the library's functions are proved total and touch nothing but the buffers lent, each of which is a reference with its length;
+    // what is lent for writing is borrowed alone.
+    let reply = unsafe {
+        abi::luppaneth_first_groups(
+            disk.as_ptr(),
+            DISK_LEN,
+            memory.as_mut_ptr(),
+            MEMORY_LEN,
+            groups,
+        )
+    };
+    answer(reply.number)?;
+    Ok(FirstGroups {
+        end: reply.end,
+        csn: Csn(reply.csn),
+    })
+}

@@ -1,0 +1,35 @@
+// Calls that look at a disk without a state. They store nothing on it.
+use crate::numbers;
+use inspect::groups::first_groups;
+ghost use mathlib.Core.Path.{_≡_};
+ghost use Rattle.inspect.specs.Groups.{firstGroupsOf};
+ghost use Rattle.embed.specs.Looks.{groupsReply};
+
+// answer and number as in `Reply`. csn and end: the last commit number and the log's end reached; 0 where refused.
+#[repr(C)]
+pub struct GroupsReply {
+    pub answer: u8,
+    pub number: u8,
+    pub csn: u32,
+    pub end: usize,
+}
+
+#[no_mangle]
+pub extern "C" fn luppaneth_first_groups(
+    disk: &[u8],
+    memory: &mut [u8],
+    groups: usize,
+) -> GroupsReply
+    ensures { λ r. ⌜ r ≡ groupsReply (firstGroupsOf (now (disk .entry)) (now (memory .entry)) groups .result) ⌝ }
+    ensures { λ _. ⌜ now (memory .exit) ≡ firstGroupsOf (now (disk .entry)) (now (memory .entry)) groups .memory ⌝ }
+{
+    let r = first_groups(disk, memory, groups);
+    let answer = r.answer;
+    let n = numbers(answer);
+    GroupsReply {
+        answer: n.0,
+        number: n.1,
+        csn: r.csn.0,
+        end: r.end,
+    }
+}

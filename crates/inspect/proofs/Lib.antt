@@ -1,0 +1,4 @@
+-- Laws of what is looked up on a disk: the first groups of its log, by cases (Applying), and up to restart (Advancing).
+pub mod Applying
+pub mod Advancing
+pub mod Cases

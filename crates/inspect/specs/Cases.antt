@@ -1,0 +1,70 @@
+-- Document 01's disks M1, M3 and M4 after so many of their groups, as the definition tells it.
+use Prim.Native.Nat.{ℕ}
+use mathlib.Core.List.{List, [], _∷_, _++_, map}
+use mathlib.Core.Path.{_≡_}
+use lib.ListN.{getD, replicate}
+use Rattle.layout.specs.{memoryLen}
+use Rattle.inspect.specs.Groups.{GroupsTold, GroupsLeft, firstGroupsOf}
+use Rattle.store.specs.Answer.{Word, done, refused}
+
+-- a pointer byte, image A, and the log; B is zeros
+abbrev diskOf : ℕ → List ℕ → List ℕ → List ℕ
+diskOf pointer image log = pointer ∷ (image ++ (replicate 8653 0 ++ log))
+
+-- image A of a disk: log end and number on disk 0, one number and one id given, one transaction; the byte at 10 is 5, its old byte 0
+abbrev imageOf : ℕ → ℕ → ℕ → List ℕ
+imageOf assigned status csn =
+    (0 ∷ 0 ∷ 0 ∷ 0 ∷ 0 ∷ 0 ∷ 0 ∷ 0 ∷ 0 ∷ assigned ∷ 0 ∷ 1 ∷ 1 ∷ [])
+    ++ ((replicate 10 0 ++ (5 ∷ replicate 4085 0)) ++ ((0 ∷ 1 ∷ status ∷ 0 ∷ 0 ∷ 0 ∷ csn ∷ 1 ∷ 0 ∷ 10 ∷ 1 ∷ 0 ∷ []) ++ replicate 4532 0))
+
+-- "id 1 writes 41 42 (hexadecimal) at 10, precommits, flush 1"; without its last byte; and with a pointer byte of 3
+abbrev m1 : List ℕ
+m1 = 0x01 ∷ 0x00 ∷ 0x01 ∷ 0x00 ∷ 0x0A ∷ 0x02 ∷ 0x41 ∷ 0x42 ∷ 0x01 ∷ 0x02 ∷ 0x00 ∷ 0x01 ∷ 0x00 ∷ 0x00 ∷ 0x00 ∷ 0x01 ∷ []
+
+abbrev diskM1 : ℕ → ℕ → List ℕ
+diskM1 pointer last = diskOf pointer (replicate 8653 0) (m1 ++ (last ∷ replicate 16367 0))
+
+-- "Id 1 writes 5 over 0 at 10, checkpoint, abort; id 2 writes 7 there, precommit, flush 2"
+abbrev diskM3 : List ℕ
+diskM3 = diskOf 1 (imageOf 0 1 0) ((3 ∷ 0 ∷ 1 ∷ 3 ∷ 1 ∷ 0 ∷ 2 ∷ 0 ∷ 10 ∷ 1 ∷ 7 ∷ 1 ∷ 2 ∷ 0 ∷ 2 ∷ 0 ∷ 0 ∷ 0 ∷ 1 ∷ 2 ∷ []) ++ replicate 16364 0)
+
+-- "Id 1 writes 5 at 10, precommit, checkpoint, no flush": restart's step 4 undoes it
+abbrev diskM4 : List ℕ
+diskM4 = diskOf 1 (imageOf 1 2 1) (replicate 16384 0)
+
+-- what is told, and the byte of memory at 10
+pub record Shown : Type 0 where
+  pub told : GroupsTold
+  pub byte : ℕ
+
+pub record Row : Type 0 where
+  pub disk : List ℕ
+  pub groups : ℕ
+  pub shown : Shown
+
+abbrev row : List ℕ → ℕ → Word → ℕ → ℕ → ℕ → Row
+row disk groups says end csn byte =
+    record { disk = disk; groups = groups; shown = record { told = record { says = says; end = end; csn = csn }; byte = byte } }
+
+abbrev pub rows : List Row
+rows =
+    row (diskM1 0 2) 0 done 0 0 0
+    ∷ row (diskM1 0 2) 1 done 17 1 0x41
+    ∷ row (diskM1 0 2) 9 done 17 1 0x41
+    ∷ row (diskM1 0 0) 1 done 0 0 0
+    ∷ row (diskM1 3 2) 1 (refused 3) 0 0 0
+    ∷ row diskM3 0 done 0 0 5
+    ∷ row diskM3 1 done 4 0 0
+    ∷ row diskM3 2 done 20 1 7
+    ∷ row diskM4 9 done 0 0 5
+    ∷ []
+
+abbrev shownBy : GroupsLeft → Shown
+shownBy x = record { told = x .result; byte = getD (x .memory) 10 0 }
+
+-- of a memory that holds something else before
+abbrev pub shownOf : Row → Shown
+shownOf r = shownBy (firstGroupsOf (r .disk) (replicate memoryLen 165) (r .groups))
+
+abbrev pub Worked : Type 0
+Worked = map shownOf rows ≡ map (λ r. r .shown) rows

@@ -1,0 +1,3 @@
+-- What is looked up on a disk without a state.
+pub mod Groups
+pub mod Cases

@@ -1,0 +1,2 @@
+// What is looked up on a disk without a state. Nothing is stored on it.
+pub mod groups;

@@ -1,0 +1,34 @@
+//! What looks at a disk, takes no state and stores nothing: the first groups
+//! (document 02, A.3).
+
+use crate::layout::{DISK_LEN, LOG, MEMORY_LEN};
+use crate::log::{read_log, Csn, Group};
+use crate::restart::{go_forward, named_image};
+use crate::state::Refusal;
+
+/// How far the first groups reach.
+#[derive(Clone, Copy, Debug, PartialEq, Eq)]
+pub struct Reached {
+    pub log_end: usize,
+    pub csn: Csn,
+}
+
+/// Leaves the memory as it is after step 3's first so many groups, or all if
+/// fewer; with none it is the image's. Numbers 1, 3 and 4 as at restart.
+pub fn first_groups(disk: &[u8], memory: &mut [u8], count: usize) -> Result<Reached, Refusal> {
+    if disk.len() != DISK_LEN || memory.len() != MEMORY_LEN {
+        return Err(1);
+    }
+    memory.fill(0);
+    let (image, image_memory) = named_image(disk)?;
+    memory.copy_from_slice(&image_memory);
+    let log = read_log(&disk[LOG + image.log_end..], image.csn_on_disk);
+    let first = &log.groups[..count.min(log.groups.len())];
+    go_forward(first, image.txs, memory);
+    let size = first.iter().map(Group::size).sum::<usize>();
+    let last = first.iter().filter_map(Group::csn).next_back();
+    Ok(Reached {
+        log_end: image.log_end + size,
+        csn: last.unwrap_or(image.csn_on_disk),
+    })
+}
