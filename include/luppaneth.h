@@ -219,10 +219,11 @@ static inline int lup_restart(struct luppaneth *l, size_t allowed, uint32_t *und
     return lup_take(l, &r);
 }
 
-/* Memory as it is after the first groups of l->disk's log: for a look at a disk before its restart, which makes memory anew. */
-static inline int lup_first_groups(struct luppaneth *l, size_t groups, size_t *end, uint32_t *csn)
+/* Fills memory as it is after the first groups of l->disk's log. It is the caller's own buffer: l->memory, with what is booked and not on disk
+ * yet, stays. */
+static inline int lup_first_groups(const struct luppaneth *l, size_t groups, unsigned char memory[LUPPANETH_MEMORY_LEN], size_t *end, uint32_t *csn)
 {
-    struct luppaneth_groups_reply r = luppaneth_first_groups(l->disk, sizeof l->disk, l->memory, sizeof l->memory, groups);
+    struct luppaneth_groups_reply r = luppaneth_first_groups(l->disk, sizeof l->disk, memory, LUPPANETH_MEMORY_LEN, groups);
     *end = r.end;
     *csn = r.csn;
     return r.number;

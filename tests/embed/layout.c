@@ -244,21 +244,22 @@ static void test_holds(struct luppaneth *l)
 static void test_first_groups(struct luppaneth *l)
 {
     static struct luppaneth copy;
+    static unsigned char memory[LUPPANETH_MEMORY_LEN];
     size_t end = 7;
     uint32_t csn = 7;
     copy = *l;
+    memset(memory, 165, sizeof memory);
     copy.disk[0] = 0;
-    expect(lup_first_groups(&copy, 0, &end, &csn) == 0 && end == 0 && csn == 0 && copy.memory[10] == 0, "no groups");
-    expect(lup_first_groups(&copy, 1, &end, &csn) == 0 && end == 17 && csn == 1 && copy.memory[10] == 0x41, "the first group");
-    expect(lup_first_groups(&copy, LUPPANETH_ALL, &end, &csn) == 0 && end == 17 && csn == 1, "all groups");
+    expect(lup_first_groups(&copy, 0, memory, &end, &csn) == 0 && end == 0 && csn == 0 && memory[10] == 0, "no groups");
+    expect(lup_first_groups(&copy, 1, memory, &end, &csn) == 0 && end == 17 && csn == 1 && memory[10] == 0x41, "the first group");
+    expect(lup_first_groups(&copy, LUPPANETH_ALL, memory, &end, &csn) == 0 && end == 17 && csn == 1, "all groups");
     copy.disk[0] = 1;
-    expect(lup_first_groups(&copy, 0, &end, &csn) == 0 && end == 17 && csn == 1 && copy.memory[10] == 0x41, "an image's own");
+    expect(lup_first_groups(&copy, 0, memory, &end, &csn) == 0 && end == 17 && csn == 1 && memory[10] == 0x41, "an image's own");
     copy.disk[0] = 3;
-    expect(lup_first_groups(&copy, 1, &end, &csn) == LUPPANETH_BAD_POINTER && end == 0 && csn == 0 && zeros(copy.memory, sizeof copy.memory),
+    expect(lup_first_groups(&copy, 1, memory, &end, &csn) == LUPPANETH_BAD_POINTER && end == 0 && csn == 0 && zeros(memory, sizeof memory),
            "the first groups of a disk that is refused");
-    copy.memory[0] = 9;
-    expect(luppaneth_first_groups(l->disk, sizeof l->disk - 1, copy.memory, sizeof copy.memory, 1).number == LUPPANETH_WRONG_LENGTH &&
-               copy.memory[0] == 9,
+    memory[0] = 9;
+    expect(luppaneth_first_groups(l->disk, sizeof l->disk - 1, memory, sizeof memory, 1).number == LUPPANETH_WRONG_LENGTH && memory[0] == 9,
            "the first groups of a disk that is too short");
 }
 
