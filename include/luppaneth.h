@@ -34,6 +34,8 @@ extern "C" {
 #define LUPPANETH_TAIL_LEN 16384
 #define LUPPANETH_DISK_LEN 33691
 #define LUPPANETH_TEXT_LEN 80
+#define LUPPANETH_PAGE_LEN 256
+#define LUPPANETH_PAGES 16
 #define LUPPANETH_STATE_LEN 9488
 
 /* Parts of the disk: the pointer byte at 0, image A, image B, the log. */
@@ -76,7 +78,8 @@ enum luppaneth_number {
     LUPPANETH_LOG_FULL = 13,              /* begin, write: the log has no room for it */
     LUPPANETH_NOT_DURABLE = 14,           /* settle: it is running, or its commit isn't on disk yet */
     LUPPANETH_TOO_MANY_READS = 15,        /* read_answer: it has 16 read ranges */
-    LUPPANETH_TWO_PAGES = 16              /* write: the range lies in two pages of 256 bytes; make two writes of it */
+    LUPPANETH_TWO_PAGES = 16,             /* write: the range lies in two pages of 256 bytes; make two writes of it */
+    LUPPANETH_BAD_PAGE = 17               /* read_page: a page above 15; tested after 1 */
 };
 
 /* A reply's `stop`: why the log ended where it did, as a restart that is done found it. */
@@ -167,6 +170,10 @@ struct luppaneth_reply luppaneth_restart(unsigned char *disk, size_t disk_len, u
 struct luppaneth_groups_reply luppaneth_first_groups(const unsigned char *disk, size_t disk_len, unsigned char *memory, size_t memory_len,
                                                      size_t groups);
 
+/* The buffer of 256 bytes becomes one of the pattern's sixteen pages, counted from 0, as a restart would leave it; nothing is stored on the disk.
+ * Returns 0, or the number that refuses: 1 or 17 (the buffer stays), 3, 4 or 5 as a restart would give (the buffer is zeroed). */
+uint8_t luppaneth_read_page(const unsigned char *disk, size_t disk_len, size_t page, unsigned char *buffer, size_t buffer_len);
+
 /* Whether a restart accepts both disks and leaves the same memory. Neither is changed. */
 bool luppaneth_equal(const unsigned char *a, size_t a_len, const unsigned char *b, size_t b_len);
 
@@ -182,7 +189,7 @@ size_t luppaneth_text_len(void);
 
 /* ---- The layer that holds state and buffers
  *
- * Each call returns 0 for done, a luppaneth_number (1 to 16) where refused, or LUP_CUT, which none gives with LUPPANETH_ALL stores allowed. What is
+ * Each call returns 0 for done, a luppaneth_number (1 to 17) where refused, or LUP_CUT, which none gives with LUPPANETH_ALL stores allowed. What is
  * handed out through a pointer is 0 (for read NULL) unless the call is done. A `struct luppaneth` has 63,672 bytes: keep it static or on the heap. */
 
 #define LUP_CUT (-1)
@@ -228,6 +235,12 @@ static inline int lup_first_groups(const struct luppaneth *l, size_t groups, uns
     *end = r.end;
     *csn = r.csn;
     return r.number;
+}
+
+/* One page of l->disk's pattern, as a restart would leave it. */
+static inline int lup_read_page(const struct luppaneth *l, size_t page, unsigned char buffer[LUPPANETH_PAGE_LEN])
+{
+    return luppaneth_read_page(l->disk, sizeof l->disk, page, buffer, LUPPANETH_PAGE_LEN);
 }
 
 static inline int lup_begin(struct luppaneth *l, uint16_t *id)
@@ -315,6 +328,7 @@ static inline const char *lup_text(int answer)
         "the booking isn't on disk yet",
         "the transaction has read 16 ranges",
         "the write lies in two pages of 256 bytes; make two of it",
+        "the page is above 15",
     };
     if (answer == LUP_CUT)
         return "cut short";

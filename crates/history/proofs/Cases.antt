@@ -27,6 +27,7 @@ use Rattle.store.specs.Steps.{begunState, writtenState, readState, precommitted
 use Rattle.disk.specs.Open.{loadOf, notOpened, openOf}
 use Rattle.disk.specs.Examine.{refusedBy, stepsOf, examineOf}
 use Rattle.disk.specs.Restart.{recoveredState, restartOf, stopFound, stoppedOf}
+use Rattle.inspect.specs.Page.{pageOf}
 use Rattle.text.specs.{decimal}
 use Rattle.listing.specs.Lines.{line, foundText, stopLine}
 use Rattle.listing.specs.Listing.{listingOf}
@@ -49,7 +50,7 @@ computed : map quickShown rows ≡ map (λ r. some (r .expected)) rows
 unfolding undoOrder readRecord readRedo readCommit readAbort run all readBody readGroup readLog emptyRecords emptyTx headOk stateOk heldAgainst pushed freshTx
     written withRead precommitted loaded packedTxs packed emptyImage undoHere readTx readContent memoryOf past forwardOf isRunning isLost runningOf lostOf
     recoverOf unrecovered unfit begunState writtenState readState precommittedState without droppedState loadOf notOpened openOf refusedBy stepsOf examineOf recoveredState
-    restartOf carriedOut stopOf stopFound stoppedOf decimal line foundText stopLine listingOf
+    restartOf carriedOut stopOf stopFound stoppedOf pageOf decimal line foundText stopLine listingOf
 computed = refl
 
 -- what is computed is what the definitions show

@@ -5,7 +5,7 @@ use mathlib.Core.List.{List, [], _∷_, _++_, map, reverse}
 use mathlib.Core.Path.{_≡_}
 use lib.ListN.{getD, take, drop, replicate}
 use lib.Seq.{sets}
-use Rattle.layout.specs.{imageA, txsStart, logStart}
+use Rattle.layout.specs.{pageLen, imageA, txsStart, logStart}
 use Rattle.recovery.specs.Transaction.{Tx}
 use Rattle.recovery.specs.Replay.{undoAll, undoEach, layBytes}
 use Rattle.recovery.specs.Restart.{undoOf, undoOrder}
@@ -13,6 +13,7 @@ use Rattle.image.specs.Content.{transactionsIn}
 use Rattle.store.specs.Answer.{done, cut, refused}
 use Rattle.disk.specs.Layout.{logFrom}
 use Rattle.disk.specs.Open.{openOf}
+use Rattle.inspect.specs.Page.{pageOf, laidTogether}
 use Rattle.text.specs.{ascii}
 use Rattle.listing.specs.Listing.{restartWhole, listingOf}
 use Rattle.history.specs.Calls.{Call, begin, write, read, readAnswer, precommit, abort, flush, settle, checkpoint, restart}
@@ -62,9 +63,14 @@ listingOver i xs j ys w = listingOf (sets (sets (w .disk) i xs) j ys)
 abbrev pub listingWith : List ℕ → World → List ℕ
 listingWith log w = listingOf (take logStart (w .disk) ++ log)
 
--- what restart leaves in memory, around the first page's end, of the disk with a pointer byte and counters of image A, transactions there, and a log
-abbrev pub aroundPageEnd : List ℕ → List ℕ → List ℕ → World → List ℕ
-aroundPageEnd front txs log w = take 6 (drop 253 (restartWhole (sets (sets (sets (w .disk) 0 front) (imageA + txsStart) txs) logStart log) .memory))
+-- the disk with a pointer byte and counters of image A, transactions there, and a log
+abbrev pub forged : List ℕ → List ℕ → List ℕ → World → List ℕ
+forged front txs log w = sets (sets (sets (w .disk) 0 front) (imageA + txsStart) txs) logStart log
+
+-- what stands around the first page's end, in the memory that restart leaves and in the first two pages laid together
+abbrev pub aroundPageEnd : List ℕ → List ℕ
+aroundPageEnd disk =
+    take 6 (drop 253 (restartWhole disk .memory)) ++ take 6 (drop 253 (laidTogether (λ n. pageOf disk n (replicate pageLen 165) .buffer) 2))
 
 -- one place to look and then another
 abbrev pub both : (World → List ℕ) → (World → List ℕ) → World → List ℕ
@@ -126,6 +132,10 @@ loneRedo = 0x01 ∷ 0x00 ∷ 0x01 ∷ 0x00 ∷ 0x0A ∷ 0x01 ∷ 0x05 ∷ 0x01 �
 -- a commit group of an id, with commit number 1: it writes 1, 2, 3 from 255 on, so over two pages
 abbrev pub crossingGroup : ℕ → List ℕ
 crossingGroup id = 0x01 ∷ 0 ∷ id ∷ 0x00 ∷ 0xFF ∷ 0x03 ∷ 1 ∷ 2 ∷ 3 ∷ 0x01 ∷ 0x02 ∷ 0 ∷ id ∷ 0 ∷ 0 ∷ 0 ∷ 1 ∷ 0x02 ∷ []
+
+-- in memory, and in the pages
+abbrev pub twice : List ℕ → List ℕ
+twice bytes = bytes ++ bytes
 
 -- pointer byte 1 and the counters of an image with one transaction
 abbrev pub oneTx : List ℕ
@@ -337,23 +347,23 @@ rows =
         seen = [];
       };
     }
-    -- records over two pages, as older disks may have them, are carried out in full: a redo record in the log
+    -- records over two pages, as older disks may have them, are carried out in full, and fall into both (document 02, A.6): a redo record in the log
     ∷ record {
       calls = [];
-      look = aroundPageEnd [] [] (crossingGroup 1);
-      expected = record { replies = []; seen = 0 ∷ 0 ∷ 1 ∷ 2 ∷ 3 ∷ 0 ∷ [] };
+      look = λ w. aroundPageEnd (forged [] [] (crossingGroup 1) w);
+      expected = record { replies = []; seen = twice (0 ∷ 0 ∷ 1 ∷ 2 ∷ 3 ∷ 0 ∷ []) };
     }
     -- an undo record in the image, undone by step 4
     ∷ record {
       calls = [];
-      look = aroundPageEnd oneTx crossingTx [];
-      expected = record { replies = []; seen = 0 ∷ 5 ∷ 6 ∷ 7 ∷ 0 ∷ 0 ∷ [] };
+      look = λ w. aroundPageEnd (forged oneTx crossingTx [] w);
+      expected = record { replies = []; seen = twice (0 ∷ 5 ∷ 6 ∷ 7 ∷ 0 ∷ 0 ∷ []) };
     }
     -- the same undone by an abort in the log, then the redo record of another
     ∷ record {
       calls = [];
-      look = aroundPageEnd oneTx crossingTx (3 ∷ 0 ∷ 1 ∷ 3 ∷ crossingGroup 2);
-      expected = record { replies = []; seen = 0 ∷ 5 ∷ 1 ∷ 2 ∷ 3 ∷ 0 ∷ [] };
+      look = λ w. aroundPageEnd (forged oneTx crossingTx (3 ∷ 0 ∷ 1 ∷ 3 ∷ crossingGroup 2) w);
+      expected = record { replies = []; seen = twice (0 ∷ 5 ∷ 1 ∷ 2 ∷ 3 ∷ 0 ∷ []) };
     }
     ∷ []
 

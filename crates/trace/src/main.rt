@@ -11,8 +11,10 @@ use crate::record::read_record;
 use disk::call::restart;
 use disk::equal::equal;
 use inspect::groups::first_groups;
+use inspect::page::read_page;
 use layout::DISK_LEN;
 use layout::MEMORY_LEN;
+use layout::PAGE_LEN;
 use layout::TAIL_LEN;
 use libc::STDIN_FILENO;
 use log::stores::copy;
@@ -92,6 +94,12 @@ fn groups_call(r: Record, s: State, disk: &[u8], seen: &mut [u8]) -> Report {
     Report::stored(answer, x.end, x.csn.0 as usize, s)
 }
 
+// One page, into a buffer of the stream's own, which is the line's memory.
+fn page_call(r: Record, s: State, disk: &[u8], seen: &mut [u8]) -> Report {
+    let answer = read_page(disk, r.addr, seen);
+    Report::stored(answer, 0, 0, s)
+}
+
 // The calls that work in memory.
 fn memory_call(r: Record, data: &[u8], s: State, memory: &mut [u8], tail: &mut [u8]) -> Report {
     let id = r.id;
@@ -165,6 +173,12 @@ fn step(
         15 => {
             let mut seen = [165u8; MEMORY_LEN];
             let out = groups_call(r, s, &*disk, &mut seen);
+            print_line(call, out, &*disk, &seen, &*tail);
+            out.state
+        }
+        16 => {
+            let mut seen = [165u8; PAGE_LEN];
+            let out = page_call(r, s, &*disk, &mut seen);
             print_line(call, out, &*disk, &seen, &*tail);
             out.state
         }
