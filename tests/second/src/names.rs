@@ -1,7 +1,7 @@
 //! What a call did, in words that can be counted.
 
 use crate::layout::LOG;
-use crate::log::{read_log, read_record, Group, Record, Stop, Write};
+use crate::log::{read_log, read_record, Group, Record, Stop, TxId, Write};
 use crate::needs::{groups_to_restart, stores_needed};
 use crate::restart::{named_image, recover};
 use crate::trace::{Answer, Call, Outcome, World};
@@ -17,6 +17,9 @@ pub fn names(before: &World, call: &Call, outcome: &Outcome) -> Vec<String> {
         Call::Read { .. } if is_uncovered(before, call) => names.push("uncovered".to_string()),
         Call::Restart { .. } if outcome.answer == Answer::Done => {
             names.extend(log_names(&before.disk, outcome.stop));
+        }
+        Call::GoBack { id, name } if outcome.answer == Answer::Done => {
+            names.push(return_name(before, *id, *name));
         }
         Call::Equal => names.extend(compared_names(before, outcome)),
         Call::FirstGroups { groups } => names.extend(first_groups_names(before, *groups)),
@@ -113,6 +116,21 @@ fn compared_names(world: &World, outcome: &Outcome) -> Vec<String> {
         }
     }
     names
+}
+
+/// How many writes a return takes back.
+fn return_name(before: &World, id: TxId, name: u8) -> String {
+    let state = &before.state;
+    let tx = state.find(id).map(|index| &state.txs[index]);
+    let later = tx.and_then(|tx| {
+        let set = tx.savepoints.iter().find(|s| s.name == name)?;
+        Some(tx.undo.len() - set.writes)
+    });
+    match later {
+        Some(0) => "over none".to_string(),
+        Some(8) => "over eight".to_string(),
+        _ => "over some".to_string(),
+    }
 }
 
 /// The groups asked for, seen from those that there are; and a disk that

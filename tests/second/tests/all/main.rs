@@ -9,6 +9,7 @@ mod pages;
 mod reads;
 mod restart;
 mod rig;
+mod savepoints;
 mod serial;
 mod stops;
 mod streams;
