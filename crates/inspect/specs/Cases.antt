@@ -8,7 +8,7 @@ use Rattle.inspect.specs.Groups.{GroupsTold, GroupsLeft, firstGroupsOf}
 use Rattle.store.specs.Answer.{Word, done, refused}
 
 -- a pointer byte, image A, and the log; B is zeros
-abbrev diskOf : ℕ → List ℕ → List ℕ → List ℕ
+abbrev pub diskOf : ℕ → List ℕ → List ℕ → List ℕ
 diskOf pointer image log = pointer ∷ (image ++ (replicate 8653 0 ++ log))
 
 -- image A of a disk: log end and number on disk 0, one number and one id given, one transaction; the byte at 10 is 5, its old byte 0
@@ -21,11 +21,11 @@ imageOf assigned status csn =
 abbrev m1 : List ℕ
 m1 = 0x01 ∷ 0x00 ∷ 0x01 ∷ 0x00 ∷ 0x0A ∷ 0x02 ∷ 0x41 ∷ 0x42 ∷ 0x01 ∷ 0x02 ∷ 0x00 ∷ 0x01 ∷ 0x00 ∷ 0x00 ∷ 0x00 ∷ 0x01 ∷ []
 
-abbrev diskM1 : ℕ → ℕ → List ℕ
+abbrev pub diskM1 : ℕ → ℕ → List ℕ
 diskM1 pointer last = diskOf pointer (replicate 8653 0) (m1 ++ (last ∷ replicate 16367 0))
 
 -- "Id 1 writes 5 over 0 at 10, checkpoint, abort; id 2 writes 7 there, precommit, flush 2"
-abbrev diskM3 : List ℕ
+abbrev pub diskM3 : List ℕ
 diskM3 = diskOf 1 (imageOf 0 1 0) ((3 ∷ 0 ∷ 1 ∷ 3 ∷ 1 ∷ 0 ∷ 2 ∷ 0 ∷ 10 ∷ 1 ∷ 7 ∷ 1 ∷ 2 ∷ 0 ∷ 2 ∷ 0 ∷ 0 ∷ 0 ∷ 1 ∷ 2 ∷ []) ++ replicate 16364 0)
 
 -- "Id 1 writes 5 at 10, precommit, checkpoint, no flush": restart's step 4 undoes it

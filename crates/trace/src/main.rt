@@ -3,14 +3,20 @@ mod line;
 mod record;
 
 use crate::line::Report;
+use crate::line::adler;
 use crate::line::print_line;
 use crate::line::print_unknown;
+use crate::record::IDS;
 use crate::record::Record;
 use crate::record::data_of;
+use crate::record::ids_count;
+use crate::record::ids_of;
+use crate::record::least;
 use crate::record::read_record;
 use disk::call::restart;
 use disk::equal::equal;
 use inspect::groups::first_groups;
+use inspect::outcomes::outcomes;
 use inspect::page::read_page;
 use layout::DISK_LEN;
 use layout::MEMORY_LEN;
@@ -98,6 +104,17 @@ fn groups_call(r: Record, s: State, disk: &[u8], seen: &mut [u8]) -> Report {
 fn page_call(r: Record, s: State, disk: &[u8], seen: &mut [u8]) -> Report {
     let answer = read_page(disk, r.addr, seen);
     Report::stored(answer, 0, 0, s)
+}
+
+// The outcomes of the record's ids, into a list of the stream's own of that length or, where it hasn't so many, all of it. Value and stores are the
+// groups walked and the list's checksum.
+fn outcomes_call(bytes: &[u8], s: State, disk: &[u8], list: &mut [u8], len: usize) -> Report {
+    let ids = ids_of(bytes);
+    let count = ids_count(bytes);
+    let room = least(len, list.len());
+    let x = outcomes(disk, &ids[..count], &mut list[..room]);
+    let answer = x.answer;
+    Report::stored(answer, x.groups, adler(&list[..room]) as usize, s)
 }
 
 // The calls that work in memory.
@@ -200,6 +217,12 @@ fn step(
             let mut seen = [165u8; PAGE_LEN];
             let out = page_call(r, s, &*disk, &mut seen);
             print_line(call, out, &*disk, &seen, &*tail);
+            out.state
+        }
+        19 => {
+            let mut list = [165u8; IDS];
+            let out = outcomes_call(bytes, s, &*disk, &mut list, r.len);
+            print_line(call, out, &*disk, &*memory, &*tail);
             out.state
         }
         _ => {

@@ -5,6 +5,7 @@ mod excerpt;
 mod inspect;
 mod ledger;
 mod number2;
+mod outcomes;
 mod pages;
 mod reads;
 mod restart;
