@@ -13,6 +13,7 @@ fn told(outcome: Outcome) -> Outcome {
     match outcome.answer {
         Answer::Part(_) => Outcome {
             value: 0,
+            part: Vec::new(),
             ..outcome
         },
         _ => outcome,

@@ -1,10 +1,11 @@
 -- One byte at a time. At a fixed address a write sets the byte or leaves it. Undoing newest first gives a byte the old value of the
 -- oldest record over it; redoing in order gives it the newest value. What holds at every byte holds of the lists.
 use mathlib.Core.Path.{_≡_, refl, sym, ap, _∙_}
+use mathlib.Core.Logic.{_⊎_, inl, inr}
 use mathlib.Core.Bool.{Bool, true, false, cond}
 use mathlib.Core.Option.{Option, none, some}
 use mathlib.Core.List.{List, [], _∷_, _++_}
-use Prim.Native.Nat.{ℕ, suc, _<_}
+use Prim.Native.Nat.{ℕ, suc, _+_, _≤_, _<_}
 use native.Mathlib.Omega.{arith}
 use lib.Dec.{eqb}
 use lib.ListN.{length, getD, set}
@@ -61,11 +62,13 @@ pub newest-append : (a : ℕ) (us vs : List Write) → newest a (us ++ vs) ≡ o
 newest-append a [] vs = else-none (newest a vs)
 newest-append a (w ∷ us) vs = rw (newest-append a us vs) (else-assoc (newest a vs) (newest a us) (seen a w))
 
--- a byte of a memory after a write
+-- bytes say nothing outside their addresses
+pub seen-out : (a i : ℕ) (bs : List ℕ) → (a < i) ⊎ (i + length bs ≤ a) → seenAt a i bs ≡ none
+seen-out a i [] h = refl
+seen-out a i (b ∷ bs) (inl h) = rw (ne-eqb a i (λ e. omega arith)) (seen-out a (suc i) bs (inl (omega arith)))
+seen-out a i (b ∷ bs) (inr h) = rw (ne-eqb a i (λ e. omega arith)) (seen-out a (suc i) bs (inr (omega arith)))
 
-seen-low : (a i : ℕ) (bs : List ℕ) → a < i → seenAt a i bs ≡ none
-seen-low a i [] h = refl
-seen-low a i (b ∷ bs) h = rw (ne-eqb a i (omega arith)) (seen-low a (suc i) bs (omega arith))
+-- a byte of a memory after a write
 
 sets-at : (a : ℕ) (bs m : List ℕ) (i : ℕ) → a < length m → getD (sets m i bs) a 0 ≡ act (seenAt a i bs) (getD m a 0)
 sets-at a [] m i h = refl
@@ -75,7 +78,7 @@ sets-at a (b ∷ bs) m i h = go (eqb a i) refl (sets-at a bs (set m i b) (suc i)
         → getD (sets m i (b ∷ bs)) a 0 ≡ act (seenAt a i (b ∷ bs)) (getD m a 0)
     go true e ih =
         let p : a ≡ i = eqb-true a i e in
-        let low : seenAt a (suc i) bs ≡ none = seen-low a (suc i) bs (omega arith) in
+        let low : seenAt a (suc i) bs ≡ none = seen-out a (suc i) bs (inl (omega arith)) in
         let same : getD (set m i b) a 0 ≡ b = rw p (getD-set-same m i b 0 (rw p at h)) in
         ih ∙ rw (low, same, e)
     go false e ih = ih ∙ rw (e, getD-set-other m i a b 0 (eqb-false a i e))

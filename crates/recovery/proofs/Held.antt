@@ -3,8 +3,8 @@ use mathlib.Core.Path.{_≡_, refl, sym, ap}
 use mathlib.Core.Logic.{_≢_, _⊎_, inl, inr}
 use mathlib.Core.Bool.{Bool, true, false, not, _&&_}
 use mathlib.Core.Option.{none}
-use mathlib.Core.List.{List, [], _∷_}
-use Prim.Native.Nat.{ℕ, suc, _+_, _≤_, _<_}
+use mathlib.Core.List.{List, _∷_, _++_}
+use Prim.Native.Nat.{ℕ, _+_}
 use native.Mathlib.Omega.{arith}
 use lib.Dec.{eqb, leb, ltb}
 use lib.ListN.{length}
@@ -13,14 +13,10 @@ use Rattle.recovery.specs.Group.{Write}
 use Rattle.recovery.specs.Lists.{All, nil, cons, any}
 use Rattle.recovery.specs.Transaction.{Tx, running, overlap, heldByOther}
 use Rattle.recovery.proofs.Bool.{opposed, and-cases}
-use Rattle.recovery.proofs.Lists.{all-map, all-passing, none-any}
-use Rattle.recovery.proofs.Transactions.{isRunning}
-use Rattle.recovery.proofs.Byte.{seen, seenAt, oldest}
-
-seen-out : (a i : ℕ) (bs : List ℕ) → (a < i) ⊎ (i + length bs ≤ a) → seenAt a i bs ≡ none
-seen-out a i [] h = refl
-seen-out a i (b ∷ bs) (inl h) = rw (ne-eqb a i (λ e. omega arith)) (seen-out a (suc i) bs (inl (omega arith)))
-seen-out a i (b ∷ bs) (inr h) = rw (ne-eqb a i (λ e. omega arith)) (seen-out a (suc i) bs (inr (omega arith)))
+use Rattle.recovery.proofs.Lists.{all-map, all-zip, all-less, all-passing, none-any}
+use Rattle.recovery.proofs.Transactions.{isRunning, DistinctIds, Found, found-running, found-apart}
+use Rattle.recovery.proofs.Byte.{seen, seen-out, oldest}
+use Rattle.recovery.proofs.LiveByte.{Quiet, RunningAt, quiet-by-undo}
 
 -- ranges without a byte in common: what the one covers, the other leaves
 apart-byte : (a : ℕ) (u w : Write) → overlap u w ≡ false → seen a w ≢ none → seen a u ≡ none
@@ -57,3 +53,18 @@ unheld i w txs a h s = all-passing isRunning
         → oldest a (t .undo) ≡ none
     go t n run (inl e) = absurd (opposed (ap not (ne-eqb i (t .id) (λ q. n (sym q)))) e)
     go t n run (inr e) = apart-oldest a w s (none-any (λ u. overlap u w) (t .undo) (rw run at e))
+
+-- so it has none of either kind, at a byte of the live store
+pub others-quiet : {txs : List Tx} (r : Tx) (run : r .committing ≡ false) (f : Found (r .id) r txs) → DistinctIds txs → (w : Write)
+    → heldByOther (r .id) w txs ≡ false → (a x mem : ℕ) → RunningAt a x mem (running (f .before) ++ r ∷ running (f .after)) → seen a w ≢ none
+    → All (Quiet a) (running (f .before) ++ running (f .after))
+others-quiet {txs} r run f d w free a x mem live touched =
+    all-map (λ t p. p .0 (p .1 .0 (p .1 .1)))
+    (all-zip (all-less xs r ys (quiet-by-undo a x mem live))
+    (all-zip (all-less xs r ys (rw (found-running r run f) at (unheld (r .id) w txs a free touched))) (found-apart r run f d)))
+  where
+    xs : List Tx
+    xs = running (f .before)
+
+    ys : List Tx
+    ys = running (f .after)

@@ -17,13 +17,13 @@ use Rattle.recovery.specs.Replay.{replay, layBytes}
 use Rattle.recovery.specs.Ledger.{Ledger, OpenTx, addWrite, enterWrote}
 use Rattle.recovery.specs.Machine.{Opening, Disk, Live, Listed, roomUsed, oldBytes, withWrite, afterWrite}
 use Rattle.recovery.proofs.Bool.{some-none}
-use Rattle.recovery.proofs.Lists.{all-map, all-zip, all-less, all-edit}
+use Rattle.recovery.proofs.Lists.{all-map, all-edit}
 use Rattle.recovery.proofs.Distinct.{distinct-edit}
 use Rattle.recovery.proofs.Transactions.{Found, find, running-in, committing-out, found-running, found-apart}
 use Rattle.recovery.proofs.Groups.{redoSize-append, reserved-append}
 use Rattle.recovery.proofs.Byte.{act, seen, seenAt, oldest, layByte, laid-byte, oldest-append}
-use Rattle.recovery.proofs.LiveByte.{Quiet, RunningAt, Touch, miss, hit, quiet-by-undo, write-byte}
-use Rattle.recovery.proofs.Held.{unheld}
+use Rattle.recovery.proofs.LiveByte.{Quiet, RunningAt, Touch, miss, hit, write-byte}
+use Rattle.recovery.proofs.Held.{others-quiet}
 use Rattle.recovery.proofs.TailFit.{foreign-map}
 use Rattle.recovery.proofs.Follows.{Over, Linked, here, there}
 use Rattle.recovery.proofs.Ledger.{opens, add-one}
@@ -135,14 +135,6 @@ module _ (o : Opening) (d : Disk) (l : Live) (k : Ledger) (r : Tx) (w : Write) (
     csns = rw committings (s .csns);
   }
 
-  quiet : (a : ℕ) → heldByOther (r .id) w (l .txs) ≡ false
-      → RunningAt a (replay (layByte a) (d .after ++ l .tail) (baseAt o (d .before) a)) (getD (l .memory) a 0) (xs ++ r ∷ ys)
-      → seen a w ≢ none → All (Quiet a) (xs ++ ys)
-  quiet a free live touched =
-      all-map (λ t p. p .0 (p .1 .0 (p .1 .1)))
-      (all-zip (all-less xs r ys (quiet-by-undo a (replay (layByte a) (d .after ++ l .tail) (baseAt o (d .before) a)) (getD (l .memory) a 0) live))
-      (all-zip (all-less xs r ys (rw runnings at (unheld (r .id) w (l .txs) a free touched))) apart))
-
   pub write-keeps : w .addr + length (w .bytes) ≤ o .size → heldByOther (r .id) w (l .txs) ≡ false → roomUsed d l + (7 + length (w .bytes)) ≤ o .capacity
       → Up o d (afterWrite r w l) (enterWrote (r .id) w k)
   write-keeps within free fits = record {
@@ -159,7 +151,7 @@ module _ (o : Opening) (d : Disk) (l : Live) (k : Ledger) (r : Tx) (w : Write) (
           undoes = b .undoes;
           live = rw runnings′
               (write-byte a x (getD (l .memory) a 0) (getD (layBytes w (l .memory)) a 0) xs r ys old w live
-              (touch a (l .memory) w (xs ++ ys) (rw (u .liveLength) h) (rw (u .liveLength) within) (quiet a free live)));
+              (touch a (l .memory) w (xs ++ ys) (rw (u .liveLength) h) (rw (u .liveLength) within) (others-quiet r run f (s .liveDistinct) w free a x (getD (l .memory) a 0) live)));
         };
     room = record {
       fits = u .room .fits;

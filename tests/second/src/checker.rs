@@ -1,6 +1,6 @@
 //! The checker: follows a stream and asks after every call what the documents
 //! claim of it. Document 01's demand 3 and, of document 02, A.1 (where the log
-//! stopped) and A.2 (who holds what).
+//! stopped), A.2 (who holds what) and A.4 (what was read).
 
 use std::collections::BTreeMap;
 
@@ -8,6 +8,7 @@ use crate::demand::{check_disk, check_ledger, check_stop, Expected};
 use crate::holds::check_holds;
 use crate::ledger::Ledger;
 use crate::needs::stores_of;
+use crate::serial::check_reads;
 use crate::trace::{calls, Answer, Call, Outcome, World};
 
 /// Where the current is taken to fail.
@@ -27,8 +28,9 @@ pub struct Checked {
     pub inside: usize,
     /// The stream has a damage record, and the check ended before it.
     pub damaged: bool,
-    /// Transactions durable at the end.
+    /// Transactions durable at the end, and their reads.
     pub durable: usize,
+    pub reads: usize,
 }
 
 /// What is claimed.
@@ -37,6 +39,7 @@ pub enum Claim {
     Demand3,
     Stops,
     Holds,
+    Reads,
 }
 
 impl Claim {
@@ -46,6 +49,7 @@ impl Claim {
             Claim::Demand3 => "demand 3",
             Claim::Stops => "A.1",
             Claim::Holds => "A.2",
+            Claim::Reads => "A.4",
         }
     }
 }
@@ -67,7 +71,9 @@ pub fn check(stream: &[u8], failures: Failures) -> Result<Checked, Faults> {
             break;
         }
     }
-    checker.checked.durable = checker.book.ledger.durable.len();
+    let durable = &checker.book.ledger.durable;
+    checker.checked.durable = durable.len();
+    checker.checked.reads = durable.iter().map(|committed| committed.reads.len()).sum();
     if checker.faults.is_empty() {
         Ok(checker.checked)
     } else {
@@ -83,9 +89,12 @@ struct Book {
 }
 
 impl Book {
-    fn feed(&mut self, call: &Call, outcome: &Outcome) {
+    /// Tells whether the reads of those that become durable are in order.
+    fn feed(&mut self, call: &Call, outcome: &Outcome) -> Result<(), String> {
         self.ledger.feed(call, outcome);
+        let ordered = check_reads(&self.ledger.durable, &self.expected);
         self.expected.lay_up_to(&self.ledger.durable);
+        ordered
     }
 }
 
@@ -116,7 +125,8 @@ impl Checker {
             self.inside(call);
         }
         let outcome = self.world.run(call);
-        self.book.feed(call, &outcome);
+        let ordered = self.book.feed(call, &outcome);
+        self.ask(Claim::Reads, call, ordered);
         let asked = (&self.asked.0, self.asked.1);
         // The same disk and the same durable ones have the same answers.
         if asked != (&self.world.disk, self.book.ledger.durable.len()) {
@@ -143,7 +153,8 @@ impl Checker {
             disk[offset] = byte;
             let cut = allowing(call, turn + 1);
             let mut book = self.book.clone();
-            book.feed(&cut, &CUT);
+            let ordered = book.feed(&cut, &CUT);
+            self.ask(Claim::Reads, &cut, ordered);
             self.ask(Claim::Demand3, &cut, check_ledger(&book.ledger));
             self.ask_disk(&disk, &book, &cut);
             self.checked.inside += 1;

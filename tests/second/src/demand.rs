@@ -12,7 +12,8 @@ use crate::state::State;
 #[derive(Clone)]
 pub struct Expected {
     pub memory: Vec<u8>,
-    laid: usize,
+    /// How many are laid.
+    pub laid: usize,
 }
 
 impl Default for Expected {

@@ -1,5 +1,8 @@
 //! The ledger (document 01: the bench book): kept apart from the store and
-//! fed only the calls and what they answered.
+//! fed only the calls and what they answered. Beside each transaction's writes
+//! it has what it read (document 02, A.4).
+
+use std::rc::Rc;
 
 use crate::log::{Csn, TxId, Write};
 use crate::trace::{Answer, Call, Outcome};
@@ -12,6 +15,19 @@ pub struct Committed {
     pub id: TxId,
     pub csn: Csn,
     pub writes: Vec<Write>,
+    pub reads: Vec<Seen>,
+}
+
+/// A read that handed back a part. It stays with its transaction's entry and
+/// is never looked up: ids and csns recur.
+#[derive(Clone, Debug, PartialEq, Eq)]
+pub struct Seen {
+    pub address: usize,
+    pub bytes: Vec<u8>,
+    /// How many own writes stood.
+    pub writes: usize,
+    /// Serials of those assigned when it was made.
+    pub assigned: Rc<Vec<usize>>,
 }
 
 impl Committed {
@@ -37,11 +53,13 @@ impl Entry {
     }
 }
 
-/// An open transaction (document 01: open sheet) and its writes in order.
+/// An open transaction (document 01: open sheet), its writes and its reads in
+/// order.
 #[derive(Clone)]
 struct Open {
     id: TxId,
     writes: Vec<Write>,
+    reads: Vec<Seen>,
 }
 
 #[derive(Clone, Default)]
@@ -53,7 +71,7 @@ pub struct Ledger {
     /// Serials of those settled for good.
     pub settled: Vec<usize>,
     /// Serials of those assigned (document 01: in force), in order.
-    pub assigned: Vec<usize>,
+    pub assigned: Rc<Vec<usize>>,
     /// Whether an uncut restart has been.
     started: bool,
     next_serial: usize,
@@ -69,8 +87,12 @@ impl Ledger {
             Call::Begin => self.open.push(Open {
                 id: TxId(outcome.value as u16),
                 writes: Vec::new(),
+                reads: Vec::new(),
             }),
             Call::Write { id, address, bytes } => self.write(*id, *address, bytes),
+            Call::Read { id, address, .. } if !outcome.part.is_empty() => {
+                self.saw(*id, *address, &outcome.part)
+            }
             Call::Precommit { id } => self.precommit(*id, Csn(outcome.value)),
             Call::Abort { id } => {
                 self.close(*id);
@@ -87,33 +109,48 @@ impl Ledger {
         }
     }
 
-    fn write(&mut self, id: TxId, address: usize, bytes: &[u8]) {
+    fn find(&mut self, id: TxId) -> &mut Open {
         let open = self.open.iter_mut().find(|open| open.id == id);
-        let bytes = bytes.to_vec();
-        open.expect("an accepted write has an open transaction")
-            .writes
-            .push(Write { address, bytes });
+        open.expect("an accepted call has an open transaction")
     }
 
-    /// Takes an open transaction away and gives its writes.
-    fn close(&mut self, id: TxId) -> Vec<Write> {
+    fn write(&mut self, id: TxId, address: usize, bytes: &[u8]) {
+        let bytes = bytes.to_vec();
+        self.find(id).writes.push(Write { address, bytes });
+    }
+
+    fn saw(&mut self, id: TxId, address: usize, part: &[u8]) {
+        let (bytes, assigned) = (part.to_vec(), self.assigned.clone());
+        let open = self.find(id);
+        let writes = open.writes.len();
+        open.reads.push(Seen {
+            address,
+            bytes,
+            writes,
+            assigned,
+        });
+    }
+
+    /// Takes an open transaction away.
+    fn close(&mut self, id: TxId) -> Open {
         let index = self.open.iter().position(|open| open.id == id);
-        let index = index.expect("an accepted call has an open transaction");
-        self.open.remove(index).writes
+        self.open
+            .remove(index.expect("an accepted call has an open transaction"))
     }
 
     fn precommit(&mut self, id: TxId, csn: Csn) {
-        let writes = self.close(id);
+        let Open { writes, reads, .. } = self.close(id);
         let serial = self.next_serial;
         self.next_serial += 1;
         if self.started {
-            self.assigned.push(serial);
+            Rc::make_mut(&mut self.assigned).push(serial);
         }
         self.queue.push(Entry::Committed(Committed {
             serial,
             id,
             csn,
             writes,
+            reads,
         }));
     }
 
@@ -154,7 +191,7 @@ impl Ledger {
         self.queue.clear();
         if !cut {
             self.queue.extend((0..undone).map(|_| Entry::Abort));
-            self.assigned = self.durable.iter().map(|c| c.serial).collect();
+            self.assigned = Rc::new(self.durable.iter().map(|c| c.serial).collect());
             self.started = true;
         }
     }

@@ -17,6 +17,7 @@ pub mod log;
 pub mod needs;
 pub mod restart;
 pub mod rng;
+pub mod serial;
 pub mod state;
 pub mod stats;
 pub mod stores;

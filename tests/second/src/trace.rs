@@ -141,7 +141,7 @@ pub enum Answer {
 }
 
 /// What a call gave back, as far as the ledger and the lines need it.
-#[derive(Clone, Copy, Debug, PartialEq, Eq)]
+#[derive(Clone, Debug, PartialEq, Eq)]
 pub struct Outcome {
     pub answer: Answer,
     /// Begin's id, precommit's csn, restart's count of transactions undone,
@@ -154,6 +154,8 @@ pub struct Outcome {
     pub stop: Option<Stop>,
     /// The Adler-32 of a buffer that the stream lent in place of memory.
     pub lent: Option<u32>,
+    /// The part that a read handed back.
+    pub part: Vec<u8>,
 }
 
 impl Outcome {
@@ -165,6 +167,7 @@ impl Outcome {
             stores: 0,
             stop: None,
             lent: None,
+            part: Vec::new(),
         }
     }
 
@@ -192,7 +195,10 @@ impl Outcome {
     }
 
     fn of_part(part: &[u8]) -> Outcome {
-        Outcome::told(Answer::Part(part.len()), adler32(part))
+        Outcome {
+            part: part.to_vec(),
+            ..Outcome::told(Answer::Part(part.len()), adler32(part))
+        }
     }
 
     fn of_equal(equal: bool) -> Outcome {

@@ -4,7 +4,7 @@ use super::Generator;
 use crate::layout::{Range, LOG_LEN, MAX_LENGTH, MEMORY_LEN};
 use crate::log::{Csn, Record, TxId, Write};
 use crate::state::Status;
-use crate::trace::{Call, MAX_DATA};
+use crate::trace::{Answer, Call, MAX_DATA};
 
 #[derive(Clone, Copy)]
 pub enum Action {
@@ -33,6 +33,8 @@ pub struct Habits {
     pub wild: usize,
     /// In a hundred: writes whose bytes look like log records.
     pub forged: usize,
+    /// In a hundred: reads about what was read or written before.
+    pub known: usize,
     /// Addresses lie mostly below this, so that transactions meet.
     pub span: usize,
     /// The longest usual write.
@@ -58,6 +60,7 @@ pub const PLAIN: Habits = Habits {
     cut: 12,
     wild: 6,
     forged: 10,
+    known: 60,
     span: 96,
     longest: 6,
 };
@@ -80,6 +83,7 @@ pub const CUTS: Habits = Habits {
     cut: 45,
     wild: 2,
     forged: 15,
+    known: 60,
     span: 48,
     longest: 4,
 };
@@ -101,8 +105,31 @@ pub const WILD: Habits = Habits {
     cut: 2,
     wild: 55,
     forged: 0,
+    known: 60,
     span: 64,
     longest: 5,
+};
+
+pub const READERS: Habits = Habits {
+    weights: &[
+        (Action::Begin, 12),
+        (Action::Write, 14),
+        (Action::Read, 18),
+        (Action::CheckRead, 10),
+        (Action::Precommit, 12),
+        (Action::Abort, 2),
+        (Action::Flush, 9),
+        (Action::Settle, 11),
+        (Action::Checkpoint, 2),
+        (Action::Restart, 1),
+        (Action::PowerFails, 1),
+    ],
+    cut: 12,
+    wild: 2,
+    forged: 5,
+    known: 85,
+    span: 40,
+    longest: 3,
 };
 
 /// Ranges at and over the limits, also such as would fit if a number of two,
@@ -192,8 +219,12 @@ impl Generator {
                 self.read(id, address, length);
             }
             Action::CheckRead => {
-                let (id, address, length) = self.something_to_read(habits);
-                self.check_read(id, address, length);
+                let id = self.some_id(Some(Status::Running), habits.wild);
+                let (address, length) = self.some_range(habits);
+                let held = self.check_read(id, address, length);
+                if held.answer == Answer::Done && self.rng.percent(50) {
+                    self.read(id, address, length);
+                }
             }
             Action::Precommit => {
                 let id = self.some_id(Some(Status::Running), habits.wild);
@@ -246,7 +277,7 @@ impl Generator {
     fn something_to_read(&mut self, habits: &Habits) -> (TxId, usize, usize) {
         let id = self.some_id(Some(Status::Running), habits.wild);
         let known = self.known_ranges(id);
-        if known.is_empty() || self.rng.percent(40) {
+        if known.is_empty() || !self.rng.percent(habits.known) {
             let (address, length) = self.some_range(habits);
             return (id, address, length);
         }
@@ -254,7 +285,7 @@ impl Generator {
         let from = one.address.min(other.address);
         let to = one.places().end.max(other.places().end);
         let past = self.rng.pick(&[0, 0, 0, 1]);
-        if to - from <= MAX_LENGTH {
+        if to - from <= MAX_LENGTH && self.rng.percent(40) {
             (id, from, to - from + past)
         } else {
             (id, one.address, one.length + past)

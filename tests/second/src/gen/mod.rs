@@ -27,6 +27,8 @@ pub enum Kind {
     Forged,
     /// Eight transactions, sixteen writes, ranges and ids at their limits.
     Limits,
+    /// Small transactions that read much of what others write.
+    Readers,
     /// Damaged pointer bytes, images and logs.
     Damage,
     /// All of the above in one stream; the gate's.
@@ -37,13 +39,14 @@ pub enum Kind {
     Ids,
 }
 
-pub const KINDS: [(Kind, &str); 10] = [
+pub const KINDS: [(Kind, &str); 11] = [
     (Kind::Plain, "plain"),
     (Kind::Cuts, "cuts"),
     (Kind::Full, "full"),
     (Kind::Aborts, "aborts"),
     (Kind::Forged, "forged"),
     (Kind::Limits, "limits"),
+    (Kind::Readers, "readers"),
     (Kind::Damage, "damage"),
     (Kind::Mixed, "mixed"),
     (Kind::LongTail, "longtail"),
@@ -99,6 +102,7 @@ pub fn stream(seed: u64, records: usize, kind: Kind) -> Vec<u8> {
             Kind::Aborts => generator.many_aborts(),
             Kind::Forged => generator.forged(),
             Kind::Limits => generator.limits(),
+            Kind::Readers => generator.reading(),
             Kind::Damage => generator.damage(),
             Kind::Mixed => generator.mixed(),
             Kind::LongTail => generator.long_tail(),

@@ -1,7 +1,8 @@
 //! Scenes of readers and what they hold: document 02, A.2.
 
+use super::live::READERS;
 use super::Generator;
-use crate::layout::{MAX_LENGTH, MAX_READS, MEMORY_LEN};
+use crate::layout::{LOG_LEN, MAX_LENGTH, MAX_READS, MEMORY_LEN};
 use crate::log::TxId;
 use crate::trace::{Call, Outcome};
 
@@ -32,15 +33,25 @@ impl Generator {
         }
     }
 
+    /// Small transactions that read, and now and then a scene of readers.
+    pub fn reading(&mut self) {
+        if self.rng.percent(4) {
+            self.readers();
+        } else {
+            self.live_call(&READERS);
+        }
+    }
+
     /// Readers at every limit, by turns.
     pub fn readers(&mut self) {
         self.recover_if_needed();
         self.tidy();
         self.readers_turn += 1;
-        match self.readers_turn % 3 {
+        match self.readers_turn % 4 {
             0 => self.two_readers(),
             1 => self.covered_parts(),
-            _ => self.sixteen_ranges(),
+            2 => self.sixteen_ranges(),
+            _ => self.late_reader(),
         }
     }
 
@@ -73,6 +84,31 @@ impl Generator {
             self.end(one);
             self.check_read(third, address, 1);
         }
+    }
+
+    /// One reads, another writes there and commits first: had the read handed
+    /// back what is not held, or the write passed a hold, the order of commits
+    /// would tell it otherwise.
+    fn late_reader(&mut self) {
+        let (Some(reader), Some(writer)) = (self.begin(), self.begin()) else {
+            return;
+        };
+        let at = self.rng.below(MEMORY_LEN - MAX_LENGTH);
+        self.check_read(reader, at, 1);
+        self.check_read(reader, at + 2, 1);
+        for (place, length) in [(at, 1), (at, 3), (at + 5, 2)] {
+            self.read(reader, place, length);
+        }
+        for place in [at, at + 1, at + 2, at + 5] {
+            let bytes = self.rng.bytes(1);
+            self.write(writer, place, bytes);
+        }
+        for id in [writer, reader] {
+            self.emit(Call::Precommit { id });
+        }
+        let (groups, allowed) = (LOG_LEN, 2 * LOG_LEN);
+        self.emit(Call::Flush { groups, allowed });
+        self.tidy();
     }
 
     /// Commits the transaction or aborts it.

@@ -90,7 +90,7 @@ fn a_cut_empties_the_queue_whatever_the_call() {
     done(&mut ledger, Call::Settle { id: TxId(1) }, 0);
     assert_eq!(durable(&ledger), [1]);
     assert_eq!(ledger.settled, [ledger.durable[0].serial]);
-    assert_eq!(ledger.assigned, [ledger.durable[0].serial]);
+    assert_eq!(*ledger.assigned, [ledger.durable[0].serial]);
 }
 
 #[test]
@@ -105,5 +105,5 @@ fn assigned_ones_begin_with_an_uncut_restart() {
     let (groups, allowed) = (1, 16);
     done(&mut ledger, Call::Flush { groups, allowed }, 0);
     done(&mut ledger, Call::Restart { allowed: 16_384 }, 0);
-    assert_eq!(ledger.assigned, [ledger.durable[0].serial]);
+    assert_eq!(*ledger.assigned, [ledger.durable[0].serial]);
 }

@@ -8,5 +8,6 @@ mod number2;
 mod reads;
 mod restart;
 mod rig;
+mod serial;
 mod stops;
 mod streams;

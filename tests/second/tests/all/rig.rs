@@ -34,7 +34,8 @@ impl Rig {
 
     pub fn begin(&mut self) -> Result<TxId, u8> {
         let outcome = self.run(Call::Begin);
-        number(outcome).map(|()| TxId(outcome.value as u16))
+        let id = TxId(outcome.value as u16);
+        number(outcome).map(|()| id)
     }
 
     pub fn write(&mut self, id: u16, address: usize, bytes: &[u8]) -> Result<(), u8> {
@@ -75,7 +76,8 @@ impl Rig {
 
     pub fn precommit(&mut self, id: u16) -> Result<Csn, u8> {
         let outcome = self.run(Call::Precommit { id: TxId(id) });
-        number(outcome).map(|()| Csn(outcome.value))
+        let csn = Csn(outcome.value);
+        number(outcome).map(|()| csn)
     }
 
     pub fn abort(&mut self, id: u16) -> Result<(), u8> {
