@@ -8,7 +8,7 @@ use crate::demand::{check_disk, check_ledger, check_stop, Expected};
 use crate::holds::check_holds;
 use crate::ledger::Ledger;
 use crate::needs::stores_of;
-use crate::serial::check_reads;
+use crate::order::check_reads;
 use crate::trace::{calls, Answer, Call, Outcome, World};
 
 /// Where the current is taken to fail.

@@ -5,7 +5,7 @@ use second::demand::Expected;
 use second::gen::{stream, Kind, KINDS};
 use second::ledger::Ledger;
 use second::log::TxId;
-use second::serial::check_reads;
+use second::order::check_reads;
 use second::trace::{Answer, Call, Outcome};
 
 /// The ledger, fed as if a store had answered.
@@ -113,8 +113,8 @@ fn the_order_is_that_of_commits() {
 }
 
 #[test]
-fn a_reader_of_a_lost_commit_is_not_durable() {
-    // The same ids, numbers and writes recur after a cut that loses both.
+fn what_recurs_after_a_loss_has_its_own_reads() {
+    // Id 1, number 1 and its write recur after a restart that loses both.
     let mut book = reader(&[5, 7]);
     book.done(Call::Restart { allowed: 16_384 }, 0);
     book.begin(1);
@@ -123,13 +123,22 @@ fn a_reader_of_a_lost_commit_is_not_durable() {
     book.flush();
     assert!(book.ordered());
     assert!(book.0.durable[0].reads.is_empty());
-    // Were it durable all the same, the claim would fail.
-    let lost = reader(&[5, 7]);
-    let mut late = lost.0.clone();
-    let (groups, allowed) = (99, 16_384);
-    let done = Outcome::told(Answer::Done, 0);
-    late.feed(&Call::Flush { groups, allowed }, &done);
-    let reader_alone = &late.durable[1..];
+}
+
+#[test]
+fn a_reader_of_a_lost_commit_is_not_durable() {
+    // It read none of the other's bytes: what it saw is right either way.
+    let mut book = Book::open();
+    book.begin(1);
+    book.write(1, 10, &[5]);
+    book.commit(1, 1);
+    book.begin(2);
+    book.saw(2, 20, &[0]);
+    book.commit(2, 2);
+    book.flush();
+    assert!(book.ordered());
+    // The other being lost, it may not be durable.
+    let reader_alone = &book.0.durable[1..];
     assert!(check_reads(reader_alone, &Expected::default()).is_err());
 }
 
