@@ -124,6 +124,10 @@ module _ (from : Start) where
 
   -- ---- a read that handed back bytes
 
+  part-whole : (w : World) (id a n : ℕ) → ReadPassed (w .state) (w .memory) (w .tail) id a n → (bytes : List ℕ) → bytes ≡ take n (drop a (w .memory))
+      → length bytes ≡ n
+  part-whole w id a n p bytes is = ap length is ∙ length-take-le n (drop a (w .memory)) (rw length-drop (omega (arith, p .runs .memory, p .range .within)))
+
   module _ (w : World) (d : Disk) (l : Live) (v : LiveOn w d l) (id a n : ℕ) (p : ReadPassed (w .state) (w .memory) (w .tail) id a n) where
     abbrev tx : Transaction
     tx = viewOf (txOf (w .state) id)
@@ -137,7 +141,7 @@ module _ (from : Start) where
 
     module _ (bytes : List ℕ) (is : bytes ≡ take n (drop a (w .memory))) where
       whole : length bytes ≡ n
-      whole = ap length is ∙ length-take-le n (drop a (w .memory)) (rw length-drop (omega (arith, p .runs .memory, p .range .within)))
+      whole = part-whole w id a n p bytes is
 
       free : heldByOther (tx .id) (record { addr = a; bytes = bytes }) (l .txs) ≡ false
       free =
@@ -239,6 +243,13 @@ module _ (from : Start) where
     unfolding stepOf
     read-noted b bs e = open-reader (passes b bs (cc) .0) (r .system) (r .run) (r .shows .1)
 
+    read-whole : (b : ℕ) (bs : List ℕ) → stepOf (read id a n) (k .world) .reply ≡ part (b ∷ bs) → length (b ∷ bs) ≡ n
+    unfolding stepOf
+    read-whole b bs e =
+        let q : readOf (w .state) (w .memory) (w .tail) tid a n ≡ b ∷ bs = cc in
+        let p = passes b bs q in
+        part-whole w id a n (passed (p .0)) (b ∷ bs) (sym q ∙ read-done (w .state) (w .memory) (w .tail) tid a n (p .0) (p .1))
+
     read-went : ReadReached (happenRead (called (read id a n)) k)
     unfolding stepOf
     read-went = read-part (readOf (w .state) (w .memory) (w .tail) tid a n) refl
@@ -286,7 +297,11 @@ module _ (from : Start) where
       })
 
   pub reads-ordered : (k : WatchedReads) → ReadReached k → ReadsOrdered (from .memory) k
-  reads-ordered k r = record { serial = read-theorem (opens from) (r .run); noted = λ id a n b bs e. read-noted k r id a n b bs e }
+  reads-ordered k r = record {
+    serial = read-theorem (opens from) (r .run);
+    noted = λ id a n b bs e. read-noted k r id a n b bs e;
+    whole = λ id a n b bs e. read-whole k r id a n b bs e;
+  }
 
   -- those still open or queued: what they have read is right so far
   pub reads-so-far : (k : WatchedReads) → ReadReached k → SoFar (opens from) (k .ledger)

@@ -27,16 +27,16 @@ use Rattle.store.specs.Calls.{beginNumber, writeNumber, answerNumber, precommit
 use Rattle.store.specs.Flush.{flushedState}
 use Rattle.store.proofs.Passing.{ReadPassed, begin-passed, write-passed, answer-passed, precommit-passed, abort-passed, settle-passed}
 use Rattle.store.proofs.Stepping.{SizedState, begun-slot, written-slot, read-slot, precommitted-slot, dropped-slot}
-use Rattle.serial.specs.Ledger as note
+use Rattle.serial.specs.Ledger as entries
 use Rattle.serial.specs.Ledger.{OpenWithReads, othersOf}
-use Rattle.serial.proofs.Ordered.{Covers}
+use Rattle.serial.proofs.Ordered.{HandedBack}
 use Rattle.serial.proofs.Run.{Misses}
 use Rattle.serial.proofs.Invariant.{all-others, write-id}
 use Rattle.serial.proofs.Held.{HeldBy, written-keeps, read-keeps, held-elsewhere, held-changed, held-dropped, unheld-byte}
 
 -- the transaction holds every byte that it has read
 abbrev pub HoldsReads : State → OpenWithReads → Type 0
-HoldsReads s x = All (λ r. (a : ℕ) → Covers r a → HeldBy s (x .tx .id) a) (x .reads)
+HoldsReads s x = All (λ r. (a : ℕ) → HandedBack r a → HeldBy s (x .tx .id) a) (x .reads)
 
 -- of the open ones, unless the state is unrecovered: then nothing but a restart goes on
 abbrev pub ReadsHeld : State → List OpenWithReads → Type 0
@@ -74,7 +74,7 @@ module _ (s : State) (m t : List ℕ) (z : SizedState s) (ss : List OpenWithRead
     elsewhere named i a n x q = n (sym named ∙ ap (λ (k : ℕ). txAt s k .id .0) (sym q) ∙ x .named)
 
     pub wrote-held : (a : ℕ) (bs : List ℕ) → writeNumber s m t id a (length bs) ≡ 0
-        → All (HoldsReads (writtenState s j m a bs)) (map (note.writing (id .0) (record { addr = a; bytes = bs })) ss)
+        → All (HoldsReads (writtenState s j m a bs)) (map (entries.notingWrite (id .0) (record { addr = a; bytes = bs })) ss)
     unfolding writtenState
     wrote-held a bs e =
         let p = write-passed s m t id a (length bs) e in
@@ -83,8 +83,8 @@ module _ (s : State) (m t : List ℕ) (z : SizedState s) (ss : List OpenWithRead
         length-take-le (length bs) (drop a m) (rw length-drop (omega (arith, r .memory, p .range .within))) in
         let kept = written-keeps (txAt s j) (z .each j (r .listed)) a (take (length bs) (drop a m)) bs (p .undo) (p .redo) l in
         let w : Write = record { addr = a; bytes = bs } in
-        all-mapped (note.writing (id .0) w)
-        (all-map (λ x k. subst (λ (i : ℕ). All (λ q. (b : ℕ) → Covers q b → HeldBy (writtenState s j m a bs) i b) (x .reads)) (sym (write-id (id .0) w x)) k)
+        all-mapped (entries.notingWrite (id .0) w)
+        (all-map (λ x k. subst (λ (i : ℕ). All (λ q. (b : ℕ) → HandedBack q b → HeldBy (writtenState s j m a bs) i b) (x .reads)) (sym (write-id (id .0) w x)) k)
         (keep (λ i b x. held-changed s (writtenState s j m a bs) i b j _ (written-slot s z j (r .listed) (r .few) m a bs) (omega arith) kept x) h))
 
     pub answered-held : (a n : ℕ) → answerNumber s m t id a n ≡ 0 → All (HoldsReads (readState s j a n)) ss
@@ -123,8 +123,8 @@ module _ (s : State) (m t : List ℕ) (z : SizedState s) (ss : List OpenWithRead
 
     -- a read that handed back bytes: each of them is covered
     pub seen-held : (a n : ℕ) → ReadPassed s m t (id .0) a n → covered (usedBy (txOf s (id .0))) a n ≡ true → (bytes assigned : List ℕ) → length bytes ≡ n
-        → All (HoldsReads s) (map (note.reading (id .0) a bytes assigned) ss)
-    seen-held a n p cover bytes assigned l = all-mapped (note.reading (id .0) a bytes assigned) (all-map one h)
+        → All (HoldsReads s) (map (entries.notingRead (id .0) a bytes assigned) ss)
+    seen-held a n p cover bytes assigned l = all-mapped (entries.notingRead (id .0) a bytes assigned) (all-map one h)
       where
         held : (b : ℕ) → a ≤ b → b < a + length bytes → HeldBy s (id .0) b
         held b low high = record {
@@ -135,11 +135,11 @@ module _ (s : State) (m t : List ℕ) (z : SizedState s) (ss : List OpenWithRead
           used = every-at (λ x. x) (λ x. any (hasByte x) (usedBy (txOf s (id .0)))) n a cover b low (omega (arith, l));
         }
 
-        one : (x : OpenWithReads) → HoldsReads s x → HoldsReads s (note.reading (id .0) a bytes assigned x)
+        one : (x : OpenWithReads) → HoldsReads s x → HoldsReads s (entries.notingRead (id .0) a bytes assigned x)
         one x k = go (eqb (id .0) (x .tx .id)) refl
           where
             go : (b : Bool) → eqb (id .0) (x .tx .id) ≡ b
-                → HoldsReads s (cond b (note.addRead (note.readBy a bytes assigned x) x) x)
+                → HoldsReads s (cond b (entries.addRead (entries.readBy a bytes assigned x) x) x)
             go true e = all-append k (cons (λ b c. subst (λ (i : ℕ). HeldBy s i b) (eqb-true (id .0) (x .tx .id) e) (held b (c .0) (c .1))) nil)
             go false e = k
 

@@ -11,8 +11,8 @@ use Rattle.recovery.specs.Lists.{All, nil, cons}
 use Rattle.recovery.proofs.Bool.{opposed}
 use Rattle.recovery.proofs.Lists.{all-map, all-zip, all-append, all-mapped, all-filter, all-passing}
 use Rattle.recovery.proofs.Byte.{newest-append}
-use Rattle.serial.specs.Ledger.{Read, OpenWithReads, CommitWithReads, LedgerWithReads, committedOf, openOf, othersOf, entryFor}
-use Rattle.serial.specs.Ledger.{writing, noteBegun, noteWrote, notePrecommitted, noteRolledBack, noteFlushed, noteSettled, noteRestarted, noteCut}
+use Rattle.serial.specs.Ledger.{Read, OpenWithReads, CommitWithReads, LedgerWithReads, committedOf, openTxOf, othersOf, entryFor}
+use Rattle.serial.specs.Ledger.{notingWrite, noteBegun, noteWrote, notePrecommitted, noteRolledBack, noteFlushed, noteSettled, noteRestarted, noteCut}
 use Rattle.serial.proofs.Ordered.{Leaves, Sees, sees-write, sees-commit, InOrder, order-left, order-more}
 use Rattle.serial.proofs.Run.{Misses}
 use Rattle.serial.proofs.Assigned.{assignedIn, assigned-precommitted, assigned-rolledBack, assigned-flushed, assigned-restarted}
@@ -22,18 +22,18 @@ abbrev pub OpenSees : List ℕ → List CommitWithReads → OpenWithReads → Ty
 OpenSees m before s = All (Sees m before (s .tx .writes)) (s .reads)
 
 -- no other has written what one has read
-abbrev pub Apart : OpenWithReads → OpenWithReads → Type 0
-Apart s t = t .tx .id ≢ s .tx .id → All (Leaves (t .tx .writes)) (s .reads)
+abbrev pub ReadsLeft : OpenWithReads → OpenWithReads → Type 0
+ReadsLeft s t = t .tx .id ≢ s .tx .id → All (Leaves (t .tx .writes)) (s .reads)
 
 -- while the store is up
 pub record Reading (m : List ℕ) (k : LedgerWithReads) : Type 0 where
   pub order : InOrder m [] (assignedIn k)
   pub assigned : k .assigned ≡ assignedIn k
   pub active : All (OpenSees m (assignedIn k)) (k .active)
-  pub apart : All (λ s. All (Apart s) (k .active)) (k .active)
+  pub apart : All (λ s. All (ReadsLeft s) (k .active)) (k .active)
 
 -- while it is down
-pub record Resting (m : List ℕ) (k : LedgerWithReads) : Type 0 where
+pub record AtRest (m : List ℕ) (k : LedgerWithReads) : Type 0 where
   pub order : InOrder m [] (k .durable)
   pub none-open : k .active ≡ []
   pub none-queued : k .queue ≡ []
@@ -45,19 +45,19 @@ isOther i s = not (eqb i (s .tx .id))
 
 -- what holds of each open one, and of one without writes and reads, holds of the one found
 all-open : {p : OpenWithReads → Type 0} (i : ℕ) {ss : List OpenWithReads} → p (record { tx = record { id = i; writes = [] }; reads = [] })
-    → All p ss → p (openOf i ss)
+    → All p ss → p (openTxOf i ss)
 all-open i h nil = h
 all-open {p} i h (cons {x = s} {xs = ss} q qs) = go (eqb i (s .tx .id)) (all-open i h qs)
   where
-    go : (b : Bool) → p (openOf i ss) → p (cond b s (openOf i ss))
+    go : (b : Bool) → p (openTxOf i ss) → p (cond b s (openTxOf i ss))
     go true k = q
     go false k = k
 
-open-id : (i : ℕ) (ss : List OpenWithReads) → openOf i ss .tx .id ≡ i
+open-id : (i : ℕ) (ss : List OpenWithReads) → openTxOf i ss .tx .id ≡ i
 open-id i [] = refl
 open-id i (s ∷ ss) = go (eqb i (s .tx .id)) refl (open-id i ss)
   where
-    go : (b : Bool) → eqb i (s .tx .id) ≡ b → openOf i ss .tx .id ≡ i → cond b s (openOf i ss) .tx .id ≡ i
+    go : (b : Bool) → eqb i (s .tx .id) ≡ b → openTxOf i ss .tx .id ≡ i → cond b s (openTxOf i ss) .tx .id ≡ i
     go true e h = sym (eqb-true i (s .tx .id) e)
     go false e h = h
 
@@ -73,21 +73,21 @@ leave-none (r ∷ rs) = cons (λ a h. refl) (leave-none rs)
 -- ---- a write
 
 module _ (i : ℕ) (w : Write) where
-  pub write-id : (s : OpenWithReads) → writing i w s .tx .id ≡ s .tx .id
+  pub write-id : (s : OpenWithReads) → notingWrite i w s .tx .id ≡ s .tx .id
   write-id s = go (eqb i (s .tx .id))
     where
       go : (b : Bool) → cond b (record { id = s .tx .id; writes = s .tx .writes ++ (w ∷ []) }) (s .tx) .id ≡ s .tx .id
       go true = refl
       go false = refl
 
-  write-sees : (m : List ℕ) (before : List CommitWithReads) (s : OpenWithReads) → OpenSees m before s → OpenSees m before (writing i w s)
+  write-sees : (m : List ℕ) (before : List CommitWithReads) (s : OpenWithReads) → OpenSees m before s → OpenSees m before (notingWrite i w s)
   write-sees m before s h = go (eqb i (s .tx .id))
     where
       go : (b : Bool) → All (Sees m before (cond b (record { id = s .tx .id; writes = s .tx .writes ++ (w ∷ []) }) (s .tx) .writes)) (s .reads)
       go true = all-map (λ r x. sees-write w x) h
       go false = h
 
-  write-apart : (s t : OpenWithReads) → (s .tx .id ≢ i → All (Misses w) (s .reads)) → Apart s t → Apart (writing i w s) (writing i w t)
+  write-apart : (s t : OpenWithReads) → (s .tx .id ≢ i → All (Misses w) (s .reads)) → ReadsLeft s t → ReadsLeft (notingWrite i w s) (notingWrite i w t)
   write-apart s t misses leaves n = go (eqb i (t .tx .id)) refl (λ e. n (write-id t ∙ e ∙ sym (write-id s)))
     where
       go : (b : Bool) → eqb i (t .tx .id) ≡ b → t .tx .id ≢ s .tx .id
@@ -124,7 +124,7 @@ module _ (m : List ℕ) (k : LedgerWithReads) (v : Reading m k) where
       fresh : OpenWithReads
       fresh = record { tx = record { id = i; writes = [] }; reads = [] }
 
-      nothing : (ts : List OpenWithReads) → All (Apart (record { tx = record { id = i; writes = [] }; reads = [] })) ts
+      nothing : (ts : List OpenWithReads) → All (ReadsLeft (record { tx = record { id = i; writes = [] }; reads = [] })) ts
       nothing [] = nil
       nothing (t ∷ ts) = cons (λ n. nil) (nothing ts)
 
@@ -132,9 +132,9 @@ module _ (m : List ℕ) (k : LedgerWithReads) (v : Reading m k) where
   wrote-reading i w unread = record {
     order = v .order;
     assigned = v .assigned;
-    active = all-mapped (writing i w) (all-map (λ s h. write-sees i w m all s h) (v .active));
-    apart = all-mapped (writing i w)
-        (all-map (λ s p. all-mapped (writing i w) (all-map (λ t h. write-apart i w s t (p .0) h) (p .1))) (all-zip unread (v .apart)));
+    active = all-mapped (notingWrite i w) (all-map (λ s h. write-sees i w m all s h) (v .active));
+    apart = all-mapped (notingWrite i w)
+        (all-map (λ s p. all-mapped (notingWrite i w) (all-map (λ t h. write-apart i w s t (p .0) h) (p .1))) (all-zip unread (v .apart)));
   }
 
   pub precommitted-reading : (i n : ℕ) → Reading m (notePrecommitted i n k)
@@ -149,10 +149,10 @@ module _ (m : List ℕ) (k : LedgerWithReads) (v : Reading m k) where
       c : CommitWithReads
       c = entryFor i n k
 
-      commit-one : (s : OpenWithReads) → OpenSees m all s → All (Apart s) (k .active) → i ≢ s .tx .id → OpenSees m (all ++ (c ∷ [])) s
+      commit-one : (s : OpenWithReads) → OpenSees m all s → All (ReadsLeft s) (k .active) → i ≢ s .tx .id → OpenSees m (all ++ (c ∷ [])) s
       commit-one s sees aparts d =
           let leaves : All (Leaves (c .commit .writes)) (s .reads) =
-          all-open {p = Apart s} i (λ _. leave-none (s .reads)) aparts (λ e. d (sym (open-id i (k .active)) ∙ e)) in
+          all-open {p = ReadsLeft s} i (λ _. leave-none (s .reads)) aparts (λ e. d (sym (open-id i (k .active)) ∙ e)) in
           all-map (λ r p. sees-commit c (p .1) (p .0)) (all-zip sees leaves)
 
   pub rolledBack-reading : (i : ℕ) → Reading m (noteRolledBack i k)
@@ -173,7 +173,7 @@ module _ (m : List ℕ) (k : LedgerWithReads) (v : Reading m k) where
   pub durable-order : InOrder m [] (k .durable)
   durable-order = order-left m [] (k .durable) (committedOf (k .queue)) (v .order)
 
-  pub cut-resting : Resting m (noteCut k)
+  pub cut-resting : AtRest m (noteCut k)
   cut-resting = record { order = durable-order; none-open = refl; none-queued = refl }
 
 pub restarted-reading : (m : List ℕ) (k : LedgerWithReads) (undone : ℕ) → InOrder m [] (k .durable) → Reading m (noteRestarted undone k)

@@ -13,16 +13,16 @@ use Rattle.recovery.specs.Claim.{layCommits}
 use Rattle.recovery.proofs.Lists.{all-map}
 use Rattle.recovery.proofs.Byte.{act, newest, newest-append}
 use Rattle.serial.specs.Ledger.{Read, CommitWithReads, commitsIn, stampsOf}
-use Rattle.serial.specs.Claim.{rangeOf, AsOrdered, Serial}
+use Rattle.serial.specs.Claim.{bytesAt, AsOrdered, Serial}
 use Rattle.serial.proofs.Laying.{writesIn, writes-append, laid, byteAfter, laid-length, laid-byte}
 
 -- the byte a is one that the read handed back
-abbrev pub Covers : Read → ℕ → Type 0
-Covers r a = (r .addr ≤ a) × (a < r .addr + length (r .bytes))
+abbrev pub HandedBack : Read → ℕ → Type 0
+HandedBack r a = (r .addr ≤ a) × (a < r .addr + length (r .bytes))
 
 -- the writes leave every byte of the read
 abbrev pub Leaves : List Write → Read → Type 0
-Leaves ws r = (a : ℕ) → Covers r a → newest a ws ≡ none
+Leaves ws r = (a : ℕ) → HandedBack r a → newest a ws ≡ none
 
 -- A read of a transaction with these writes so far, against those before it: `AsOrdered`, byte by byte.
 pub record Sees (m : List ℕ) (before : List CommitWithReads) (writes : List Write) (r : Read) : Type 0 where
@@ -74,7 +74,7 @@ sees-commit {m} {before} {ws} {r} c leaves s = record {
 pub sees-ordered : {m : List ℕ} {before : List CommitWithReads} {ws : List Write} {r : Read} → Sees m before ws r → AsOrdered m before ws r
 sees-ordered {m} {before} {ws} {r} s = record {
   bytes =
-      ext-getD 0 (r .bytes) (rangeOf r (redoAll layBytes own (layCommits (commitsIn before) m))) (sym ranged)
+      ext-getD 0 (r .bytes) (bytesAt r (redoAll layBytes own (layCommits (commitsIn before) m))) (sym ranged)
       (λ j h. s .bytes j h ∙ sym (at j h));
   assigned = s .assigned;
 }
@@ -94,10 +94,10 @@ sees-ordered {m} {before} {ws} {r} s = record {
     long : length after ≡ length m
     long = ap length is ∙ laid-length m all
 
-    ranged : length (rangeOf r after) ≡ length (r .bytes)
+    ranged : length (bytesAt r after) ≡ length (r .bytes)
     ranged = length-take-le (length (r .bytes)) (drop (r .addr) after) (rw (length-drop (r .addr) after) (omega (arith, long, s .within)))
 
-    at : (j : ℕ) → j < length (r .bytes) → getD (rangeOf r after) j 0 ≡ byteAfter m all (r .addr + j)
+    at : (j : ℕ) → j < length (r .bytes) → getD (bytesAt r after) j 0 ≡ byteAfter m all (r .addr + j)
     at j h =
         getD-take (length (r .bytes)) (drop (r .addr) after) j 0 h ∙ getD-drop (r .addr) after j 0
         ∙ ap (λ (l : List ℕ). getD l (r .addr + j) 0) is ∙ laid-byte m all (r .addr + j) (omega (arith, s .within))

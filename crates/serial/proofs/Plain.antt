@@ -10,34 +10,34 @@ use Rattle.recovery.specs.Ledger as ledger
 use Rattle.recovery.specs.Ledger.{OpenTx, Commit, Entry, Ledger, noLedger, entrySize, fittingEntries, committedIn, openWrites, others, addWrite, enter}
 use Rattle.recovery.specs.Ledger.{Event, unchanged, begun, wrote, precommitted, rolledBack, flushed, settled, restarted, cut, emptied}
 use Rattle.recovery.proofs.Lists.{take-map}
-use Rattle.serial.specs.Ledger.{OpenWithReads, CommitWithReads, EntryWithReads, commit, abort, LedgerWithReads, noReads, opensIn, commitsIn, entryOf}
-use Rattle.serial.specs.Ledger.{entriesIn, withoutReads, committedOf, openOf, othersOf, writing, readBy, addRead, reading, noteBegun, noteWrote, noteRead, notePrecommitted}
+use Rattle.serial.specs.Ledger.{OpenWithReads, CommitWithReads, EntryWithReads, commit, abort, LedgerWithReads, noReads, opensIn, commitsIn, plainEntry}
+use Rattle.serial.specs.Ledger.{entriesIn, withoutReads, committedOf, openTxOf, othersOf, notingWrite, readBy, addRead, notingRead, noteBegun, noteWrote, noteRead, notePrecommitted}
 use Rattle.serial.specs.Ledger.{noteRolledBack, leaving, noteFlushed, noteRestarted, note, Fed, event, saw, toldOf, feed}
 
 -- ---- open transactions by id
 
-writing-open : (i : ℕ) (w : Write) (ss : List OpenWithReads) → opensIn (map (writing i w) ss) ≡ map (addWrite i w) (opensIn ss)
-writing-open i w [] = refl
-writing-open i w (s ∷ ss) = ap (λ (l : List OpenTx). addWrite i w (s .tx) ∷ l) (writing-open i w ss)
+noting-write-open : (i : ℕ) (w : Write) (ss : List OpenWithReads) → opensIn (map (notingWrite i w) ss) ≡ map (addWrite i w) (opensIn ss)
+noting-write-open i w [] = refl
+noting-write-open i w (s ∷ ss) = ap (λ (l : List OpenTx). addWrite i w (s .tx) ∷ l) (noting-write-open i w ss)
 
 -- a read leaves a transaction's id and writes
-pub read-tx : (i addr : ℕ) (bytes assigned : List ℕ) (s : OpenWithReads) → reading i addr bytes assigned s .tx ≡ s .tx
+pub read-tx : (i addr : ℕ) (bytes assigned : List ℕ) (s : OpenWithReads) → notingRead i addr bytes assigned s .tx ≡ s .tx
 read-tx i addr bytes assigned s = go (eqb i (s .tx .id))
   where
     go : (b : Bool) → cond b (addRead (readBy addr bytes assigned s) s) s .tx ≡ s .tx
     go true = refl
     go false = refl
 
-reading-open : (i addr : ℕ) (bytes assigned : List ℕ) (ss : List OpenWithReads) → opensIn (map (reading i addr bytes assigned) ss) ≡ opensIn ss
-reading-open i addr bytes assigned [] = refl
-reading-open i addr bytes assigned (s ∷ ss) = ap₂ (λ (t : OpenTx) (l : List OpenTx). t ∷ l) (read-tx i addr bytes assigned s) (reading-open i addr bytes assigned ss)
+noting-read-open : (i addr : ℕ) (bytes assigned : List ℕ) (ss : List OpenWithReads) → opensIn (map (notingRead i addr bytes assigned) ss) ≡ opensIn ss
+noting-read-open i addr bytes assigned [] = refl
+noting-read-open i addr bytes assigned (s ∷ ss) = ap₂ (λ (t : OpenTx) (l : List OpenTx). t ∷ l) (read-tx i addr bytes assigned s) (noting-read-open i addr bytes assigned ss)
 
-open-writes : (i : ℕ) (ss : List OpenWithReads) → openOf i ss .tx .writes ≡ openWrites i (opensIn ss)
+open-writes : (i : ℕ) (ss : List OpenWithReads) → openTxOf i ss .tx .writes ≡ openWrites i (opensIn ss)
 open-writes i [] = refl
 open-writes i (s ∷ ss) = go (eqb i (s .tx .id)) (open-writes i ss)
   where
-    go : (b : Bool) → openOf i ss .tx .writes ≡ openWrites i (opensIn ss)
-        → cond b s (openOf i ss) .tx .writes ≡ cond b (s .tx .writes) (openWrites i (opensIn ss))
+    go : (b : Bool) → openTxOf i ss .tx .writes ≡ openWrites i (opensIn ss)
+        → cond b s (openTxOf i ss) .tx .writes ≡ cond b (s .tx .writes) (openWrites i (opensIn ss))
     go true h = refl
     go false h = h
 
@@ -90,12 +90,12 @@ module _ (k : LedgerWithReads) where
       map-append (λ c. c .commit) (k .durable) (committedOf (take (length fit) (k .queue)))
       ∙ ap (λ (l : List Commit). commitsIn (k .durable) ++ l)
       (committed-plain (take (length fit) (k .queue))
-      ∙ ap committedIn (sym (take-map entryOf (length fit) (k .queue)) ∙ sym (fitting-first allowed q (entriesIn (k .queue))))) in
+      ∙ ap committedIn (sym (take-map plainEntry (length fit) (k .queue)) ∙ sym (fitting-first allowed q (entriesIn (k .queue))))) in
       rw (drop-plain (length fit) (k .queue), durables)
 
   precommitted-plain : (i n : ℕ) → withoutReads (notePrecommitted i n k) ≡ enter (precommitted i n) (withoutReads k)
   precommitted-plain i n =
-      rw (others-open i (k .active), map-append entryOf (k .queue), map-append (λ c. c .commit) (k .assigned), open-writes i (k .active))
+      rw (others-open i (k .active), map-append plainEntry (k .queue), map-append (λ c. c .commit) (k .assigned), open-writes i (k .active))
 
   rolledBack-plain : (i : ℕ) → withoutReads (noteRolledBack i k) ≡ enter (rolledBack i) (withoutReads k)
   rolledBack-plain i = rw (others-open i (k .active), map-append)
@@ -103,7 +103,7 @@ module _ (k : LedgerWithReads) where
 pub note-plain : (e : Event) (k : LedgerWithReads) → withoutReads (note e k) ≡ enter e (withoutReads k)
 note-plain unchanged k = refl
 note-plain (begun i) k = rw map-append
-note-plain (wrote i w) k = rw (writing-open i w (k .active))
+note-plain (wrote i w) k = rw (noting-write-open i w (k .active))
 note-plain (precommitted i n) k = precommitted-plain k i n
 note-plain (rolledBack i) k = rolledBack-plain k i
 note-plain (flushed q allowed) k = flushed-plain k q allowed
@@ -114,4 +114,4 @@ note-plain (cut e) k = ap emptied (note-plain e k)
 -- fed with reads it is the ledger that is fed no read
 pub without-reads : (f : Fed) (k : LedgerWithReads) → withoutReads (feed f k) ≡ enter (toldOf f) (withoutReads k)
 without-reads (event e) k = note-plain e k
-without-reads (saw i addr bytes) k = rw (reading-open i addr bytes _ (k .active))
+without-reads (saw i addr bytes) k = rw (noting-read-open i addr bytes _ (k .active))

@@ -15,11 +15,11 @@ use Rattle.recovery.specs.Machine.{Opening, Disk, Live, System, down, up, openi
 use Rattle.recovery.proofs.Byte.{seen}
 use Rattle.serial.specs.Ledger.{Read, OpenWithReads, LedgerWithReads, noReads, withoutReads, Fed, event, saw, toldOf, feed}
 use Rattle.serial.proofs.Plain.{without-reads}
-use Rattle.serial.proofs.Ordered.{Covers}
+use Rattle.serial.proofs.Ordered.{HandedBack}
 
 -- the write has no byte of the read
 abbrev pub Misses : Write → Read → Type 0
-Misses w r = (a : ℕ) → Covers r a → seen a w ≡ none
+Misses w r = (a : ℕ) → HandedBack r a → seen a w ≡ none
 
 -- Number 9, as readers hold (document 02, A.2): a write has no byte that another open transaction has read.
 abbrev pub Unread : Event → List OpenWithReads → Type 0

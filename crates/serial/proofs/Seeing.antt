@@ -23,7 +23,7 @@ use Rattle.recovery.proofs.Byte.{act, act-else, newest, newest-append}
 use Rattle.recovery.proofs.Ledger as ledger
 use Rattle.recovery.proofs.Ledger.{opens, commits-append}
 use Rattle.recovery.proofs.Invariant.{Up}
-use Rattle.serial.specs.Ledger.{Read, OpenWithReads, CommitWithReads, LedgerWithReads, withoutReads, opensIn, commitsIn, stampsOf, readBy, addRead, reading}
+use Rattle.serial.specs.Ledger.{Read, OpenWithReads, CommitWithReads, LedgerWithReads, withoutReads, opensIn, commitsIn, stampsOf, readBy, addRead, notingRead}
 use Rattle.serial.specs.Ledger.{noteRead}
 use Rattle.serial.specs.Claim.{OnlyOpen}
 use Rattle.serial.proofs.Plain.{read-tx}
@@ -31,7 +31,7 @@ use Rattle.serial.proofs.Laying.{writesIn, byteAfter, replay-newest}
 use Rattle.serial.proofs.Ordered.{Leaves, Sees}
 use Rattle.serial.proofs.LiveRead.{seen-inside, read-byte, others-left}
 use Rattle.serial.proofs.Assigned.{assignedIn}
-use Rattle.serial.proofs.Invariant.{OpenSees, Apart, Reading}
+use Rattle.serial.proofs.Invariant.{OpenSees, ReadsLeft, Reading}
 
 all-unmapped : {A B : Type 0} {p : B → Type 0} (f : A → B) (xs : List A) → All p (map f xs) → All (λ x. p (f x)) xs
 all-unmapped f [] h = nil
@@ -154,7 +154,7 @@ module _ (o : Opening) (d : Disk) (l : Live) (k : LedgerWithReads) (r : Tx) (add
   -- ---- the invariant
 
   abbrev noting : OpenWithReads → OpenWithReads
-  noting s = reading (r .id) addr bytes (stampsOf (k .assigned)) s
+  noting s = notingRead (r .id) addr bytes (stampsOf (k .assigned)) s
 
   read-sees : (s : OpenWithReads) → (s .tx .id ≡ r .id → s .tx .writes ≡ r .redo) → OpenSees (o .memory) all s → OpenSees (o .memory) all (noting s)
   read-sees s own h = go (eqb (r .id) (s .tx .id)) refl
@@ -164,8 +164,8 @@ module _ (o : Opening) (d : Disk) (l : Live) (k : LedgerWithReads) (r : Tx) (add
       go true e = all-append h (cons (new-sees s (own (sym (eqb-true (r .id) (s .tx .id) e)))) nil)
       go false e = h
 
-  read-apart : (s t : OpenWithReads) → ((a : ℕ) → Inside a → t .tx .id ≢ r .id → newest a (t .tx .writes) ≡ none) → Apart s t
-      → Apart (noting s) (noting t)
+  read-apart : (s t : OpenWithReads) → ((a : ℕ) → Inside a → t .tx .id ≢ r .id → newest a (t .tx .writes) ≡ none) → ReadsLeft s t
+      → ReadsLeft (noting s) (noting t)
   read-apart s t leaves h =
       subst (λ (x : OpenTx). x .id ≢ noting s .tx .id → All (Leaves (x .writes)) (noting s .reads)) (sym (read-tx (r .id) addr bytes (stampsOf (k .assigned)) t))
       (go (eqb (r .id) (s .tx .id)) refl)

@@ -14,13 +14,13 @@ use Rattle.serial.specs.Claim.{AsOrdered, Serial}
 use Rattle.serial.proofs.Ordered.{sees-ordered, InOrder, order-serial}
 use Rattle.serial.proofs.Run.{Unread, ReadStep, steps, reads, ReadRun, opened, next, plain-run}
 use Rattle.serial.proofs.Assigned.{assignedIn}
-use Rattle.serial.proofs.Invariant.{Reading, Resting, durable-order, cut-resting, begun-reading, wrote-reading, precommitted-reading}
+use Rattle.serial.proofs.Invariant.{Reading, AtRest, durable-order, cut-resting, begun-reading, wrote-reading, precommitted-reading}
 use Rattle.serial.proofs.Invariant.{rolledBack-reading, flushed-reading, settled-reading, restarted-reading}
 use Rattle.serial.proofs.Seeing.{read-reading}
 
 module _ (o : Opening) where
   abbrev pub ReadInv : System → LedgerWithReads → Type 0
-  ReadInv (down d) k = Resting (o .memory) k
+  ReadInv (down d) k = AtRest (o .memory) k
   ReadInv (up d l) k = Reading (o .memory) k
 
   -- whatever the system is, what is durable is in order
@@ -66,7 +66,7 @@ module _ (o : Opening) where
     active = all-map (λ s h. all-map (λ r x. sees-ordered x) h) (v .active);
   }
 
-  so-far-down : (k : LedgerWithReads) → Resting (o .memory) k → SoFar k
+  so-far-down : (k : LedgerWithReads) → AtRest (o .memory) k → SoFar k
   so-far-down k v = record {
     queued = order-serial (o .memory) (assignedIn k) (rw (v .none-queued, append-nil) (v .order));
     active = rw (v .none-open) nil;

@@ -11,13 +11,13 @@ use Rattle.recovery.specs.Claim.{layCommits}
 use Rattle.serial.specs.Ledger.{Read, OpenWithReads, CommitWithReads, commitsIn, stampsOf}
 
 -- the bytes of a memory in the range of a read
-abbrev pub rangeOf : Read → List ℕ → List ℕ
-rangeOf r m = take (length (r .bytes)) (drop (r .addr) m)
+abbrev pub bytesAt : Read → List ℕ → List ℕ
+bytesAt r m = take (length (r .bytes)) (drop (r .addr) m)
 
 -- What the order says: the bytes in the range of a read that the transactions before its own, run one after the other over the opening memory, and then those
 -- of its own writes that stood leave there.
 abbrev pub saidBy : List ℕ → List CommitWithReads → List Write → Read → List ℕ
-saidBy memory before writes r = rangeOf r (redoAll layBytes (take (r .own) writes) (layCommits (commitsIn before) memory))
+saidBy memory before writes r = bytesAt r (redoAll layBytes (take (r .own) writes) (layCommits (commitsIn before) memory))
 
 -- a read of a transaction with these writes, which stands in commit order after `before`
 pub record AsOrdered (memory : List ℕ) (before : List CommitWithReads) (writes : List Write) (r : Read) : Type 0 where

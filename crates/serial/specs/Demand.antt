@@ -63,8 +63,10 @@ pub record ReadsOrdered (memory : List ℕ) (k : WatchedReads) : Type 0 where
   -- order, would return at that read, own earlier writes included"; all that were assigned then are durable before it: "A reader of a precommitted booking that
   -- was later lost is never kept". Of a transaction that is open or queued at the end it says nothing.
   pub serial : Serial memory (k .ledger .durable)
-  -- No read escapes: one that hands back bytes is noted. Of one made next, and so of every one in a list, which comes next after those before it
+  -- No read escapes: one that hands back bytes is noted, and handed back as many as it asked for. Of one made next, and so of every one in a list, which comes
+  -- next after those before it
   pub noted : (id addr len b : ℕ) (bs : List ℕ) → stepOf (read id addr len) (k .world) .reply ≡ part (b ∷ bs) → OnlyOpen id (k .ledger .active)
+  pub whole : (id addr len b : ℕ) (bs : List ℕ) → stepOf (read id addr len) (k .world) .reply ≡ part (b ∷ bs) → length (b ∷ bs) ≡ len
 
 -- Document 02, A.4: whatever happens to a store that opens with an all-zero disk, and whatever memory and tail hold at first
 abbrev pub ReadsSerial : Type 0

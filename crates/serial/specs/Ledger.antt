@@ -56,12 +56,12 @@ opensIn ss = map (λ s. s .tx) ss
 abbrev pub commitsIn : List CommitWithReads → List Commit
 commitsIn cs = map (λ c. c .commit) cs
 
-abbrev pub entryOf : EntryWithReads → Entry
-entryOf (commit c) = ledger.commit (c .commit)
-entryOf abort = ledger.abort
+abbrev pub plainEntry : EntryWithReads → Entry
+plainEntry (commit c) = ledger.commit (c .commit)
+plainEntry abort = ledger.abort
 
 abbrev pub entriesIn : List EntryWithReads → List Entry
-entriesIn es = map entryOf es
+entriesIn es = map plainEntry es
 
 -- the ledger
 abbrev pub withoutReads : LedgerWithReads → Ledger
@@ -86,26 +86,26 @@ committedOf (commit c ∷ es) = c ∷ committedOf es
 committedOf (abort ∷ es) = committedOf es
 
 -- by id: the open transaction with its reads, the others
-abbrev pub openOf : ℕ → List OpenWithReads → OpenWithReads
-openOf i [] = record { tx = record { id = i; writes = [] }; reads = [] }
-openOf i (s ∷ ss) = cond (eqb i (s .tx .id)) s (openOf i ss)
+abbrev pub openTxOf : ℕ → List OpenWithReads → OpenWithReads
+openTxOf i [] = record { tx = record { id = i; writes = [] }; reads = [] }
+openTxOf i (s ∷ ss) = cond (eqb i (s .tx .id)) s (openTxOf i ss)
 
 abbrev pub othersOf : ℕ → List OpenWithReads → List OpenWithReads
 othersOf i ss = filter (λ s. not (eqb i (s .tx .id))) ss
 
 -- a write goes where the ledger puts it
-abbrev pub writing : ℕ → Write → OpenWithReads → OpenWithReads
-writing i w s = record { tx = addWrite i w (s .tx); reads = s .reads }
+abbrev pub notingWrite : ℕ → Write → OpenWithReads → OpenWithReads
+notingWrite i w s = record { tx = addWrite i w (s .tx); reads = s .reads }
 
--- a read goes last among that id's reads, with the count of its writes so far
+-- a read goes last among that id's reads, with the count of that id's writes so far
 abbrev pub readBy : ℕ → List ℕ → List ℕ → OpenWithReads → Read
 readBy addr bytes assigned s = record { addr = addr; bytes = bytes; own = length (s .tx .writes); assigned = assigned }
 
 abbrev pub addRead : Read → OpenWithReads → OpenWithReads
 addRead r s = record { tx = s .tx; reads = s .reads ++ (r ∷ []) }
 
-abbrev pub reading : ℕ → ℕ → List ℕ → List ℕ → OpenWithReads → OpenWithReads
-reading i addr bytes assigned s = cond (eqb i (s .tx .id)) (addRead (readBy addr bytes assigned s) s) s
+abbrev pub notingRead : ℕ → ℕ → List ℕ → List ℕ → OpenWithReads → OpenWithReads
+notingRead i addr bytes assigned s = cond (eqb i (s .tx .id)) (addRead (readBy addr bytes assigned s) s) s
 
 -- ---- its rules
 
@@ -116,20 +116,21 @@ withActive ss k = record { active = ss; queue = k .queue; durable = k .durable; 
 abbrev pub noteBegun : ℕ → LedgerWithReads → LedgerWithReads
 noteBegun i k = withActive (k .active ++ (record { tx = record { id = i; writes = [] }; reads = [] } ∷ [])) k
 
+-- Write: it goes last among that id's writes.
 abbrev pub noteWrote : ℕ → Write → LedgerWithReads → LedgerWithReads
-noteWrote i w k = withActive (map (writing i w) (k .active)) k
+noteWrote i w k = withActive (map (notingWrite i w) (k .active)) k
 
 -- A read that handed back these bytes.
 abbrev pub noteRead : ℕ → ℕ → List ℕ → LedgerWithReads → LedgerWithReads
-noteRead i addr bytes k = withActive (map (reading i addr bytes (stampsOf (k .assigned))) (k .active)) k
+noteRead i addr bytes k = withActive (map (notingRead i addr bytes (stampsOf (k .assigned))) (k .active)) k
 
 -- the open transaction's writes and reads, under the next stamp
 abbrev pub entryFor : ℕ → ℕ → LedgerWithReads → CommitWithReads
 entryFor i n k =
-    let s : OpenWithReads = openOf i (k .active) in
+    let s : OpenWithReads = openTxOf i (k .active) in
     record { stamp = k .stamps; commit = record { id = i; csn = n; writes = s .tx .writes }; reads = s .reads }
 
--- Precommit: they go last in the queue together.
+-- Precommit: they go last in the queue together, and are assigned from now on.
 abbrev pub notePrecommitted : ℕ → ℕ → LedgerWithReads → LedgerWithReads
 notePrecommitted i n k =
     record {
@@ -141,6 +142,7 @@ notePrecommitted i n k =
       stamps = suc (k .stamps);
     }
 
+-- Abort: writes and reads go; an abort entry goes last in the queue.
 abbrev pub noteRolledBack : ℕ → LedgerWithReads → LedgerWithReads
 noteRolledBack i k =
     record {
@@ -180,10 +182,12 @@ noteSettled i k =
       stamps = k .stamps;
     }
 
+-- Restart, done: the lost ones go with their reads; the durable ones are those assigned. Stamps go on.
 abbrev pub noteRestarted : ℕ → LedgerWithReads → LedgerWithReads
 noteRestarted undone k =
     record { active = []; queue = replicate undone abort; durable = k .durable; assigned = k .durable; settled = k .settled; stamps = k .stamps }
 
+-- Cut, whatever the call: open transactions and queue are emptied after its step.
 abbrev pub noteCut : LedgerWithReads → LedgerWithReads
 noteCut k = record { active = []; queue = []; durable = k .durable; assigned = k .assigned; settled = k .settled; stamps = k .stamps }
 
