@@ -162,9 +162,10 @@ static void read_file(struct bench *b)
     memcpy(b->store.disk, b->kept, sizeof b->kept);
 }
 
-/* ---- the pattern: 64 places for each of the three, a step's place being its number modulo 64 */
+/* ---- the pattern: 64 places of 16 bytes for each of the three, a step's place being its number modulo 64. 16 divides a page's 256 bytes, so that no
+ * write lies in two pages. */
 
-enum { PLACES = 64, FIELD = 12, PANES = 0, STRIPS = 1024, COLOURS = 2048 };
+enum { PLACES = 64, PLACE = 16, FIELD = 12, PANES = 0, STRIPS = 1024, COLOURS = 2048 };
 
 struct step {
     char pane[FIELD + 1];
@@ -184,7 +185,7 @@ static struct step step_of(unsigned n)
 
 static size_t place_of(unsigned n)
 {
-    return (size_t)(n % PLACES) * FIELD;
+    return (size_t)(n % PLACES) * PLACE;
 }
 
 /* Whether memory has the three of this step. */
@@ -203,7 +204,7 @@ static unsigned last_step(const struct bench *b)
     for (place = 0; place < PLACES; place++) {
         char pane[FIELD + 1] = "";
         unsigned n;
-        memcpy(pane, b->store.memory + PANES + place * FIELD, FIELD);
+        memcpy(pane, b->store.memory + PANES + place * PLACE, FIELD);
         if (sscanf(pane, "pane %7u", &n) == 1 && n > last)
             last = n;
     }

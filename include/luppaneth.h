@@ -59,7 +59,7 @@ enum luppaneth_answer {
     LUPPANETH_ANSWER_REFUSED = 2 /* by `number`; nothing was changed, but for memory and tail, which restart's 3 to 5 set to zero */
 };
 
-/* A reply's `number` where refused, in the order in which a call tests them; 15 comes after 9. */
+/* A reply's `number` where refused, in the order in which a call tests them; 16 comes after 8, 15 after 9. */
 enum luppaneth_number {
     LUPPANETH_WRONG_LENGTH = 1,           /* any call: a lent buffer hasn't its length */
     LUPPANETH_UNFIT = 2,                  /* any call but restart: the state is unrecovered or broken, or the tail isn't its own */
@@ -75,7 +75,8 @@ enum luppaneth_number {
     LUPPANETH_COUNTER_AT_END = 12,        /* begin: id 65,535 was given. Precommit: commit number 4,294,967,295 was given */
     LUPPANETH_LOG_FULL = 13,              /* begin, write: the log has no room for it */
     LUPPANETH_NOT_DURABLE = 14,           /* settle: it is running, or its commit isn't on disk yet */
-    LUPPANETH_TOO_MANY_READS = 15         /* read_answer: it has 16 read ranges */
+    LUPPANETH_TOO_MANY_READS = 15,        /* read_answer: it has 16 read ranges */
+    LUPPANETH_TWO_PAGES = 16              /* write: the range lies in two pages of 256 bytes; make two writes of it */
 };
 
 /* A reply's `stop`: why the log ended where it did, as a restart that is done found it. */
@@ -120,7 +121,7 @@ struct luppaneth_state luppaneth_unrecovered(void);
 struct luppaneth_reply luppaneth_begin(struct luppaneth_state state, const unsigned char *memory, size_t memory_len, const unsigned char *tail,
                                        size_t tail_len);
 
-/* Puts 1 to 32 bytes into memory at addr, for a running transaction. */
+/* Puts 1 to 32 bytes into memory at addr, for a running transaction. They lie in one page of 256 bytes, else number 16. */
 struct luppaneth_reply luppaneth_write(struct luppaneth_state state, unsigned char *memory, size_t memory_len, const unsigned char *tail,
                                        size_t tail_len, uint16_t id, size_t addr, const unsigned char *bytes, size_t bytes_len);
 
@@ -181,7 +182,7 @@ size_t luppaneth_text_len(void);
 
 /* ---- The layer that holds state and buffers
  *
- * Each call returns 0 for done, a luppaneth_number (1 to 15) where refused, or LUP_CUT, which none gives with LUPPANETH_ALL stores allowed. What is
+ * Each call returns 0 for done, a luppaneth_number (1 to 16) where refused, or LUP_CUT, which none gives with LUPPANETH_ALL stores allowed. What is
  * handed out through a pointer is 0 (for read NULL) unless the call is done. A `struct luppaneth` has 63,672 bytes: keep it static or on the heap. */
 
 #define LUP_CUT (-1)
@@ -313,6 +314,7 @@ static inline const char *lup_text(int answer)
         "the log is full",
         "the booking isn't on disk yet",
         "the transaction has read 16 ranges",
+        "the write lies in two pages of 256 bytes; make two of it",
     };
     if (answer == LUP_CUT)
         return "cut short";

@@ -263,6 +263,17 @@ static void test_first_groups(struct luppaneth *l)
            "the first groups of a disk that is too short");
 }
 
+/* Document 02, A.5: a write lies in one page, a read may lie in two. */
+static void test_pages(struct luppaneth *l)
+{
+    const unsigned char *part;
+    uint16_t id = 0;
+    expect(lup_begin(l, &id) == 0 && lup_write(l, id, 255, "xy", 2) == LUPPANETH_TWO_PAGES, "a write over two pages");
+    expect(lup_write(l, id, 254, "wx", 2) == 0 && lup_write(l, id, 256, "y", 1) == 0, "a write up to a page's last byte, and one from the next on");
+    expect(lup_read(l, id, 254, 3, &part) == 0 && memcmp(part, "wxy", 3) == 0, "a read over two pages");
+    expect(lup_abort(l, id) == 0, "the abort of it");
+}
+
 static void test_layer(struct luppaneth *l)
 {
     const unsigned char *part;
@@ -270,8 +281,10 @@ static void test_layer(struct luppaneth *l)
     int i;
     lup_init(l);
     expect(lup_begin(l, &id) == LUPPANETH_UNFIT && id == 0, "begin before a restart");
-    for (i = LUP_CUT - 1; i <= LUPPANETH_TOO_MANY_READS + 1; i++)
-        expect(lup_text(i) != NULL, "an answer without a text");
+    for (i = LUP_CUT - 1; i <= LUPPANETH_TWO_PAGES + 1; i++) {
+        int known = i != LUP_CUT - 1 && i != LUPPANETH_TWO_PAGES + 1;
+        expect((strcmp(lup_text(i), "no answer of this store") != 0) == known, "a text for each answer, and for no other number");
+    }
     expect(lup_read(l, 1, 0, 1, &part) == LUPPANETH_UNFIT && part == NULL, "read before a restart");
 }
 
@@ -289,6 +302,7 @@ int main(void)
     test_disks(&l);
     test_holds(&l);
     test_first_groups(&l);
+    test_pages(&l);
     test_layer(&l);
     if (!failed)
         printf("layout: the header agrees with the library\n");

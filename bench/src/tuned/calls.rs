@@ -4,7 +4,7 @@ use super::admit::Admitted;
 use super::log::{put_abort, put_commit, put_redo};
 use super::state::{Records, State, Tx, COMMITTING, RUNNING};
 use super::Refusal;
-use second::layout::{range_ok, LOG_LEN, MAX_TXS, MAX_UNDOS};
+use second::layout::{range_ok, LOG_LEN, MAX_TXS, MAX_UNDOS, PAGE_LEN};
 
 impl State {
     pub fn begin(&mut self, memory: &[u8], tail: &[u8]) -> Result<u16, Refusal> {
@@ -136,7 +136,7 @@ impl State {
         Ok((admitted, slot))
     }
 
-    /// Numbers 1, 2 and 6 to 9, to read or to write.
+    /// Numbers 1, 2 and 6 to 9, to read or to write; to write also 16.
     fn find_range(
         &self,
         memory: &[u8],
@@ -149,6 +149,9 @@ impl State {
         let found = self.find_running(memory, tail, id)?;
         if !range_ok(addr, len) {
             return Err(8);
+        }
+        if writing && addr / PAGE_LEN != (addr + len - 1) / PAGE_LEN {
+            return Err(16);
         }
         let holds = |tx: &Tx| tx.undo.meets(addr, len) || writing && tx.reads.meets(addr, len);
         let held = |tx: &Tx| tx.id != id && tx.is_running() && holds(tx);

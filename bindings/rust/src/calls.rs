@@ -135,7 +135,7 @@ impl State {
         Ok(TxId(reply.value as u16))
     }
 
-    /// Puts 1 to 32 bytes into memory from an address on.
+    /// Puts 1 to 32 bytes into memory from an address on, all in one page of 256 bytes.
     pub fn write(
         &mut self,
         memory: &mut Memory,

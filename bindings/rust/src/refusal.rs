@@ -4,7 +4,7 @@ use std::fmt;
 
 /// Why a call was refused. Refused, a call has changed nothing; restart alone zeroes memory and tail where it refuses a disk.
 ///
-/// The variants stand in the order of their numbers. A call tests them in that order, but for 15, which comes after 9.
+/// The variants stand in the order of their numbers. A call tests them in that order, but for 16, which comes after 8, and 15, after 9.
 #[derive(Clone, Copy, Debug, PartialEq, Eq, Hash)]
 pub enum Refusal {
     /// 1: a lent buffer hasn't its length. The types of this crate keep it away.
@@ -37,11 +37,13 @@ pub enum Refusal {
     NotDurable = 14,
     /// 15: the transaction has read 16 ranges.
     TooManyReads = 15,
+    /// 16, write: the range lies in two pages of 256 bytes.
+    TwoPages = 16,
 }
 
 impl Refusal {
     /// All of them, by number.
-    pub const ALL: [Refusal; 15] = [
+    pub const ALL: [Refusal; 16] = [
         Refusal::WrongLength,
         Refusal::Unfit,
         Refusal::BadPointer,
@@ -57,9 +59,10 @@ impl Refusal {
         Refusal::LogFull,
         Refusal::NotDurable,
         Refusal::TooManyReads,
+        Refusal::TwoPages,
     ];
 
-    /// The documents' number, 1 to 15.
+    /// The documents' number, 1 to 16.
     pub fn number(self) -> u8 {
         self as u8
     }
@@ -87,6 +90,7 @@ impl Refusal {
             Refusal::LogFull => "the log is full: this needs more than is left of its 16,384 bytes",
             Refusal::NotDurable => "the transaction is running, or its commit isn't on disk yet",
             Refusal::TooManyReads => "the transaction has read 16 ranges already",
+            Refusal::TwoPages => "the write lies in two pages of 256 bytes",
         }
     }
 
@@ -109,6 +113,9 @@ impl Refusal {
             }
             Refusal::NotDurable => "flush first",
             Refusal::TooManyReads => "read neighbouring bytes in one part of up to 32, or book in two steps",
+            Refusal::TwoPages => {
+                "make two writes of it in one step: up to the first page's last byte, and from the next page's first on"
+            }
         }
     }
 }

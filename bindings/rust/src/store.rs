@@ -69,7 +69,7 @@ pub struct Tx<'a> {
 }
 
 impl Tx<'_> {
-    /// Writes 1 to 32 bytes from an address on; a step has at most 16 writes.
+    /// Writes 1 to 32 bytes from an address on, all in one page of 256 bytes; a step has at most 16 writes.
     pub fn write(&mut self, at: usize, bytes: &[u8]) -> Result<(), Error> {
         let w = &mut *self.working;
         w.state.write(&mut w.memory, &w.tail, self.id, at, bytes)?;

@@ -325,6 +325,24 @@ fn cover_is_byte_by_byte() {
     assert_eq!(b.read(id, 10, 6), Err(Refusal::TooManyReads));
 }
 
+/// Document 02, A.5: a write lies in one page; a read may lie in two.
+#[test]
+fn one_page_a_write() {
+    let mut b = Buffers::fresh();
+    let id = b.begin().unwrap();
+    assert_eq!(b.write(id, 255, &[5, 6]), Err(Refusal::TwoPages));
+    assert_eq!(b.write(id, 255, &[5]), Ok(()));
+    assert_eq!(b.write(id, 256, &[6]), Ok(()));
+    assert_eq!(b.read(id, 255, 2), Ok(&[5, 6][..]));
+    assert_eq!(b.write(id, 3_808, &[7; 32]), Ok(()));
+    assert_eq!(b.write(id, 3_809, &[7; 32]), Err(Refusal::TwoPages));
+    // 8 comes first, and 9 after it.
+    assert_eq!(b.write(id, 255, &[5; 33]), Err(Refusal::BadRange));
+    let other = b.begin().unwrap();
+    assert_eq!(b.write(other, 255, &[5, 6]), Err(Refusal::TwoPages));
+    assert_eq!(b.write(other, 255, &[5]), Err(Refusal::Held));
+}
+
 #[test]
 fn equal_says_yes_and_no() {
     let mut one = m1();
@@ -350,7 +368,7 @@ fn refusals_by_name_and_number() {
         );
     }
     assert_eq!(
-        (Refusal::from_number(0), Refusal::from_number(16)),
+        (Refusal::from_number(0), Refusal::from_number(17)),
         (None, None)
     );
 }

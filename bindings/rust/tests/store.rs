@@ -114,7 +114,8 @@ fn a_full_log_is_carried_over() {
     let mut booked = 0_u32;
     let full = loop {
         let text = (booked + 1).to_be_bytes();
-        let at = booked as usize * 37 % 4_000;
+        // A multiple of 4: no part lies in two pages.
+        let at = booked as usize * 37 % 1_000 * 4;
         match store.book(|tx| (0..4).try_for_each(|part| tx.write(at + 20 * part, &text))) {
             Ok(_) => booked += 1,
             Err(error) => break error,

@@ -1,11 +1,11 @@
 -- Document 01, "Worked at the bench": M1 to M10 and disklist's text as one table over the definitions that the contracts cite. That each row
 -- holds is `worked` (proofs/Cases.antt), one proof over the table, by computation.
-use Prim.Native.Nat.{ℕ, zero, suc, _/_, _%_}
+use Prim.Native.Nat.{ℕ, zero, suc, _+_, _/_, _%_}
 use mathlib.Core.List.{List, [], _∷_, _++_, map, reverse}
 use mathlib.Core.Path.{_≡_}
-use lib.ListN.{getD, take, replicate}
+use lib.ListN.{getD, take, drop, replicate}
 use lib.Seq.{sets}
-use Rattle.layout.specs.{logStart}
+use Rattle.layout.specs.{imageA, txsStart, logStart}
 use Rattle.recovery.specs.Transaction.{Tx}
 use Rattle.recovery.specs.Replay.{undoAll, undoEach, layBytes}
 use Rattle.recovery.specs.Restart.{undoOf, undoOrder}
@@ -14,7 +14,7 @@ use Rattle.store.specs.Answer.{done, cut, refused}
 use Rattle.disk.specs.Layout.{logFrom}
 use Rattle.disk.specs.Open.{openOf}
 use Rattle.text.specs.{ascii}
-use Rattle.listing.specs.Listing.{listingOf}
+use Rattle.listing.specs.Listing.{restartWhole, listingOf}
 use Rattle.history.specs.Calls.{Call, begin, write, read, readAnswer, precommit, abort, flush, settle, checkpoint, restart}
 use Rattle.history.specs.Calls.{Reply, told, part, World, freshWorld, Ran, runOf}
 
@@ -61,6 +61,10 @@ listingOver i xs j ys w = listingOf (sets (sets (w .disk) i xs) j ys)
 -- and of the disk with another log
 abbrev pub listingWith : List ℕ → World → List ℕ
 listingWith log w = listingOf (take logStart (w .disk) ++ log)
+
+-- what restart leaves in memory, around the first page's end, of the disk with a pointer byte and counters of image A, transactions there, and a log
+abbrev pub aroundPageEnd : List ℕ → List ℕ → List ℕ → World → List ℕ
+aroundPageEnd front txs log w = take 6 (drop 253 (restartWhole (sets (sets (sets (w .disk) 0 front) (imageA + txsStart) txs) logStart log) .memory))
 
 -- one place to look and then another
 abbrev pub both : (World → List ℕ) → (World → List ℕ) → World → List ℕ
@@ -118,6 +122,18 @@ m1Replies = opened ∷ told done 1 0 ∷ justDone ∷ told done 1 0 ∷ []
 -- a whole redo record of id 1, alone
 abbrev pub loneRedo : List ℕ
 loneRedo = 0x01 ∷ 0x00 ∷ 0x01 ∷ 0x00 ∷ 0x0A ∷ 0x01 ∷ 0x05 ∷ 0x01 ∷ []
+
+-- a commit group of an id, with commit number 1: it writes 1, 2, 3 from 255 on, so over two pages
+abbrev pub crossingGroup : ℕ → List ℕ
+crossingGroup id = 0x01 ∷ 0 ∷ id ∷ 0x00 ∷ 0xFF ∷ 0x03 ∷ 1 ∷ 2 ∷ 3 ∷ 0x01 ∷ 0x02 ∷ 0 ∷ id ∷ 0 ∷ 0 ∷ 0 ∷ 1 ∷ 0x02 ∷ []
+
+-- pointer byte 1 and the counters of an image with one transaction
+abbrev pub oneTx : List ℕ
+oneTx = 1 ∷ replicate 11 0 ++ (1 ∷ 1 ∷ [])
+
+-- id 1 in an image, running, with an undo record of 5, 6, 7 from 254 on, so over two pages
+abbrev pub crossingTx : List ℕ
+crossingTx = 0 ∷ 1 ∷ 1 ∷ 0 ∷ 0 ∷ 0 ∷ 0 ∷ 1 ∷ 0x00 ∷ 0xFE ∷ 0x03 ∷ 5 ∷ 6 ∷ 7 ∷ []
 
 abbrev pub rows : List Row
 rows =
@@ -300,6 +316,44 @@ rows =
             opened ∷ told done 1 0 ∷ told done 2 0 ∷ justDone ∷ replicate 16 justDone ++ (refusedBy 15 ∷ part (0 ∷ []) ∷ refusedBy 9 ∷ []);
         seen = [];
       };
+    }
+    -- document 02, A.5. A write that ends at a page's last byte passes, one over two pages is 16: after 8, before 9. Reads may lie in two
+    ∷ record {
+      calls =
+          restart 16384 ∷ begin ∷ begin ∷ write 1 224 (replicate 32 5) ∷ write 1 225 (replicate 32 6) ∷ write 1 256 (7 ∷ []) ∷ write 1 255 (replicate 33 6)
+          ∷ write 1 4095 (6 ∷ 6 ∷ [])
+          ∷ write 2 255 (6 ∷ 6 ∷ [])
+          ∷ write 2 255 (6 ∷ [])
+          ∷ readAnswer 1 255 2
+          ∷ read 1 255 2
+          ∷ [];
+      look = nowhere;
+      expected = record {
+        replies =
+            opened ∷ told done 1 0 ∷ told done 2 0 ∷ justDone ∷ refusedBy 16 ∷ justDone ∷ refusedBy 8 ∷ refusedBy 8 ∷ refusedBy 16 ∷ refusedBy 9
+            ∷ justDone
+            ∷ part (5 ∷ 7 ∷ [])
+            ∷ [];
+        seen = [];
+      };
+    }
+    -- records over two pages, as older disks may have them, are carried out in full: a redo record in the log
+    ∷ record {
+      calls = [];
+      look = aroundPageEnd [] [] (crossingGroup 1);
+      expected = record { replies = []; seen = 0 ∷ 0 ∷ 1 ∷ 2 ∷ 3 ∷ 0 ∷ [] };
+    }
+    -- an undo record in the image, undone by step 4
+    ∷ record {
+      calls = [];
+      look = aroundPageEnd oneTx crossingTx [];
+      expected = record { replies = []; seen = 0 ∷ 5 ∷ 6 ∷ 7 ∷ 0 ∷ 0 ∷ [] };
+    }
+    -- the same undone by an abort in the log, then the redo record of another
+    ∷ record {
+      calls = [];
+      look = aroundPageEnd oneTx crossingTx (3 ∷ 0 ∷ 1 ∷ 3 ∷ crossingGroup 2);
+      expected = record { replies = []; seen = 0 ∷ 5 ∷ 1 ∷ 2 ∷ 3 ∷ 0 ∷ [] };
     }
     ∷ []
 

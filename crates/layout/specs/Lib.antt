@@ -1,4 +1,4 @@
--- Sizes, offsets, counts and statuses of document 01, each said once; the parts of a disk in Parts.
+-- Sizes, offsets, counts and statuses of documents 01 and 02, each said once; the parts of a disk in Parts.
 use Prim.Native.Nat.{ℕ}
 pub mod Parts
 
@@ -11,6 +11,10 @@ tailLen = 16384
 
 abbrev pub diskLen : ℕ
 diskLen = 33691
+
+-- a page of memory: "16 drawers of 256 bytes" (document 02, A.5)
+abbrev pub pageLen : ℕ
+pageLen = 256
 
 -- "A is at 1 to 8,653, B at 8,654 to 17,306, the log at 17,307 to 33,690"
 abbrev pub imageA : ℕ

@@ -1,4 +1,4 @@
-// Sizes, offsets, counts and statuses of document 01, each said once. The same numbers for the definitions: specs/Lib.antt.
+// Sizes, offsets, counts and statuses of documents 01 and 02, each said once. The same numbers for the definitions: specs/Lib.antt.
 
 // The buffers that are lent.
 pub const MEMORY_LEN: usize = 4096;
@@ -6,6 +6,9 @@ pub const MEMORY_LEN: usize = 4096;
 pub const TAIL_LEN: usize = 16384;
 
 pub const DISK_LEN: usize = 33691;
+
+// A page of memory (document 02, A.5: drawer).
+pub const PAGE_LEN: usize = 256;
 
 // The parts of a disk: the pointer byte at offset 0, images A and B, the log. A pointer byte of 0 names no image.
 pub const IMAGE_A: usize = 1;

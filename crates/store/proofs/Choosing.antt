@@ -209,5 +209,5 @@ ranged-by-8 a n e =
     let g = in-range a n o in
     record { ok = o; short = g .1; within = g .2 }
 
-pub chosen-range : (s : State) (id a n : ℕ) → firstNumber (rangeChecks s id a n) ≡ 0 → Ranged a n
-chosen-range s id a n z = ranged-by-8 a n (passed (rangeChecks s id a n) [] refl z .0 .1 .1 .0)
+pub chosen-range : (s : State) (id a n : ℕ) (cs : List Check) → firstNumber (rangeChecks s id a n ++ cs) ≡ 0 → Ranged a n
+chosen-range s id a n cs z = ranged-by-8 a n (passed (rangeChecks s id a n) cs refl z .0 .1 .1 .0)

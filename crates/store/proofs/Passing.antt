@@ -21,7 +21,7 @@ use Rattle.image.proofs.Rules.{image-count, undo-at}
 use Rattle.store.specs.declared.State.{State}
 use Rattle.store.specs.State.{txsOf, slotOf, imageOf}
 use Rattle.store.specs.Rules.{tailLength, roomUsed}
-use Rattle.store.specs.Numbers.{Check, firstNumber, numberBy, txOf, check8, check9, check10, check12, check13, check15, beginChecks, rangeChecks, abortChecks, settleChecks}
+use Rattle.store.specs.Numbers.{Check, firstNumber, numberBy, txOf, check8, check9, check10, check12, check13, check15, check16, beginChecks, rangeChecks, abortChecks, settleChecks}
 use Rattle.store.specs.Calls.{beginNumber, writeNumber, readNumber, answerNumber, precommitNumber, abortNumber, settleNumber}
 use Rattle.store.proofs.Checks.{passed}
 use Rattle.store.proofs.Fits.{Fit, rule-at, status-at, redo-at, room-at}
@@ -64,7 +64,7 @@ pub record AnswerPassed (s : State) (m t : List ℕ) (id a n : ℕ) : Type 0 whe
   pub read : ReadPassed s m t id a n
   pub reads : txOf s id .extras .reads .count < 16
 
--- these, 8, 9, 10 and 13
+-- these, 8, 16, 9, 10 and 13
 pub record WritePassed (s : State) (m t : List ℕ) (id a n : ℕ) : Type 0 where
   pub runs : RunningPassed s m t id
   pub range : Ranged a n
@@ -170,18 +170,18 @@ module _ (s : State) (m t : List ℕ) where
       pub write-passed : writeNumber s m t id a n ≡ 0 → WritePassed s m t (id .0) a n
       write-passed e =
           let x = txOf s (id .0) in
-          let cs = check9 s writing (id .0) a n ∷ check10 s (id .0) ∷ check13 (roomUsed s t) n ∷ [] in
+          let cs = check16 a n ∷ check9 s writing (id .0) a n ∷ check10 s (id .0) ∷ check13 (roomUsed s t) n ∷ [] in
           let p = range-passed cs e in
           let r = p .0 in
           let q = passed cs [] refl (p .2) .0 in
-          let few : x .undo .ranges .count < 16 = omega (arith, counted (x .undo .ranges) (r .undo), eqb-false (x .undo .ranges .count) 16 (q .1 .0)) in
+          let few : x .undo .ranges .count < 16 = omega (arith, counted (x .undo .ranges) (r .undo), eqb-false (x .undo .ranges .count) 16 (q .1 .1 .0)) in
           record {
             runs = r;
             range = p .1;
-            free = q .0;
+            free = q .1 .0;
             undo = few;
             redo = omega (arith, few, same-count (x .undo .ranges) (x .redo .ranges) (r .same));
-            room = ltb-false _ _ (q .1 .1 .0);
+            room = ltb-false _ _ (q .1 .1 .1 .0);
           }
 
     pub settle-passed : settleNumber s m t id ≡ 0 → SettlePassed s t (id .0)

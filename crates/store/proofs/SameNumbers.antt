@@ -1,5 +1,5 @@
 -- States that are alike in what judges a call are refused alike by every call in memory: check by check, then with numbers 1 and 2.
-use Prim.Native.Nat.{ℕ, _+_, _<_}
+use Prim.Native.Nat.{ℕ, _+_, _-_, _/_, _<_}
 use mathlib.Core.Bool.{Bool, true, false, cond, _||_}
 use mathlib.Core.List.{List, [], _∷_}
 use mathlib.Core.Path.{_≡_, refl, sym, ap, ap₂, _∙_, subst}
@@ -9,7 +9,7 @@ use Rattle.transaction.specs.Rules.{reading, writing, heldAgainst}
 use Rattle.store.specs.declared.State.{State}
 use Rattle.store.specs.State.{txAt, txsOf, hasId, slotOf}
 use Rattle.store.specs.Rules.{roomUsed}
-use Rattle.store.specs.Numbers.{Check, firstNumber, numberBy, txOf, check6, check7, check8, check9, check10, check12, check13, check14, check15}
+use Rattle.store.specs.Numbers.{Check, firstNumber, numberBy, txOf, check6, check7, check8, check9, check10, check12, check13, check14, check15, check16}
 use Rattle.store.specs.Numbers.{beginChecks, readChecks, answerChecks, writeChecks, precommitChecks, abortChecks, settleChecks}
 use Rattle.store.proofs.Slots.{slot-within}
 use Rattle.store.proofs.Sameness.{AlikeTx, Alike, room-alike, number-alike, ids, slots, helds}
@@ -57,9 +57,12 @@ module _ (s r : State) (h : Alike s r) where
         ∙ ap₂ (λ (d c : ℕ). cond (eqb (txOf r id .status) 1 || ltb d c) 14 0) (h .ondisk) (named id e .csn))
 
     module _ (a n : ℕ) where
-      -- what follows numbers 7, 8 and 9
+      -- what follows numbers 7 and 8, and what follows 9
+      abbrev upTo8 : ℕ → ℕ → ℕ
+      upTo8 status more = cond (eqb status 2) 7 (cond (eqb n 0 || ltb 32 n || ltb 4096 (a + n)) 8 more)
+
       abbrev upTo9 : ℕ → Bool → ℕ → ℕ
-      upTo9 status held more = cond (eqb status 2) 7 (cond (eqb n 0 || ltb 32 n || ltb 4096 (a + n)) 8 (cond held 9 more))
+      upTo9 status held more = upTo8 status (cond held 9 more)
 
       pub read-first : firstNumber (readChecks s id a n) ≡ firstNumber (readChecks r id a n)
       read-first =
@@ -74,16 +77,18 @@ module _ (s r : State) (h : Alike s r) where
           ap₂ (λ (k : ℕ) (b : Bool). upTo9 k b (cond (eqb (txOf s id .extras .reads .count) 16) 15 0)) (named id e .status) (helds s r h reading id a n)
           ∙ ap (λ (c : ℕ). upTo9 (txOf r id .status) (any (heldAgainst reading id a n) (txsOf r)) (cond (eqb c 16) 15 0)) (named id e .reads .count))
 
-      abbrev last : ℕ → ℕ → ℕ
-      last records room = cond (eqb records 16) 10 (cond (ltb 16384 (room + (7 + n))) 13 0)
+      -- 16 comes before 9
+      abbrev written : ℕ → Bool → ℕ → ℕ → ℕ
+      written status held records room =
+          upTo8 status (cond (ltb (a / 256) ((a + n - 1) / 256)) 16 (cond held 9 (cond (eqb records 16) 10 (cond (ltb 16384 (room + (7 + n))) 13 0))))
 
       pub write-first : (x y : ℕ) → x ≡ y → firstNumber (writeChecks s x id a n) ≡ firstNumber (writeChecks r y id a n)
       write-first x y q =
-          listed-alike id (check7 s id ∷ check8 a n ∷ check9 s writing id a n ∷ check10 s id ∷ check13 x n ∷ [])
-          (check7 r id ∷ check8 a n ∷ check9 r writing id a n ∷ check10 r id ∷ check13 y n ∷ [])
+          listed-alike id (check7 s id ∷ check8 a n ∷ check16 a n ∷ check9 s writing id a n ∷ check10 s id ∷ check13 x n ∷ [])
+          (check7 r id ∷ check8 a n ∷ check16 a n ∷ check9 r writing id a n ∷ check10 r id ∷ check13 y n ∷ [])
           (λ e.
-          ap₂ (λ (k : ℕ) (b : Bool). upTo9 k b (last (txOf s id .undo .ranges .count) x)) (named id e .status) (helds s r h writing id a n)
-          ∙ ap₂ (λ (c m : ℕ). upTo9 (txOf r id .status) (any (heldAgainst writing id a n) (txsOf r)) (last c m)) (named id e .undo .count) q)
+          ap₂ (λ (k : ℕ) (b : Bool). written k b (txOf s id .undo .ranges .count) x) (named id e .status) (helds s r h writing id a n)
+          ∙ ap₂ (λ (c m : ℕ). written (txOf r id .status) (any (heldAgainst writing id a n) (txsOf r)) c m) (named id e .undo .count) q)
 
   -- ---- the numbers of these calls
 

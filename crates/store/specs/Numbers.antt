@@ -1,10 +1,10 @@
 -- The numbers that refuse a call, in checking order, each under its stated condition alone.
-use Prim.Native.Nat.{ℕ, _+_}
+use Prim.Native.Nat.{ℕ, _+_, _-_, _/_}
 use mathlib.Core.Bool.{Bool, not, cond, _&&_, _||_}
 use mathlib.Core.List.{List, [], _∷_, _++_}
 use lib.ListN.{length}
 use lib.Dec.{eqb, ltb}
-use Rattle.layout.specs.{memoryLen, tailLen, logLen, maxTxs, maxRecords, maxWrite, redoLen, commitLen, statusRunning, statusCommitting}
+use Rattle.layout.specs.{memoryLen, pageLen, tailLen, logLen, maxTxs, maxRecords, maxWrite, redoLen, commitLen, statusRunning, statusCommitting}
 use Rattle.recovery.specs.Lists.{any}
 use Rattle.transaction.specs.declared.Tx.{Tx}
 use Rattle.transaction.specs.Rules.{reading, writing, heldAgainst}
@@ -45,6 +45,10 @@ check7 s id = check 7 (eqb (txOf s id .status) statusCommitting)
 abbrev pub check8 : ℕ → ℕ → Check
 check8 a n = check 8 (eqb n 0 || ltb maxWrite n || ltb memoryLen (a + n))
 
+-- "16, write over two drawers, checked after 8" (document 02, A.5): the last byte of the range lies in a later page than its first
+abbrev pub check16 : ℕ → ℕ → Check
+check16 a n = check 16 (ltb (a / pageLen) ((a + n - 1) / pageLen))
+
 -- "9. .. a byte of the range is held by another", against reading or writing it: "Number 9 covers a write over a byte that another has read"
 -- (document 02, A.2)
 abbrev pub check9 : State → Bool → ℕ → ℕ → ℕ → Check
@@ -78,7 +82,7 @@ abbrev pub check13 : ℕ → ℕ → Check
 check13 room n = check 13 (ltb logLen (room + (redoLen + n)))
 
 abbrev pub writeChecks : State → ℕ → ℕ → ℕ → ℕ → List Check
-writeChecks s room id a n = rangeChecks s id a n ++ (check9 s writing id a n ∷ check10 s id ∷ check13 room n ∷ [])
+writeChecks s room id a n = rangeChecks s id a n ++ (check16 a n ∷ check9 s writing id a n ∷ check10 s id ∷ check13 room n ∷ [])
 
 -- "12. .. Precommit: last commit number 4,294,967,295."
 abbrev pub check12 : State → Check

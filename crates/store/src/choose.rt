@@ -6,6 +6,7 @@ use crate::extents::StateExtents;
 use layout::COMMIT_LEN;
 use layout::COMMITTING;
 use layout::LOG_LEN;
+use layout::PAGE_LEN;
 use layout::REDO_LEN;
 use layout::RUNNING;
 use log::TxId;
@@ -22,7 +23,7 @@ ghost use Rattle.transaction.specs.Rules.{stateOk, heldAgainst, covered};
 ghost use Rattle.store.specs.State.{txAt, txsOf, slotOf};
 ghost use Rattle.store.specs.Extents.{bareState};
 ghost use Rattle.store.specs.Rules.{keepsImageRules};
-ghost use Rattle.store.specs.Numbers.{check8, beginChecks, readChecks, answerChecks, writeChecks, precommitChecks, abortChecks, settleChecks};
+ghost use Rattle.store.specs.Numbers.{check8, check16, beginChecks, readChecks, answerChecks, writeChecks, precommitChecks, abortChecks, settleChecks};
 ghost use Rattle.store.specs.Admission.{numberAfter, listedChecks, refusal, choice, after, Seen};
 
 // What bytes are wanted for, to number 9.
@@ -58,6 +59,19 @@ fn choose_range(chosen: Choice, addr: usize, len: usize) -> Choice
     }
     if !in_range(addr, len) {
         return refuse(8);
+    }
+    chosen
+}
+
+// Number 16, after those of the choice: less than len is left of the page that addr lies in.
+fn choose_page(chosen: Choice, addr: usize, len: usize) -> Choice
+    ensures { λ r. ⌜ r ≡ after chosen (check16 addr len ∷ []) ⌝ }
+{
+    if chosen.number != 0 {
+        return chosen;
+    }
+    if PAGE_LEN - addr % PAGE_LEN < len {
+        return refuse(16);
     }
     chosen
 }
@@ -206,7 +220,7 @@ impl StateExtents {
         t.covers(addr, len)
     }
 
-    // Numbers 6 to 10 and 13.
+    // Numbers 6 to 8, 16, 9, 10 and 13.
     pub(crate) fn choose_write(
         self,
         admitted: Admission,
@@ -219,20 +233,21 @@ impl StateExtents {
     {
         let running = self.choose_running(admitted, id);
         let ranged = choose_range(running, addr, len);
-        if ranged.number != 0 {
-            return ranged;
+        let paged = choose_page(ranged, addr, len);
+        if paged.number != 0 {
+            return paged;
         }
         if self.held(WRITING, id, addr, len) {
             return refuse(9);
         }
-        let slot = ranged.slot;
+        let slot = paged.slot;
         if self.txs[slot].undo.count == RECORDS_MAX {
             return refuse(10);
         }
-        if LOG_LEN < ranged.room + (REDO_LEN + len) {
+        if LOG_LEN < paged.room + (REDO_LEN + len) {
             return refuse(13);
         }
-        ranged
+        paged
     }
 
     // Numbers 6, 7 and 12.

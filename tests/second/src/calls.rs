@@ -1,6 +1,6 @@
 //! The calls that store nothing on disk: document 01, "The nine calls" and
-//! "Numbers in checking order"; reads that hold: document 02, A.2. A refusal
-//! leaves everything untouched.
+//! "Numbers in checking order"; reads that hold and writes within a page:
+//! document 02, A.2 and A.5. A refusal leaves everything untouched.
 
 use crate::layout::{range_ok, Range, LOG_LEN, MAX_READS, MAX_TXS, MAX_UNDOS};
 use crate::log::{undo, Csn, Group, Log, Record, TxId, Write, COMMIT_SIZE};
@@ -38,6 +38,9 @@ impl State {
         let length = bytes.len();
         let range = Range { address, length };
         let (groups, index) = self.find_range(memory, tail, id, range)?;
+        if range.crosses_pages() {
+            return Err(16);
+        }
         let hinders = |tx: &Tx| tx.has_written_any_of(range) || tx.has_read_any_of(range);
         if self.others(id).any(hinders) {
             return Err(9);

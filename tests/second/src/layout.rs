@@ -17,6 +17,9 @@ pub const MAX_LENGTH: usize = 32;
 /// The read ranges that a running transaction may have (document 02, A.2).
 pub const MAX_READS: usize = 16;
 
+/// A page (document 02, A.5: drawer).
+pub const PAGE_LEN: usize = 256;
+
 /// The range rule of redo records, image undo records and number 8:
 /// length 1 to 32, address + length at most 4,096. Never wraps.
 pub fn range_ok(address: usize, length: usize) -> bool {
@@ -34,6 +37,11 @@ impl Range {
     /// Some byte lies in both.
     pub fn meets(self, other: Range) -> bool {
         self.address < other.address + other.length && other.address < self.address + self.length
+    }
+
+    /// Its first and its last byte lie in two pages.
+    pub fn crosses_pages(self) -> bool {
+        self.address / PAGE_LEN != (self.address + self.length - 1) / PAGE_LEN
     }
 
     pub fn has(self, place: usize) -> bool {

@@ -14,6 +14,7 @@ pub mod inspect;
 pub mod layout;
 pub mod ledger;
 pub mod log;
+pub mod names;
 pub mod needs;
 pub mod order;
 pub mod restart;

@@ -40,6 +40,9 @@ pub fn asked(variable: &str, gate: u64) -> u64 {
     env::var(variable).map_or(gate, |number| number.parse().expect("a number"))
 }
 
+/// A write lies in one page.
+const PAGE_LEN: usize = 256;
+
 /// A step's writes.
 pub type Step = Vec<(usize, Vec<u8>)>;
 
@@ -62,13 +65,14 @@ pub fn lengths_by_eight(rng: &mut Rng) -> Vec<usize> {
 }
 
 /// A step of writes of these lengths, to be booked with a commit number. The first write goes to address 0 and starts with the serial number, so
-/// that no two steps of a test leave the same; the others go anywhere, and some look like log records.
+/// that no two steps of a test leave the same; the others go anywhere within a page, and some look like log records.
 pub fn step_of(rng: &mut Rng, serial: u32, csn: u32, lengths: &[usize]) -> Step {
     let mut step = Step::new();
     let mut offset = 0;
     for &len in lengths {
         let mut bytes: Vec<u8> = (0..len).map(|_| rng.draw() as u8).collect();
-        let mut at = rng.below(MEMORY_LEN - len + 1);
+        let anywhere = rng.below(MEMORY_LEN - len + 1);
+        let mut at = anywhere - (anywhere % PAGE_LEN + len).saturating_sub(PAGE_LEN);
         if step.is_empty() {
             at = 0;
             bytes[..4].copy_from_slice(&serial.to_be_bytes());

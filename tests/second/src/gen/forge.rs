@@ -2,7 +2,7 @@
 
 use super::live::{PLAIN, WILD};
 use super::{Generator, Scene};
-use crate::layout::{DISK_LEN, IMAGE_A, IMAGE_B, LOG, LOG_LEN, MEMORY_LEN, POINTER};
+use crate::layout::{DISK_LEN, IMAGE_A, IMAGE_B, LOG, LOG_LEN, MEMORY_LEN, PAGE_LEN, POINTER};
 use crate::log::{Csn, Group, Record, TxId, Write, ABORT_SIZE};
 use crate::restart::recover;
 use crate::trace::{Call, MAX_DATA};
@@ -11,7 +11,8 @@ use crate::trace::{Call, MAX_DATA};
 const HEADER_LEN: usize = 13;
 const TXS: usize = HEADER_LEN + MEMORY_LEN;
 
-/// Forged records lie below this address, so that they meet.
+/// Forged records lie below this address, or over the first page's end, so
+/// that they meet.
 const SPAN: usize = 24;
 
 /// An image field by field, rules or no rules.
@@ -80,7 +81,7 @@ impl Generator {
     /// Everything, in a fixed round; after the first part, each from an
     /// emptied log.
     pub fn mixed(&mut self) {
-        let parts: [(usize, Scene); 14] = [
+        let parts: [(usize, Scene); 15] = [
             (180, Generator::plain),
             (12, Generator::unrecovered),
             (80, Generator::broken_off),
@@ -90,6 +91,7 @@ impl Generator {
             (240, Generator::near_full),
             (200, Generator::limits),
             (120, Generator::readers),
+            (50, Generator::pages),
             (150, Generator::cuts),
             (120, Generator::forged),
             (200, Generator::aborts_near_full),
@@ -200,7 +202,7 @@ impl Generator {
         if self.rng.percent(15) {
             self.fit_to_log_end(&mut image, &log);
         }
-        if self.rng.percent(40) {
+        if self.rng.percent(60) {
             self.break_image(&mut image);
         }
         let slot = self.rng.pick(&[(IMAGE_A, 1), (IMAGE_B, 2)]);
@@ -284,12 +286,22 @@ impl Generator {
     }
 
     fn forged_undo(&mut self) -> RawUndo {
-        let length = self.rng.between(1, 3);
+        let (address, length) = self.forged_range();
         RawUndo {
-            address: self.rng.below(SPAN - 3) as u16,
+            address: address as u16,
             length: length as u8,
             bytes: self.rng.bytes(length),
         }
+    }
+
+    /// A range for a forged record; some lie in two pages, as older disks may
+    /// have them.
+    fn forged_range(&mut self) -> (usize, usize) {
+        if self.rng.percent(15) {
+            let length = self.rng.between(2, 6);
+            return (PAGE_LEN - self.rng.between(1, length - 1), length);
+        }
+        (self.rng.below(SPAN - 3), self.rng.between(1, 3))
     }
 
     /// Takes one field to its limit or over it, each field in turn.
@@ -387,12 +399,10 @@ impl Generator {
 
     fn forged_writes(&mut self) -> Vec<Write> {
         let count = self.rng.below(4);
-        let write = |_| Write {
-            address: self.rng.below(SPAN - 3),
-            bytes: {
-                let length = self.rng.between(1, 3);
-                self.rng.bytes(length)
-            },
+        let write = |_| {
+            let (address, length) = self.forged_range();
+            let bytes = self.rng.bytes(length);
+            Write { address, bytes }
         };
         (0..count).map(write).collect()
     }

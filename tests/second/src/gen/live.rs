@@ -133,8 +133,8 @@ pub const READERS: Habits = Habits {
 };
 
 /// Ranges at and over the limits, also such as would fit if a number of two,
-/// one or four bytes wrapped round.
-const RANGES: [(usize, usize); 22] = [
+/// one or four bytes wrapped round; and at and over the edges of pages.
+const RANGES: [(usize, usize); 30] = [
     (0, 1),
     (0, 32),
     (0, 0),
@@ -157,6 +157,14 @@ const RANGES: [(usize, usize); 22] = [
     (4_294_967_295, 32),
     (10, 258),
     (10, 4_294_967_287),
+    (255, 1),
+    (255, 2),
+    (224, 32),
+    (225, 32),
+    (240, 33),
+    (510, 4),
+    (768, 32),
+    (3_839, 2),
 ];
 
 impl Generator {

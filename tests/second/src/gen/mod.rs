@@ -4,8 +4,11 @@
 mod forge;
 mod live;
 mod look;
+mod pages;
 mod reads;
 mod scenes;
+
+use std::collections::BTreeMap;
 
 use crate::layout::LOG_LEN;
 use crate::needs::stores_needed;
@@ -90,7 +93,7 @@ pub fn stream(seed: u64, records: usize, kind: Kind) -> Vec<u8> {
         image_fault: 0,
         log_fault: 0,
         near_full_turn: 0,
-        cut_turn: 0,
+        cut_turns: BTreeMap::new(),
         readers_turn: 0,
     };
     generator.open();
@@ -126,7 +129,7 @@ struct Generator {
     image_fault: usize,
     log_fault: usize,
     near_full_turn: usize,
-    cut_turn: usize,
+    cut_turns: BTreeMap<u8, usize>,
     readers_turn: usize,
 }
 
@@ -234,13 +237,15 @@ impl Generator {
     }
 
     /// Stores allowed to a call that needs so many: with the given chance too
-    /// few, at and around the need.
-    fn allowance(&mut self, need: usize, cut: usize) -> usize {
+    /// few, at and around the need, for each call by turns.
+    fn allowance(&mut self, call: &Call, cut: usize) -> usize {
+        let need = self.need(call);
         if need > 0 && self.rng.percent(cut) {
             let somewhere = self.rng.below(need);
-            let few = [0, 1, need - 1, need.saturating_sub(2), somewhere];
-            self.cut_turn += self.rng.between(1, 2);
-            few[self.cut_turn % few.len()].min(need - 1)
+            let few = [0, need - 1, 1, somewhere, need.saturating_sub(2)];
+            let turn = self.cut_turns.entry(call.number()).or_default();
+            *turn += 1;
+            few[*turn % few.len()].min(need - 1)
         } else {
             let more = need + self.rng.below(1_000);
             self.rng
@@ -255,21 +260,18 @@ impl Generator {
     }
 
     fn flush(&mut self, groups: usize, cut: usize) -> Outcome {
-        let need = self.need(&Call::Flush { groups, allowed: 0 });
-        let allowed = self.allowance(need, cut);
+        let allowed = self.allowance(&Call::Flush { groups, allowed: 0 }, cut);
         self.emit(Call::Flush { groups, allowed })
     }
 
     fn checkpoint(&mut self, cut: usize) -> Outcome {
-        let need = self.need(&Call::Checkpoint { allowed: 0 });
-        let allowed = self.allowance(need, cut);
+        let allowed = self.allowance(&Call::Checkpoint { allowed: 0 }, cut);
         self.emit(Call::Checkpoint { allowed })
     }
 
     fn restart(&mut self, cut: usize) -> Outcome {
         self.maybe_look(25);
-        let need = self.need(&Call::Restart { allowed: 0 });
-        let allowed = self.allowance(need, cut);
+        let allowed = self.allowance(&Call::Restart { allowed: 0 }, cut);
         self.emit(Call::Restart { allowed })
     }
 

@@ -2,7 +2,7 @@
 
 use super::live::{CUTS, PLAIN, WILD};
 use super::Generator;
-use crate::layout::{LOG_LEN, MAX_TXS, MAX_UNDOS, MEMORY_LEN};
+use crate::layout::{LOG_LEN, MAX_TXS, MAX_UNDOS, MEMORY_LEN, PAGE_LEN};
 use crate::log::{Csn, Record, TxId, Write};
 use crate::trace::{Answer, Call};
 
@@ -73,6 +73,7 @@ impl Generator {
         };
         for &length in lengths {
             let address = self.rng.below(MEMORY_LEN - length + 1);
+            let address = in_one_page(address, length);
             let bytes = self.rng.bytes(length);
             self.write(id, address, bytes);
         }
@@ -169,6 +170,12 @@ impl Generator {
             self.rng.pick(&[1, 31, 32])
         };
         let address = self.rng.below(MEMORY_LEN - 40);
+        let crossing = self.rng.percent(8);
+        let address = if crossing {
+            address
+        } else {
+            in_one_page(address, length)
+        };
         let bytes = self.rng.bytes(length);
         self.write(id, address, bytes);
     }
@@ -320,6 +327,7 @@ impl Generator {
         self.try_holds();
         self.try_refused_ids();
         self.within(30, Generator::readers);
+        self.within(30, Generator::pages);
         self.within(60, |g| g.live_call(&WILD));
         match self.rng.below(4) {
             0 => {
@@ -346,6 +354,7 @@ impl Generator {
             let writes = if many { MAX_UNDOS + 1 } else { 2 };
             for turn in 0..writes {
                 let address = slot * 400 + self.rng.between(0, turn * 3);
+                let address = in_one_page(address, length);
                 let bytes = self.rng.bytes(length);
                 self.write(id, address, bytes);
             }
@@ -431,6 +440,11 @@ impl Generator {
         self.checkpoint(0);
         self.recover(0);
     }
+}
+
+/// The address, moved back so far that the range lies in one page.
+fn in_one_page(address: usize, length: usize) -> usize {
+    address - (address % PAGE_LEN + length).saturating_sub(PAGE_LEN)
 }
 
 /// The lengths of writes whose redo records take `size` bytes together; from

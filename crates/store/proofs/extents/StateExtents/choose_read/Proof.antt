@@ -40,7 +40,7 @@ found c = slotted _ _ _ _ _ (c .before .before .before .before .pre) refl (range
 held-requires : tie.Need-held-requires
 held-requires c κs =
     let a = c .before .before .before .before .args in
-    let g = chosen-range (bareState (a .self)) (a .id .0) (a .addr) (a .len) (found c .own) in
+    let g = chosen-range (bareState (a .self)) (a .id .0) (a .addr) (a .len) [] (found c .own) in
     (found c .rules, found c .states, omega (arith, g .within), g .short)
 
 refuse-requires : tie.Need-refuse-requires
