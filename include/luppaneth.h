@@ -41,6 +41,10 @@ extern "C" {
 #define LUPPANETH_IMAGE_B 8654
 #define LUPPANETH_LOG 17307
 
+/* The pattern's pages. */
+#define LUPPANETH_PAGE_LEN 256
+#define LUPPANETH_PAGES 16
+
 /* At most so many bytes in one write or read, writes in one transaction, ranges that one has read, transactions at a time. */
 #define LUPPANETH_MAX_WRITE 32
 #define LUPPANETH_MAX_WRITES 16
@@ -56,16 +60,16 @@ extern "C" {
 enum luppaneth_answer {
     LUPPANETH_ANSWER_DONE = 0,
     LUPPANETH_ANSWER_CUT = 1,    /* the stores allowed ran out: memory and tail are zero, the state is unrecovered; restart */
-    LUPPANETH_ANSWER_REFUSED = 2 /* by `number`; nothing was changed, but for memory and tail, which restart's 3 to 5 set to zero */
+    LUPPANETH_ANSWER_REFUSED = 2 /* by `number`; nothing was changed but what 3 to 5 set to zero: restart's memory and tail, first_groups' memory */
 };
 
-/* A reply's `number` where refused, in the order in which a call tests them; 16 comes after 8, 15 after 9. */
+/* A reply's `number` where refused, in the order in which a call tests them; 17 comes after 1, 16 after 8, 15 after 9. */
 enum luppaneth_number {
     LUPPANETH_WRONG_LENGTH = 1,           /* any call: a lent buffer hasn't its length */
-    LUPPANETH_UNFIT = 2,                  /* any call but restart: the state is unrecovered or broken, or the tail isn't its own */
-    LUPPANETH_BAD_POINTER = 3,            /* restart: the pointer byte is above 2 */
-    LUPPANETH_BAD_IMAGE = 4,              /* restart: the image that the pointer byte names breaks a rule */
-    LUPPANETH_NO_ROOM_TO_UNDO = 5,        /* restart: the log has no room for the abort records */
+    LUPPANETH_UNFIT = 2,                  /* any call handed a state: it is unrecovered or broken, or the tail isn't its own */
+    LUPPANETH_BAD_POINTER = 3,            /* restart, first_groups, read_page: the pointer byte is above 2 */
+    LUPPANETH_BAD_IMAGE = 4,              /* restart, first_groups, read_page: the image that the pointer byte names breaks a rule */
+    LUPPANETH_NO_ROOM_TO_UNDO = 5,        /* restart, read_page: the log has no room for the abort records */
     LUPPANETH_NOT_LISTED = 6,             /* write, read, precommit, abort, settle: no transaction has this id */
     LUPPANETH_COMMITTING = 7,             /* write, read, precommit, abort: it has precommitted */
     LUPPANETH_BAD_RANGE = 8,              /* write, read: length 0 or above 32, or the range leaves memory */
@@ -76,7 +80,8 @@ enum luppaneth_number {
     LUPPANETH_LOG_FULL = 13,              /* begin, write: the log has no room for it */
     LUPPANETH_NOT_DURABLE = 14,           /* settle: it is running, or its commit isn't on disk yet */
     LUPPANETH_TOO_MANY_READS = 15,        /* read_answer: it has 16 read ranges */
-    LUPPANETH_TWO_PAGES = 16              /* write: the range lies in two pages of 256 bytes; make two writes of it */
+    LUPPANETH_TWO_PAGES = 16,             /* write: the range lies in two pages of 256 bytes; make two writes of it */
+    LUPPANETH_BAD_PAGE = 17               /* read_page: a page above 15 */
 };
 
 /* A reply's `stop`: why the log ended where it did, as a restart that is done found it. */
@@ -167,6 +172,10 @@ struct luppaneth_reply luppaneth_restart(unsigned char *disk, size_t disk_len, u
 struct luppaneth_groups_reply luppaneth_first_groups(const unsigned char *disk, size_t disk_len, unsigned char *memory, size_t memory_len,
                                                      size_t groups);
 
+/* The buffer of 256 bytes becomes one of the pattern's sixteen pages, counted from 0, as a restart would leave it; nothing is stored on the disk.
+ * Returns 0, or the number that refuses: 1 or 17 (the buffer stays), 3, 4 or 5 as a restart would give (the buffer is zeroed). */
+uint8_t luppaneth_read_page(const unsigned char *disk, size_t disk_len, unsigned char *buffer, size_t buffer_len, size_t page);
+
 /* Whether a restart accepts both disks and leaves the same memory. Neither is changed. */
 bool luppaneth_equal(const unsigned char *a, size_t a_len, const unsigned char *b, size_t b_len);
 
@@ -182,7 +191,7 @@ size_t luppaneth_text_len(void);
 
 /* ---- The layer that holds state and buffers
  *
- * Each call returns 0 for done, a luppaneth_number (1 to 16) where refused, or LUP_CUT, which none gives with LUPPANETH_ALL stores allowed. What is
+ * Each call returns 0 for done, a luppaneth_number (1 to 17) where refused, or LUP_CUT, which none gives with LUPPANETH_ALL stores allowed. What is
  * handed out through a pointer is 0 (for read NULL) unless the call is done. A `struct luppaneth` has 63,672 bytes: keep it static or on the heap. */
 
 #define LUP_CUT (-1)
@@ -228,6 +237,12 @@ static inline int lup_first_groups(const struct luppaneth *l, size_t groups, uns
     *end = r.end;
     *csn = r.csn;
     return r.number;
+}
+
+/* One page of l->disk's pattern, as a restart would leave it. What is booked and not on disk yet is not in it. */
+static inline int lup_read_page(const struct luppaneth *l, size_t page, unsigned char buffer[LUPPANETH_PAGE_LEN])
+{
+    return luppaneth_read_page(l->disk, sizeof l->disk, buffer, LUPPANETH_PAGE_LEN, page);
 }
 
 static inline int lup_begin(struct luppaneth *l, uint16_t *id)
@@ -315,6 +330,7 @@ static inline const char *lup_text(int answer)
         "the booking isn't on disk yet",
         "the transaction has read 16 ranges",
         "the write lies in two pages of 256 bytes; make two of it",
+        "the page is above 15",
     };
     if (answer == LUP_CUT)
         return "cut short";

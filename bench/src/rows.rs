@@ -15,11 +15,13 @@ pub struct Row {
     pub tuned_goal: bool,
 }
 
-/// Every row: the calls in each case, the restarts, then the first groups.
+/// Every row: the calls in each case, the restarts, then the looks at a disk.
 pub fn all() -> Vec<Row> {
     let mut rows: Vec<Row> = CASES.iter().flat_map(Case::rows).collect();
-    rows.extend(restarts());
+    rows.extend(on_logs("restart", RESTART));
     rows.extend(first_groups());
+    rows.extend(on_logs(WITHOUT_CLEARING, UNCLEARED));
+    rows.extend(on_logs(PAGE, ONE_PAGE));
     rows
 }
 
@@ -67,6 +69,13 @@ const CHECKPOINT: Call = Call::Checkpoint {
 pub const RESTART: Call = Call::Restart {
     allowed: usize::MAX,
 };
+/// One page alone, and what it may take at most on the same disk (document 02,
+/// A.6): a restart cut before its first store, or done where nothing is left to
+/// clear.
+pub const PAGE: &str = "one page";
+pub const WITHOUT_CLEARING: &str = "restart without clearing";
+const UNCLEARED: Call = Call::Restart { allowed: 0 };
+const ONE_PAGE: Call = Call::OnePage { page: 7 };
 
 /// What stands beside the transaction that the call is about, which is the
 /// oldest one.
@@ -250,11 +259,12 @@ pub fn logged(image: bool, groups: usize, writes: usize) -> World {
 pub const FULL_GROUPS: usize = LOG_LEN / 632;
 pub const EMPTY_GROUPS: usize = 2_033;
 
-fn restarts() -> Vec<Row> {
+/// A call on disks with such logs, with and without an image.
+fn on_logs(name: &'static str, call: Call) -> Vec<Row> {
     let row = |image, case, groups, writes| Row {
-        name: "restart",
+        name,
         case,
-        call: RESTART,
+        call: call.clone(),
         world: logged(image, groups, writes),
         tuned_goal: true,
     };
@@ -263,6 +273,7 @@ fn restarts() -> Vec<Row> {
         row(false, "empty log", 0, 0),
         row(false, "log full of 632-byte groups", full, MAX_UNDOS),
         row(false, "log of 2,033 empty groups", empty, 0),
+        row(false, "2,048 empty groups, none to clear", 2_048, 0),
         row(true, "empty log, eight in the image", 0, 0),
         row(true, "632-byte groups, eight in the image", full, MAX_UNDOS),
         row(true, "2,033 empty groups, eight in the image", empty, 0),

@@ -2,7 +2,7 @@
 
 use crate::floor::FLOORS;
 use crate::measure::Times;
-use crate::rows::Row;
+use crate::rows::{Row, PAGE, WITHOUT_CLEARING};
 
 /// Why rows miss a goal: `name, case: reason` on a line each.
 const REASONS: &str = include_str!("../reasons.txt");
@@ -38,15 +38,23 @@ pub fn nanos(time: f64) -> String {
 /// The table of the calls, by the programs' times.
 pub fn calls(rows: &[Row], times: &Times) -> String {
     let mut table = format!("{CALLS_HEAD}\n");
-    for (row, times) in rows.iter().zip(times) {
-        table += &call_line(row, times);
+    for (row, own) in rows.iter().zip(times) {
+        table += &call_line(row, own, uncleared(row, rows, times));
         table.push('\n');
     }
     table
 }
 
+/// Of one page our restart without clearing on the same disk: the most that
+/// it may take.
+fn uncleared(row: &Row, rows: &[Row], times: &Times) -> Option<f64> {
+    let beside = |other: &Row| other.name == WITHOUT_CLEARING && other.case == row.case;
+    let at = rows.iter().position(beside).filter(|_| row.name == PAGE)?;
+    times[at].first().copied()
+}
+
 /// Ours is the first time; without the proved library its columns stay empty.
-fn call_line(row: &Row, times: &[f64]) -> String {
+fn call_line(row: &Row, times: &[f64], most: Option<f64>) -> String {
     let (name, case) = (row.name, row.case);
     let &[ours, second, tuned] = times else {
         let rest: Vec<String> = times.iter().map(|time| nanos(*time)).collect();
@@ -58,6 +66,9 @@ fn call_line(row: &Row, times: &[f64]) -> String {
     }
     if row.tuned_goal && ours > tuned * OF_TUNED {
         missed.push("tuned");
+    }
+    if most.is_some_and(|most| ours > most) {
+        missed.push(WITHOUT_CLEARING);
     }
     format!(
         "| {name} | {case} | {} | {} | {} | {:.2} | {:.2} | {} |",
@@ -116,4 +127,30 @@ fn why(missed: &[&str], row: &str) -> String {
         .find_map(|line| line.strip_prefix(row)?.strip_prefix(": "));
     let reason = reason.unwrap_or("no reason is written");
     format!("{}: {reason}", missed.join(" and "))
+}
+
+#[cfg(test)]
+mod tests {
+    use super::*;
+    use crate::rows::all;
+
+    /// Every row takes 2 here but one restart without clearing, which takes
+    /// less: the page of the same disk misses it, and no other row.
+    #[test]
+    fn a_page_is_held_against_a_restart_without_clearing() {
+        let rows = all();
+        let mut pages = 0;
+        for page in rows.iter().filter(|row| row.name == PAGE) {
+            let time = |row: &Row| match (row.name, row.case) {
+                (WITHOUT_CLEARING, case) if case == page.case => vec![1.9, 9.0, 9.0],
+                _ => vec![2.0, 9.0, 9.0],
+            };
+            let table = calls(&rows, &rows.iter().map(time).collect());
+            let missed = |line: &&str| line.contains("| restart without clearing: ");
+            let lines: Vec<&str> = table.lines().filter(missed).collect();
+            assert!(lines.len() == 1 && lines[0].contains(&format!("| {PAGE} | {} |", page.case)));
+            pages += 1;
+        }
+        assert!(pages > 0);
+    }
 }

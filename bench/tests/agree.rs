@@ -20,14 +20,19 @@ fn told(outcome: Outcome) -> Outcome {
     }
 }
 
-/// What the program tells; of a look at the disk also what it leaves in the
-/// memory lent to it, which is junk before.
+/// What the program tells; of a look at the disk also what it leaves in what
+/// is lent to it, which is junk before.
 fn told_by(program: &mut dyn Program, call: &Call) -> Outcome {
     program.buffers().seen.fill(165);
+    program.buffers().page.fill(165);
     let outcome = program.run(call);
-    let looks = matches!(call, Call::FirstGroups { .. });
+    let lent = match call {
+        Call::FirstGroups { .. } => Some(&program.buffers().seen),
+        Call::OnePage { .. } => Some(&program.buffers().page),
+        _ => None,
+    };
     Outcome {
-        lent: looks.then(|| adler32(&program.buffers().seen)),
+        lent: lent.map(|bytes| adler32(bytes)),
         ..outcome
     }
 }
@@ -54,6 +59,9 @@ fn compare(program: &mut dyn Program, world: &mut World, call: &Call) {
 #[test]
 fn on_every_row() {
     for row in rows::all() {
+        let answer = row.world.clone().run(&row.call).answer;
+        let refused = matches!(answer, Answer::Refused(_));
+        assert!(!refused, "{}, {}: {answer:?}", row.name, row.case);
         for mut program in all() {
             program.keep();
             program.load(&row.world, true);

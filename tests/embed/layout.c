@@ -264,7 +264,7 @@ static void test_first_groups(struct luppaneth *l)
 }
 
 /* Document 02, A.5: a write lies in one page, a read may lie in two. */
-static void test_pages(struct luppaneth *l)
+static void test_page_of_a_write(struct luppaneth *l)
 {
     const unsigned char *part;
     uint16_t id = 0;
@@ -274,6 +274,23 @@ static void test_pages(struct luppaneth *l)
     expect(lup_abort(l, id) == 0, "the abort of it");
 }
 
+/* The same disk: what it booked is in page 0, a running transaction's write of test_disks is undone. */
+static void test_read_page(struct luppaneth *l)
+{
+    unsigned char page[LUPPANETH_PAGE_LEN];
+    unsigned char memory[LUPPANETH_MEMORY_LEN];
+    size_t i;
+    uint32_t undone;
+    for (i = 0; i < LUPPANETH_PAGES; i++)
+        expect(lup_read_page(l, i, memory + i * LUPPANETH_PAGE_LEN) == 0, "a page");
+    expect(lup_restart(l, LUPPANETH_ALL, &undone) == 0 && memcmp(memory, l->memory, sizeof memory) == 0, "sixteen pages are not the memory");
+    memset(page, 7, sizeof page);
+    expect(lup_read_page(l, LUPPANETH_PAGES, page) == LUPPANETH_BAD_PAGE && page[0] == 7, "a page above 15");
+    expect(luppaneth_read_page(l->disk, sizeof l->disk, page, sizeof page - 1, LUPPANETH_PAGES) == LUPPANETH_WRONG_LENGTH, "1 before 17");
+    l->disk[0] = 3;
+    expect(lup_read_page(l, 0, page) == LUPPANETH_BAD_POINTER && zeros(page, sizeof page), "a page of a disk that is refused");
+}
+
 static void test_layer(struct luppaneth *l)
 {
     const unsigned char *part;
@@ -281,8 +298,8 @@ static void test_layer(struct luppaneth *l)
     int i;
     lup_init(l);
     expect(lup_begin(l, &id) == LUPPANETH_UNFIT && id == 0, "begin before a restart");
-    for (i = LUP_CUT - 1; i <= LUPPANETH_TWO_PAGES + 1; i++) {
-        int known = i != LUP_CUT - 1 && i != LUPPANETH_TWO_PAGES + 1;
+    for (i = LUP_CUT - 1; i <= LUPPANETH_BAD_PAGE + 1; i++) {
+        int known = i != LUP_CUT - 1 && i != LUPPANETH_BAD_PAGE + 1;
         expect((strcmp(lup_text(i), "no answer of this store") != 0) == known, "a text for each answer, and for no other number");
     }
     expect(lup_read(l, 1, 0, 1, &part) == LUPPANETH_UNFIT && part == NULL, "read before a restart");
@@ -302,7 +319,8 @@ int main(void)
     test_disks(&l);
     test_holds(&l);
     test_first_groups(&l);
-    test_pages(&l);
+    test_page_of_a_write(&l);
+    test_read_page(&l);
     test_layer(&l);
     if (!failed)
         printf("layout: the header agrees with the library\n");

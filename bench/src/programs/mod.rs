@@ -7,6 +7,7 @@ mod proved;
 mod second;
 mod tuned;
 
+use ::second::layout::PAGE_LEN;
 use ::second::state::State;
 use ::second::trace::{Call, Outcome, World};
 
@@ -43,13 +44,15 @@ pub trait Program {
 }
 
 /// What is lent to the calls, the copy of a disk for "equal in meaning", and
-/// the memory lent to a look at the disk: what it leaves is told by no outcome.
+/// the memory and the page lent to looks at the disk: what these leave is told
+/// by no outcome.
 pub struct Buffers {
     pub disk: Vec<u8>,
     pub kept: Vec<u8>,
     pub memory: Vec<u8>,
     pub tail: Vec<u8>,
     pub seen: Vec<u8>,
+    pub page: Vec<u8>,
 }
 
 impl Buffers {
@@ -60,6 +63,7 @@ impl Buffers {
             memory: world.memory.clone(),
             tail: world.tail.clone(),
             seen: world.memory.clone(),
+            page: vec![0; PAGE_LEN],
         }
     }
 

@@ -2,7 +2,7 @@
 //! comes back in the reply.
 
 use super::flat::{flat, unflat};
-use super::outcome::{part, stored, yes_or_no};
+use super::outcome::{part, stored, told, yes_or_no};
 use super::{Buffers, Program, StepWrite};
 use crate::tuned::state::State;
 use second::log::Stop;
@@ -135,6 +135,13 @@ mod c {
             memory_len: usize,
             groups: usize,
         ) -> GroupsReply;
+        pub fn luppaneth_read_page(
+            disk: *const u8,
+            disk_len: usize,
+            buffer: *mut u8,
+            buffer_len: usize,
+            page: usize,
+        ) -> u8;
         pub fn luppaneth_equal(a: *const u8, a_len: usize, b: *const u8, b_len: usize) -> bool;
     }
 }
@@ -250,6 +257,15 @@ impl Proved {
             ..Outcome::told(answered(answer, number), end as u32)
         }
     }
+
+    #[inline(never)]
+    fn one_page(&mut self, page: usize) -> Outcome {
+        let number = call!(luppaneth_read_page,; self.lent; shared disk, lent page; page);
+        told(match black_box(number) {
+            0 => Ok(0),
+            number => Err(number),
+        })
+    }
 }
 
 fn answered(answer: u8, number: u8) -> Answer {
@@ -313,6 +329,7 @@ impl Program for Proved {
             Call::Restart { allowed } => self.restart(*allowed),
             Call::Equal => yes_or_no(call!(luppaneth_equal,; self.lent; shared disk, shared kept;)),
             Call::FirstGroups { groups } => self.first_groups(*groups),
+            Call::OnePage { page } => self.one_page(*page),
             _ => stored(Ok((false, 0, 0))),
         }
     }

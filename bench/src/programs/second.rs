@@ -2,7 +2,7 @@
 
 use super::outcome::{part, reached, restarted, stored, told, yes_or_no};
 use super::{Buffers, Program, StepWrite};
-use second::inspect::first_groups;
+use second::inspect::{first_groups, one_page};
 use second::layout::{MAX_TXS, MAX_UNDOS};
 use second::log::Write;
 use second::restart::{equal_in_meaning, restart};
@@ -67,6 +67,7 @@ impl Program for Second {
             memory,
             tail,
             seen,
+            page: buffer,
         } = &mut self.lent;
         let state = &mut self.state;
         match call {
@@ -111,6 +112,7 @@ impl Program for Second {
             Call::FirstGroups { groups } => {
                 reached(first_groups(disk, seen, *groups).map(|r| (r.log_end, r.csn.0)))
             }
+            Call::OnePage { page } => told(one_page(disk, buffer, *page).map(|()| 0)),
             _ => told(Ok(0)),
         }
     }

@@ -3,7 +3,7 @@
 use super::flat::{flat, unflat};
 use super::outcome::{part, reached, restarted, stored, told, yes_or_no};
 use super::{Buffers, Program, StepWrite};
-use crate::tuned::restart::{equal_in_meaning, first_groups, restart};
+use crate::tuned::restart::{equal_in_meaning, first_groups, one_page, restart};
 use crate::tuned::state::State;
 use crate::tuned::{Refusal, Stored};
 use second::trace::{Call, Outcome, World};
@@ -53,6 +53,7 @@ impl Program for Tuned {
             memory,
             tail,
             seen,
+            page: buffer,
         } = &mut self.lent;
         let state = &mut self.state;
         let counts = |s: Stored| (s.cut, s.stores, 0);
@@ -91,6 +92,7 @@ impl Program for Tuned {
             }
             Call::Equal => yes_or_no(equal_in_meaning(disk, kept)),
             Call::FirstGroups { groups } => reached(first_groups(disk, seen, *groups)),
+            Call::OnePage { page } => told(one_page(disk, buffer, *page).map(|()| 0)),
             _ => told(Ok(0)),
         }
     }

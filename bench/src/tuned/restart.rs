@@ -1,11 +1,12 @@
-//! Restart, the first groups of the log, and "equal in meaning".
+//! Restart, the first groups of the log, one page, and "equal in meaning".
 
 use super::image::{decode, Image};
 use super::log::{group, put_abort, redo};
 use super::state::State;
 use super::{Refusal, Stored};
 use second::layout::{
-    DISK_LEN, IMAGE_A, IMAGE_B, IMAGE_LEN, LOG, LOG_LEN, MAX_TXS, MEMORY_LEN, POINTER, TAIL_LEN,
+    DISK_LEN, IMAGE_A, IMAGE_B, IMAGE_LEN, LOG, LOG_LEN, MAX_TXS, MEMORY_LEN, PAGES, PAGE_LEN,
+    POINTER, TAIL_LEN,
 };
 use second::log::Stop;
 
@@ -189,6 +190,22 @@ pub fn first_groups(
     open(disk, memory, &mut image).inspect_err(|_| memory.fill(0))?;
     let found = forward::<true>(&disk[LOG..], &mut image, memory, groups);
     Ok((found.end, found.last))
+}
+
+/// One page of the memory that restart, given stores enough, would leave
+/// (document 02, A.6); where restart would refuse the disk, zeros.
+pub fn one_page(disk: &[u8], buffer: &mut [u8], page: usize) -> Result<(), Refusal> {
+    if disk.len() != DISK_LEN || buffer.len() != PAGE_LEN {
+        return Err(1);
+    }
+    if page >= PAGES {
+        return Err(17);
+    }
+    buffer.fill(0);
+    let mut memory = [0; MEMORY_LEN];
+    recover_into(disk, &mut memory)?;
+    buffer.copy_from_slice(&memory[page * PAGE_LEN..][..PAGE_LEN]);
+    Ok(())
 }
 
 /// The memory that restart leaves; none if it refuses the disk.

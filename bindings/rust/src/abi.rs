@@ -173,6 +173,13 @@ extern "C" {
         memory_len: usize,
         groups: usize,
     ) -> GroupsReply;
+    pub fn luppaneth_read_page(
+        disk: *const u8,
+        disk_len: usize,
+        buffer: *mut u8,
+        buffer_len: usize,
+        page: usize,
+    ) -> u8;
     pub fn luppaneth_equal(a: *const u8, a_len: usize, b: *const u8, b_len: usize) -> bool;
     pub fn luppaneth_list(disk: *mut u8, disk_len: usize, text: *mut u8) -> usize;
 }

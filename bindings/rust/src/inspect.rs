@@ -4,6 +4,14 @@ use crate::abi;
 use crate::calls::{Csn, Disk, Memory, DISK_LEN, MEMORY_LEN};
 use crate::refusal::Refusal;
 
+/// Bytes of a page.
+pub const PAGE_LEN: usize = 256;
+/// How many pages make the pattern.
+pub const PAGES: usize = 16;
+
+/// A page of the pattern.
+pub type Page = [u8; PAGE_LEN];
+
 /// How far into the log the first groups reach.
 #[derive(Clone, Copy, Debug, PartialEq, Eq)]
 pub struct FirstGroups {
@@ -53,4 +61,26 @@ pub fn first_groups(
         end: reply.end,
         csn: Csn(reply.csn),
     })
+}
+
+/// One of the pattern's sixteen pages, counted from 0, as a restart would leave it. Refused by 17 where there is no such page, else as a restart
+/// is.
+///
+/// ```
+/// use luppaneth::calls::DISK_LEN;
+/// use luppaneth::inspect::{read_page, PAGE_LEN};
+/// use luppaneth::Refusal;
+///
+/// let fresh = [0; DISK_LEN];
+/// assert_eq!(read_page(&fresh, 15), Ok([0; PAGE_LEN]));
+/// assert_eq!(read_page(&fresh, 16), Err(Refusal::BadPage));
+/// ```
+pub fn read_page(disk: &Disk, page: usize) -> Result<Page, Refusal> {
+    let mut buffer = [0; PAGE_LEN];
+    // SAFETY: as of `first_groups`.
+    let number = unsafe {
+        abi::luppaneth_read_page(disk.as_ptr(), DISK_LEN, buffer.as_mut_ptr(), PAGE_LEN, page)
+    };
+    answer(number)?;
+    Ok(buffer)
 }

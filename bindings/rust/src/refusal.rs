@@ -2,20 +2,21 @@
 
 use std::fmt;
 
-/// Why a call was refused. Refused, a call has changed nothing; restart alone zeroes memory and tail where it refuses a disk.
+/// Why a call was refused. Refused, a call has changed nothing; restart zeroes memory and tail, and `inspect::first_groups` memory, where they refuse a
+/// disk.
 ///
-/// The variants stand in the order of their numbers. A call tests them in that order, but for 16, which comes after 8, and 15, after 9.
+/// The variants stand in the order of their numbers. A call tests them in that order, but for 17, which comes after 1, 16, after 8, and 15, after 9.
 #[derive(Clone, Copy, Debug, PartialEq, Eq, Hash)]
 pub enum Refusal {
     /// 1: a lent buffer hasn't its length. The types of this crate keep it away.
     WrongLength = 1,
     /// 2: the state is unrecovered or broken, or the lent tail isn't its own.
     Unfit = 2,
-    /// 3, restart: the pointer byte is above 2.
+    /// 3, restart and `inspect`: the pointer byte is above 2.
     BadPointer = 3,
-    /// 4, restart: the image that the pointer byte names breaks a rule.
+    /// 4, restart and `inspect`: the image that the pointer byte names breaks a rule.
     BadImage = 4,
-    /// 5, restart: the log has no room for the abort records.
+    /// 5, restart and `inspect::read_page`: the log has no room for the abort records.
     NoRoomToUndo = 5,
     /// 6: no transaction has this id.
     NotListed = 6,
@@ -39,11 +40,13 @@ pub enum Refusal {
     TooManyReads = 15,
     /// 16, write: the range lies in two pages of 256 bytes.
     TwoPages = 16,
+    /// 17, `inspect::read_page`: the page's number is above 15.
+    BadPage = 17,
 }
 
 impl Refusal {
     /// All of them, by number.
-    pub const ALL: [Refusal; 16] = [
+    pub const ALL: [Refusal; 17] = [
         Refusal::WrongLength,
         Refusal::Unfit,
         Refusal::BadPointer,
@@ -60,9 +63,10 @@ impl Refusal {
         Refusal::NotDurable,
         Refusal::TooManyReads,
         Refusal::TwoPages,
+        Refusal::BadPage,
     ];
 
-    /// The documents' number, 1 to 16.
+    /// The documents' number, 1 to 17.
     pub fn number(self) -> u8 {
         self as u8
     }
@@ -91,6 +95,7 @@ impl Refusal {
             Refusal::NotDurable => "the transaction is running, or its commit isn't on disk yet",
             Refusal::TooManyReads => "the transaction has read 16 ranges already",
             Refusal::TwoPages => "the write lies in two pages of 256 bytes",
+            Refusal::BadPage => "the page's number is above 15",
         }
     }
 
@@ -116,6 +121,7 @@ impl Refusal {
             Refusal::TwoPages => {
                 "make two writes of it in one step: up to the first page's last byte, and from the next page's first on"
             }
+            Refusal::BadPage => "the pattern has sixteen pages of 256 bytes, counted from 0",
         }
     }
 }

@@ -368,7 +368,7 @@ fn refusals_by_name_and_number() {
         );
     }
     assert_eq!(
-        (Refusal::from_number(0), Refusal::from_number(17)),
+        (Refusal::from_number(0), Refusal::from_number(18)),
         (None, None)
     );
 }

@@ -1,7 +1,7 @@
 //! Looking at a disk without a state, over the proved library.
 
 use luppaneth::calls::*;
-use luppaneth::inspect::{first_groups, FirstGroups};
+use luppaneth::inspect::{first_groups, read_page, FirstGroups, PAGES};
 use luppaneth::Refusal;
 
 const ALL: usize = usize::MAX;
@@ -147,4 +147,83 @@ fn refused_as_a_restart_is() {
     let refused = first_groups(&disk, &mut memory, 1);
     assert_eq!(refused, Err(Refusal::BadImage));
     assert_eq!(memory, [0; MEMORY_LEN]);
+}
+
+/// The sixteen pages of a disk are the memory that a restart of it leaves.
+fn pages(disk: &Disk) -> Result<Vec<u8>, Refusal> {
+    let mut memory = Vec::new();
+    for page in 0..PAGES {
+        memory.extend(read_page(disk, page)?);
+    }
+    Ok(memory)
+}
+
+#[test]
+fn sixteen_pages_are_the_memory_of_a_restart() {
+    let mut b = Buffers::fresh();
+    b.writing(504, &[8; 8]);
+    b.checkpoint();
+    let last = b.writing(4_064, &[9; 32]);
+    b.precommit(last);
+    b.flush();
+    let disk = b.disk;
+    let found = pages(&disk).unwrap();
+    assert_eq!(found[504..512], [0; 8]);
+    assert_eq!(found[4_064..], [9; 32]);
+    assert_eq!(b.disk, disk);
+    b.restart();
+    assert_eq!(found, b.memory);
+}
+
+/// A record over two pages, which older disks may have in their log and image, falls into both. Made of one that ends with its page.
+#[test]
+fn a_record_over_two_pages_falls_into_both() {
+    let mut b = Buffers::fresh();
+    b.writing(504, &[8; 8]);
+    b.checkpoint();
+    // the undo record in the image: the memory's bytes and 21 others stand before its address
+    let undo = IMAGE_A + MEMORY_LEN + 21;
+    assert_eq!(b.disk[undo..undo + 3], [1, 248, 8]);
+    b.disk[undo + 1] = 252;
+    b.disk[undo + 3..undo + 11].copy_from_slice(&[6; 8]);
+    let booked = b.writing(244, &[7; 12]);
+    b.precommit(booked);
+    b.flush();
+    assert_eq!(b.disk[LOG_START..LOG_START + 6], [1, 0, 2, 0, 244, 12]);
+    b.disk[LOG_START + 4] = 250;
+    let found = pages(&b.disk).unwrap();
+    assert_eq!(found[250..262], [7; 12]);
+    assert_eq!(found[504..516], [8, 8, 8, 8, 6, 6, 6, 6, 6, 6, 6, 6]);
+    b.restart();
+    assert_eq!(found, b.memory);
+}
+
+#[test]
+fn pages_are_refused_as_a_restart_is() {
+    let mut disk = [0; DISK_LEN];
+    assert_eq!(read_page(&disk, PAGES), Err(Refusal::BadPage));
+    assert_eq!(read_page(&disk, usize::MAX), Err(Refusal::BadPage));
+    disk[0] = 3;
+    assert_eq!(pages(&disk), Err(Refusal::BadPointer));
+    // 17 comes before 3
+    assert_eq!(read_page(&disk, PAGES), Err(Refusal::BadPage));
+    disk[0] = 1;
+    disk[IMAGE_A] = 255;
+    assert_eq!(pages(&disk), Err(Refusal::BadImage));
+}
+
+/// A log that is full behind an image with a running transaction has no room for its abort record.
+#[test]
+fn a_page_is_refused_by_5_too() {
+    let mut b = Buffers::fresh();
+    b.writing(10, &[5]);
+    b.checkpoint();
+    let mut disk = b.disk;
+    for place in (LOG_START..DISK_LEN).step_by(4) {
+        disk[place..place + 4].copy_from_slice(&[3, 0, 9, 3]);
+    }
+    assert_eq!(read_page(&disk, 0), Err(Refusal::NoRoomToUndo));
+    let mut memory = [0; MEMORY_LEN];
+    let all = first_groups(&disk, &mut memory, ALL).unwrap();
+    assert_eq!((all, memory[10]), (reached(LOG_LEN, 0), 5));
 }

@@ -18,7 +18,7 @@ ghost use Rattle.disk.specs.Heads.{JudgedAs};
 
 // The number that refuses, 0 for none. If none: the log's end counted from its first byte, the last commit number and the last id, how many
 // transactions step 4 undid, and what was found of each of the image's.
-pub(crate) struct Examined {
+pub struct Examined {
     pub number: u8,
     pub end: usize,
     pub csn: Csn,
@@ -28,7 +28,7 @@ pub(crate) struct Examined {
 }
 
 // With the ids of those that step 4 undid, in order: their abort records make the tail.
-pub(crate) struct Judged {
+pub struct Judged {
     pub found: Examined,
     pub ids: [TxId; MAX_TXS],
 }
@@ -52,7 +52,7 @@ fn refuse(number: u8) -> Judged
 }
 
 // All but the tail. What memory held doesn't matter.
-pub(crate) fn judge(disk: &[u8], memory: &mut [u8]) -> Judged
+pub fn judge(disk: &[u8], memory: &mut [u8]) -> Judged
     requires { ⌜ (length (now disk) ≡ diskLen) × (length (now memory) ≡ memoryLen) ⌝ }
     ensures { λ r. ⌜ JudgedAs r (examineOf (now (disk .entry))) ⌝ }
     ensures { λ _. ⌜ now (memory .exit) ≡ examineOf (now (disk .entry)) .memory ⌝ }

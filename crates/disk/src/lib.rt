@@ -1,5 +1,5 @@
 // The disk: restart, what a disk means, and whether two mean the same.
 pub mod call;
 pub mod equal;
-mod examine;
+pub mod examine;
 pub mod open;

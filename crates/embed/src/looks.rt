@@ -1,8 +1,11 @@
 // Calls that look at a disk without a state. They store nothing on it.
 use crate::numbers;
 use inspect::groups::first_groups;
+use inspect::page::read_page;
 ghost use mathlib.Core.Path.{_≡_};
 ghost use Rattle.inspect.specs.Groups.{firstGroupsOf};
+ghost use Rattle.inspect.specs.Page.{pageOf};
+ghost use Rattle.embed.specs.Reply.{numberOf};
 ghost use Rattle.embed.specs.Looks.{groupsReply};
 
 // answer and number as in `Reply`. csn and end: the last commit number and the log's end reached; 0 where refused.
@@ -32,4 +35,15 @@ pub extern "C" fn luppaneth_first_groups(
         csn: r.csn.0,
         end: r.end,
     }
+}
+
+// The number that refuses, 0 where it is done.
+#[no_mangle]
+pub extern "C" fn luppaneth_read_page(disk: &[u8], buffer: &mut [u8], page: usize) -> u8
+    ensures { λ r. ⌜ r ≡ numberOf (pageOf (now (disk .entry)) (now (buffer .entry)) page .says) ⌝ }
+    ensures { λ _. ⌜ now (buffer .exit) ≡ pageOf (now (disk .entry)) (now (buffer .entry)) page .buffer ⌝ }
+{
+    let answer = read_page(disk, buffer, page);
+    let n = numbers(answer);
+    n.1
 }

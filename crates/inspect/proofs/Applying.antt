@@ -18,7 +18,7 @@ use Rattle.inspect.specs.Groups.{GroupsTold, refusedGroups, GroupsLeft, 
 pub as-left : {x y : GroupsLeft} {r : GroupsTold} {m : List ℕ} → x ≡ y → r ≡ y .result → m ≡ y .memory → (r ≡ x .result) × (m ≡ x .memory)
 as-left e p q = (p ∙ sym (ap (λ (z : GroupsLeft). z .result) e), q ∙ sym (ap (λ (z : GroupsLeft). z .memory) e))
 
-and-no : (a : Bool) → a && false ≡ false
+pub and-no : (a : Bool) → a && false ≡ false
 and-no true = refl
 and-no false = refl
 

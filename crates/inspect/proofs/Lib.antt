@@ -1,4 +1,5 @@
--- Laws of what is looked up on a disk: the first groups of its log, by cases (Applying), and up to restart (Advancing).
+-- Laws of what is looked up on a disk: the first groups of its log, by cases (Applying), and up to restart (Advancing); one page of its pattern, and sixteen (Paging).
 pub mod Applying
 pub mod Advancing
 pub mod Cases
+pub mod Paging

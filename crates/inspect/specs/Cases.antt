@@ -1,10 +1,12 @@
--- Document 01's disks M1, M3 and M4 after so many of their groups, as the definition tells it.
+-- Document 01's disks M1, M3 and M4 after so many of their groups, and pages of these and of disks with records over two pages, as the definitions tell
+-- it.
 use Prim.Native.Nat.{ℕ}
 use mathlib.Core.List.{List, [], _∷_, _++_, map}
 use mathlib.Core.Path.{_≡_}
-use lib.ListN.{getD, replicate}
-use Rattle.layout.specs.{memoryLen}
+use lib.ListN.{getD, take, drop, replicate}
+use Rattle.layout.specs.{memoryLen, pageLen}
 use Rattle.inspect.specs.Groups.{GroupsTold, GroupsLeft, firstGroupsOf}
+use Rattle.inspect.specs.Page.{PageLeft, pageOf}
 use Rattle.store.specs.Answer.{Word, done, refused}
 
 -- a pointer byte, image A, and the log; B is zeros
@@ -68,3 +70,68 @@ shownOf r = shownBy (firstGroupsOf (r .disk) (replicate memoryLen 165) (r .group
 
 abbrev pub Worked : Type 0
 Worked = map shownOf rows ≡ map (λ r. r .shown) rows
+
+-- ---- pages
+
+-- older disks may have records over two pages: a commit group of an id that writes 1, 2, 3 from 255 on
+abbrev crossingGroup : ℕ → List ℕ
+crossingGroup id = 0x01 ∷ 0 ∷ id ∷ 0x00 ∷ 0xFF ∷ 0x03 ∷ 1 ∷ 2 ∷ 3 ∷ 0x01 ∷ 0x02 ∷ 0 ∷ id ∷ 0 ∷ 0 ∷ 0 ∷ 1 ∷ 0x02 ∷ []
+
+-- an image with id 1 running, whose old bytes 5, 6, 7 go from 254 on; memory is zeros
+abbrev crossingImage : List ℕ
+crossingImage =
+    (replicate 11 0 ++ (1 ∷ 1 ∷ []))
+    ++ (replicate 4096 0 ++ ((0 ∷ 1 ∷ 1 ∷ 0 ∷ 0 ∷ 0 ∷ 0 ∷ 1 ∷ 0x00 ∷ 0xFE ∷ 0x03 ∷ 5 ∷ 6 ∷ 7 ∷ []) ++ replicate 4530 0))
+
+-- such a redo record in the log; such an undo record, undone by step 4; the same undone by an abort in the log, then the redo record of another
+abbrev crossingRedo : List ℕ
+crossingRedo = diskOf 0 (replicate 8653 0) (crossingGroup 1 ++ replicate 16366 0)
+
+abbrev crossingUndo : List ℕ
+crossingUndo = diskOf 1 crossingImage (replicate 16384 0)
+
+abbrev crossingBoth : List ℕ
+crossingBoth = diskOf 1 crossingImage ((3 ∷ 0 ∷ 1 ∷ 3 ∷ crossingGroup 2) ++ replicate 16362 0)
+
+-- the word, and three bytes of the page from a place on
+pub record PageShown : Type 0 where
+  pub says : Word
+  pub bytes : List ℕ
+
+pub record PageRow : Type 0 where
+  pub disk : List ℕ
+  pub page : ℕ
+  pub place : ℕ
+  pub shown : PageShown
+
+abbrev pageRow : List ℕ → ℕ → ℕ → Word → ℕ → ℕ → ℕ → PageRow
+pageRow disk page place says x y z =
+    record { disk = disk; page = page; place = place; shown = record { says = says; bytes = x ∷ y ∷ z ∷ [] } }
+
+abbrev pub pageRows : List PageRow
+pageRows =
+    pageRow (diskM1 0 2) 0 10 done 0x41 0x42 0
+    ∷ pageRow (diskM1 0 2) 15 253 done 0 0 0
+    -- 17 leaves the buffer, and comes before 3, which zeroes it
+    ∷ pageRow (diskM1 3 2) 16 0 (refused 17) 165 165 165
+    ∷ pageRow (diskM1 3 2) 15 0 (refused 3) 0 0 0
+    -- after step 4, where the first groups leave 5
+    ∷ pageRow diskM4 0 10 done 0 0 0
+    -- such a record falls into both its pages
+    ∷ pageRow crossingRedo 0 253 done 0 0 1
+    ∷ pageRow crossingRedo 1 0 done 2 3 0
+    ∷ pageRow crossingUndo 0 253 done 0 5 6
+    ∷ pageRow crossingUndo 1 0 done 7 0 0
+    ∷ pageRow crossingBoth 0 253 done 0 5 1
+    ∷ pageRow crossingBoth 1 0 done 2 3 0
+    ∷ []
+
+abbrev pageShownBy : ℕ → PageLeft → PageShown
+pageShownBy place x = record { says = x .says; bytes = take 3 (drop place (x .buffer)) }
+
+-- in a buffer that holds something else before
+abbrev pub pageShownOf : PageRow → PageShown
+pageShownOf r = pageShownBy (r .place) (pageOf (r .disk) (replicate pageLen 165) (r .page))
+
+abbrev pub PagesWorked : Type 0
+PagesWorked = map pageShownOf pageRows ≡ map (λ r. r .shown) pageRows

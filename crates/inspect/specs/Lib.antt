@@ -1,3 +1,4 @@
 -- What is looked up on a disk without a state.
 pub mod Groups
+pub mod Page
 pub mod Cases

@@ -12,9 +12,12 @@ tailLen = 16384
 abbrev pub diskLen : ℕ
 diskLen = 33691
 
--- a page of memory: "16 drawers of 256 bytes" (document 02, A.5)
+-- the pages of memory: "16 drawers of 256 bytes" (document 02, A.5)
 abbrev pub pageLen : ℕ
 pageLen = 256
+
+abbrev pub pages : ℕ
+pages = 16
 
 -- "A is at 1 to 8,653, B at 8,654 to 17,306, the log at 17,307 to 33,690"
 abbrev pub imageA : ℕ

@@ -7,8 +7,10 @@ pub const TAIL_LEN: usize = 16384;
 
 pub const DISK_LEN: usize = 33691;
 
-// A page of memory (document 02, A.5: drawer).
+// The pages of memory (document 02, A.5: drawers).
 pub const PAGE_LEN: usize = 256;
+
+pub const PAGES: usize = 16;
 
 // The parts of a disk: the pointer byte at offset 0, images A and B, the log. A pointer byte of 0 names no image.
 pub const IMAGE_A: usize = 1;

@@ -11,8 +11,10 @@ use crate::record::read_record;
 use disk::call::restart;
 use disk::equal::equal;
 use inspect::groups::first_groups;
+use inspect::page::read_page;
 use layout::DISK_LEN;
 use layout::MEMORY_LEN;
+use layout::PAGE_LEN;
 use layout::TAIL_LEN;
 use libc::STDIN_FILENO;
 use log::stores::copy;
@@ -92,6 +94,26 @@ fn groups_call(r: Record, s: State, disk: &[u8], seen: &mut [u8]) -> Report {
     Report::stored(answer, x.end, x.csn.0 as usize, s)
 }
 
+fn page_call(r: Record, s: State, disk: &[u8], seen: &mut [u8]) -> Report {
+    let answer = read_page(disk, seen, r.addr);
+    Report::stored(answer, 0, 0, s)
+}
+
+// The calls that look at the disk without a state, into a buffer of the stream's own, which is the line's memory.
+fn look(r: Record, s: State, disk: &[u8], tail: &[u8]) -> State {
+    let call = r.call;
+    if call == 15 {
+        let mut seen = [165u8; MEMORY_LEN];
+        let out = groups_call(r, s, disk, &mut seen);
+        print_line(call, out, disk, &seen, tail);
+        return out.state;
+    }
+    let mut seen = [165u8; PAGE_LEN];
+    let out = page_call(r, s, disk, &mut seen);
+    print_line(call, out, disk, &seen, tail);
+    out.state
+}
+
 // The calls that work in memory.
 fn memory_call(r: Record, data: &[u8], s: State, memory: &mut [u8], tail: &mut [u8]) -> Report {
     let id = r.id;
@@ -162,12 +184,7 @@ fn step(
             print_line(call, out, &*disk, &*memory, &*tail);
             out.state
         }
-        15 => {
-            let mut seen = [165u8; MEMORY_LEN];
-            let out = groups_call(r, s, &*disk, &mut seen);
-            print_line(call, out, &*disk, &seen, &*tail);
-            out.state
-        }
+        15 | 16 => look(r, s, &*disk, &*tail),
         _ => {
             print_unknown();
             s

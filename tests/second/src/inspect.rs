@@ -1,9 +1,9 @@
 //! What looks at a disk, takes no state and stores nothing: the first groups
-//! (document 02, A.3).
+//! and one page (document 02, A.3 and A.6).
 
-use crate::layout::{DISK_LEN, LOG, MEMORY_LEN};
+use crate::layout::{DISK_LEN, LOG, MEMORY_LEN, PAGES, PAGE_LEN};
 use crate::log::{read_log, Csn, Group};
-use crate::restart::{go_forward, named_image};
+use crate::restart::{go_forward, named_image, recover};
 use crate::state::Refusal;
 
 /// How far the first groups reach.
@@ -31,4 +31,19 @@ pub fn first_groups(disk: &[u8], memory: &mut [u8], count: usize) -> Result<Reac
         log_end: image.log_end + size,
         csn: last.unwrap_or(image.csn_on_disk),
     })
+}
+
+/// Fills the buffer with that page as restart, given stores enough, would
+/// leave it. Numbers 1 and 17, then 3 to 5 as at restart, which zero it.
+pub fn one_page(disk: &[u8], buffer: &mut [u8], page: usize) -> Result<(), Refusal> {
+    if disk.len() != DISK_LEN || buffer.len() != PAGE_LEN {
+        return Err(1);
+    }
+    if page >= PAGES {
+        return Err(17);
+    }
+    buffer.fill(0);
+    let found = recover(disk)?;
+    buffer.copy_from_slice(&found.memory[page * PAGE_LEN..(page + 1) * PAGE_LEN]);
+    Ok(())
 }

@@ -19,6 +19,7 @@ pub const MAX_READS: usize = 16;
 
 /// A page (document 02, A.5: drawer).
 pub const PAGE_LEN: usize = 256;
+pub const PAGES: usize = 16;
 
 /// The range rule of redo records, image undo records and number 8:
 /// length 1 to 32, address + length at most 4,096. Never wraps.

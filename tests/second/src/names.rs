@@ -20,6 +20,9 @@ pub fn names(before: &World, call: &Call, outcome: &Outcome) -> Vec<String> {
         }
         Call::Equal => names.extend(compared_names(before, outcome)),
         Call::FirstGroups { groups } => names.extend(first_groups_names(before, *groups)),
+        Call::OnePage { .. } if outcome.answer == Answer::Done => {
+            names.extend(log_names(&before.disk, None));
+        }
         _ => {}
     }
     names

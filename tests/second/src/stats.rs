@@ -6,7 +6,7 @@ use std::collections::BTreeMap;
 use crate::names::names;
 use crate::trace::{calls, Call, World};
 
-const NAMES: [&str; 16] = [
+const NAMES: [&str; 17] = [
     "unknown",
     "begin",
     "write",
@@ -23,6 +23,7 @@ const NAMES: [&str; 16] = [
     "keep copy",
     "equal",
     "first groups",
+    "one page",
 ];
 
 /// Lines `count name`, sorted by name, then what the store grew to.

@@ -1,7 +1,7 @@
 //! The stream of 64-byte records: parsing, running and printing one line each.
 
-use crate::inspect::first_groups;
-use crate::layout::{be16, be32, DISK_LEN, MEMORY_LEN, TAIL_LEN};
+use crate::inspect::{first_groups, one_page};
+use crate::layout::{be16, be32, DISK_LEN, MEMORY_LEN, PAGE_LEN, TAIL_LEN};
 use crate::log::{Stop, TxId};
 use crate::restart::{equal_in_meaning, restart};
 use crate::state::{Refusal, State};
@@ -64,6 +64,9 @@ pub enum Call {
     FirstGroups {
         groups: usize,
     },
+    OnePage {
+        page: usize,
+    },
     Unknown {
         number: u8,
     },
@@ -102,6 +105,7 @@ impl Call {
             13 => Call::KeepCopy,
             14 => Call::Equal,
             15 => Call::FirstGroups { groups },
+            16 => Call::OnePage { page: address },
             number => Call::Unknown { number },
         }
     }
@@ -123,6 +127,7 @@ impl Call {
             Call::KeepCopy => 13,
             Call::Equal => 14,
             Call::FirstGroups { .. } => 15,
+            Call::OnePage { .. } => 16,
             Call::Unknown { number } => *number,
         }
     }
@@ -317,6 +322,14 @@ impl World {
                     stores: result.map_or(0, |reached| reached.csn.0 as usize),
                     lent: Some(adler32(&lent)),
                     ..Outcome::of_value(result.map(|reached| reached.log_end as u32))
+                })
+            }
+            Call::OnePage { page } => {
+                let mut lent = vec![JUNK; PAGE_LEN];
+                let result = one_page(&self.disk, &mut lent, *page);
+                Some(Outcome {
+                    lent: Some(adler32(&lent)),
+                    ..Outcome::of_value(result.map(|()| 0))
                 })
             }
             _ => None,

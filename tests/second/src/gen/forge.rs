@@ -214,6 +214,7 @@ impl Generator {
         log.truncate(LOG_LEN - log_end);
         self.put(LOG + log_end, &log);
         self.put(POINTER, &[slot.1]);
+        self.maybe_look(40);
         self.recover(25);
         for _ in 0..self.rng.below(5) {
             self.live_call(&PLAIN);
@@ -498,7 +499,7 @@ impl Generator {
         let pointer = self.rng.pick(&[0, 1, 2, 3, 3, 4, 255]);
         self.put(POINTER, &[pointer]);
         if pointer > 2 {
-            self.look();
+            self.look_every_way();
             self.emit(Call::KeepCopy);
             self.emit(Call::Equal);
         }

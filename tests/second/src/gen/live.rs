@@ -261,8 +261,8 @@ impl Generator {
             }
             Action::Look => self.look(),
             Action::Unknown => {
-                let high = self.rng.between(16, 255) as u8;
-                let number = self.rng.pick(&[0, 16, 255, high]);
+                let high = self.rng.between(17, 255) as u8;
+                let number = self.rng.pick(&[0, 17, 255, high]);
                 self.emit(Call::Unknown { number });
             }
         }

@@ -216,6 +216,7 @@ impl Generator {
             }
             Call::Checkpoint { allowed } | Call::Restart { allowed } => put(16, *allowed),
             Call::FirstGroups { groups } => put(12, *groups),
+            Call::OnePage { page } => put(4, *page),
             _ => {}
         }
         if let Some(id) = id_of(call) {
@@ -270,7 +271,7 @@ impl Generator {
     }
 
     fn restart(&mut self, cut: usize) -> Outcome {
-        self.maybe_look(25);
+        self.maybe_look(35);
         let allowed = self.allowance(&Call::Restart { allowed: 0 }, cut);
         self.emit(Call::Restart { allowed })
     }
@@ -294,7 +295,7 @@ impl Generator {
         let mut bytes = self.out.concat();
         if self.rng.percent(70) {
             let count = self.rng.between(1, RECORD_LEN - 1);
-            bytes.push(self.rng.between(1, 15) as u8);
+            bytes.push(self.rng.between(1, 16) as u8);
             bytes.extend(self.rng.bytes(count - 1));
         }
         bytes

@@ -1,12 +1,12 @@
-//! What looks at a disk without a state: document 02, A.3.
+//! What looks at a disk without a state: document 02, A.3 and A.6.
 
 use crate::rig::{Rig, ENOUGH};
 use second::gen::{stream, Kind};
-use second::inspect::{first_groups, Reached};
-use second::layout::{DISK_LEN, IMAGE_A, LOG, LOG_LEN, MEMORY_LEN, POINTER};
-use second::log::read_log;
+use second::inspect::{first_groups, one_page, Reached};
+use second::layout::{DISK_LEN, IMAGE_A, LOG, LOG_LEN, MEMORY_LEN, PAGES, PAGE_LEN, POINTER};
+use second::log::{read_log, Csn, Group, TxId, Write};
 use second::restart::{named_image, recover};
-use second::trace::{calls, trace, Call, World};
+use second::trace::{adler32, calls, trace, Call, World};
 
 /// Ids 1 and 2 write and commit after a checkpoint with id 1 running, id 3
 /// aborts between them; all three groups are on disk.
@@ -81,15 +81,20 @@ fn numbers_1_3_and_4() {
 }
 
 /// A full log with one transaction to undo: restart says 5.
-#[test]
-fn never_5() {
+fn full_with_one_running() -> Vec<u8> {
     let mut rig = Rig::open();
     rig.begin_with(10, &[5]);
     rig.checkpoint(ENOUGH);
     let end = (LOG_LEN as u16).to_be_bytes();
     rig.world.disk[IMAGE_A..IMAGE_A + 2].copy_from_slice(&end);
-    assert_eq!(recover(&rig.world.disk).err(), Some(5));
-    assert_eq!(first(&rig.world.disk, 1), (LOG_LEN, 0, [5, 0, 0]));
+    rig.world.disk
+}
+
+#[test]
+fn first_groups_are_never_5() {
+    let disk = full_with_one_running();
+    assert_eq!(recover(&disk).err(), Some(5));
+    assert_eq!(first(&disk, 1), (LOG_LEN, 0, [5, 0, 0]));
 }
 
 /// Each answer is a group more than the one before, and the last one is where
@@ -145,4 +150,116 @@ fn the_line_of_first_groups() {
     let told: Vec<&str> = lines.lines().nth(1).unwrap().split(' ').collect();
     assert_eq!(told[..4], ["15", "refused=3", "0", "0"]);
     assert_eq!(told[5], "268435457");
+}
+
+/// The page, in a buffer that held 9 everywhere.
+fn page(disk: &[u8], number: usize) -> (Result<(), u8>, Vec<u8>) {
+    let mut buffer = vec![9; PAGE_LEN];
+    let result = one_page(disk, &mut buffer, number);
+    (result, buffer)
+}
+
+#[test]
+fn numbers_1_and_17_leave_the_buffer() {
+    let disk = vec![0; DISK_LEN];
+    for (disk, length) in [(&disk[1..], 256), (&disk[..], 255), (&disk[..], 257)] {
+        let mut buffer = vec![9; length];
+        assert_eq!(one_page(disk, &mut buffer, 99), Err(1));
+        assert_eq!(buffer, vec![9; length]);
+    }
+    for number in [16, 17, 256, 65_536, u32::MAX as usize] {
+        assert_eq!(page(&disk, number), (Err(17), vec![9; PAGE_LEN]));
+    }
+    assert_eq!(page(&disk, 15), (Ok(()), vec![0; PAGE_LEN]));
+}
+
+#[test]
+fn seventeen_comes_before_3_and_restarts_numbers_zero_the_buffer() {
+    let mut disk = vec![0; DISK_LEN];
+    disk[POINTER] = 3;
+    assert_eq!(page(&disk, 16), (Err(17), vec![9; PAGE_LEN]));
+    assert_eq!(page(&disk, 0), (Err(3), vec![0; PAGE_LEN]));
+    (disk[POINTER], disk[IMAGE_A + 12]) = (1, 9);
+    assert_eq!(page(&disk, 0), (Err(4), vec![0; PAGE_LEN]));
+    assert_eq!(page(&full_with_one_running(), 0), (Err(5), vec![0; 256]));
+}
+
+/// A page is that after step 4: the lost commit is undone.
+#[test]
+fn a_page_is_as_restart_leaves_it() {
+    let mut rig = Rig::open();
+    let id = rig.begin_with(300, &[5]);
+    rig.commits(id);
+    rig.checkpoint(ENOUGH);
+    assert_eq!(page(&rig.world.disk, 1).1[44], 0);
+    rig.flush(1, ENOUGH);
+    assert_eq!(page(&rig.world.disk, 1).1[44], 5);
+    assert_eq!(page(&rig.world.disk, 0).1, vec![0; PAGE_LEN]);
+}
+
+/// For every disk: the sixteen pages laid together are restart's memory, or
+/// each is refused by restart's number.
+fn check_pages(disk: &[u8]) {
+    let pages = (0..PAGES).map(|number| page(disk, number));
+    let (results, bytes): (Vec<Result<(), u8>>, Vec<Vec<u8>>) = pages.unzip();
+    match recover(disk) {
+        Ok(found) => {
+            assert_eq!(results, vec![Ok(()); PAGES]);
+            assert_eq!(bytes.concat(), found.memory);
+        }
+        Err(number) => {
+            assert_eq!(results, vec![Err(number); PAGES]);
+            assert_eq!(bytes.concat(), vec![0; MEMORY_LEN]);
+        }
+    }
+}
+
+#[test]
+fn sixteen_pages_are_the_memory() {
+    let mut world = World::fresh();
+    for call in calls(&stream(22, 3_000, Kind::Damage)) {
+        if let Call::Restart { .. } = call {
+            check_pages(&world.disk);
+        }
+        world.run(&call);
+    }
+}
+
+/// A record over two pages, as older disks may have them, falls into both: an
+/// undo record in the image, made of one that ends with its page, and a redo
+/// record in the log.
+#[test]
+fn crossing_records_fall_into_both_pages() {
+    let mut rig = Rig::open();
+    rig.begin_with(510, &[5, 5]);
+    rig.checkpoint(ENOUGH);
+    let undo = IMAGE_A + 13 + MEMORY_LEN + 8;
+    assert_eq!(rig.world.disk[undo..undo + 5], [1, 254, 2, 0, 0]);
+    rig.world.disk[undo..undo + 5].copy_from_slice(&[1, 255, 2, 6, 7]);
+    let bytes = vec![8; 4];
+    let address = 254;
+    let group = Group::Commit {
+        id: TxId(2),
+        csn: Csn(1),
+        writes: vec![Write { address, bytes }],
+    };
+    rig.world.disk[LOG..LOG + group.size()].copy_from_slice(&group.encode());
+    assert_eq!(page(&rig.world.disk, 0).1[253..], [0, 8, 8]);
+    assert_eq!(page(&rig.world.disk, 1).1[..3], [8, 8, 0]);
+    assert_eq!(page(&rig.world.disk, 1).1[254..], [5, 6]);
+    assert_eq!(page(&rig.world.disk, 2).1[..2], [7, 0]);
+    check_pages(&rig.world.disk);
+}
+
+#[test]
+fn the_line_of_one_page() {
+    let mut record = [0; 64];
+    record[0] = 16;
+    let field = adler32(&[0; PAGE_LEN]);
+    let line = format!("16 done 0 0 2207973377 {field} 1073741825 0,0,0,0,0,0,0\n");
+    assert_eq!(trace(&record), line);
+    (record[4], record[7]) = (1, 3);
+    let field = adler32(&[165; PAGE_LEN]);
+    let line = format!("16 refused=17 0 0 2207973377 {field} 1073741825 0,0,0,0,0,0,0\n");
+    assert_eq!(trace(&record), line);
 }
