@@ -1,6 +1,6 @@
 //! The checker: follows a stream and asks after every call what the documents
 //! claim of it. Document 01's demand 3 and, of document 02, A.1 (where the log
-//! stopped), A.2 (who holds what) and A.4 (what was read).
+//! stopped), A.2 (who holds what), A.4 (what was read) and A.6 (one page alone).
 
 use std::collections::BTreeMap;
 
@@ -9,6 +9,7 @@ use crate::holds::check_holds;
 use crate::ledger::Ledger;
 use crate::needs::stores_of;
 use crate::order::check_reads;
+use crate::pages::check_pages;
 use crate::trace::{calls, Answer, Call, Outcome, World};
 
 /// Where the current is taken to fail.
@@ -40,6 +41,7 @@ pub enum Claim {
     Stops,
     Holds,
     Reads,
+    Pages,
 }
 
 impl Claim {
@@ -50,6 +52,7 @@ impl Claim {
             Claim::Stops => "A.1",
             Claim::Holds => "A.2",
             Claim::Reads => "A.4",
+            Claim::Pages => "A.6",
         }
     }
 }
@@ -166,6 +169,7 @@ impl Checker {
         let held = check_disk(disk, &book.ledger, &book.expected);
         self.ask(Claim::Demand3, call, held);
         self.ask(Claim::Stops, call, check_stop(disk));
+        self.ask(Claim::Pages, call, check_pages(disk));
     }
 
     fn ask(&mut self, claim: Claim, call: &Call, held: Result<(), String>) {

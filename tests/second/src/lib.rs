@@ -17,6 +17,7 @@ pub mod log;
 pub mod names;
 pub mod needs;
 pub mod order;
+pub mod pages;
 pub mod restart;
 pub mod rng;
 pub mod state;

@@ -5,6 +5,7 @@ use second::gen::{stream, Kind};
 use second::inspect::{first_groups, one_page, Reached};
 use second::layout::{DISK_LEN, IMAGE_A, LOG, LOG_LEN, MEMORY_LEN, PAGES, PAGE_LEN, POINTER};
 use second::log::{read_log, Csn, Group, TxId, Write};
+use second::pages::check_pages;
 use second::restart::{named_image, recover};
 use second::trace::{adler32, calls, trace, Call, World};
 
@@ -197,29 +198,14 @@ fn a_page_is_as_restart_leaves_it() {
     assert_eq!(page(&rig.world.disk, 0).1, vec![0; PAGE_LEN]);
 }
 
-/// For every disk: the sixteen pages laid together are restart's memory, or
+/// Of forged disks too: the sixteen pages laid together are restart's memory, or
 /// each is refused by restart's number.
-fn check_pages(disk: &[u8]) {
-    let pages = (0..PAGES).map(|number| page(disk, number));
-    let (results, bytes): (Vec<Result<(), u8>>, Vec<Vec<u8>>) = pages.unzip();
-    match recover(disk) {
-        Ok(found) => {
-            assert_eq!(results, vec![Ok(()); PAGES]);
-            assert_eq!(bytes.concat(), found.memory);
-        }
-        Err(number) => {
-            assert_eq!(results, vec![Err(number); PAGES]);
-            assert_eq!(bytes.concat(), vec![0; MEMORY_LEN]);
-        }
-    }
-}
-
 #[test]
 fn sixteen_pages_are_the_memory() {
     let mut world = World::fresh();
     for call in calls(&stream(22, 3_000, Kind::Damage)) {
         if let Call::Restart { .. } = call {
-            check_pages(&world.disk);
+            assert_eq!(check_pages(&world.disk), Ok(()));
         }
         world.run(&call);
     }
@@ -248,7 +234,7 @@ fn crossing_records_fall_into_both_pages() {
     assert_eq!(page(&rig.world.disk, 1).1[..3], [8, 8, 0]);
     assert_eq!(page(&rig.world.disk, 1).1[254..], [5, 6]);
     assert_eq!(page(&rig.world.disk, 2).1[..2], [7, 0]);
-    check_pages(&rig.world.disk);
+    assert_eq!(check_pages(&rig.world.disk), Ok(()));
 }
 
 #[test]
