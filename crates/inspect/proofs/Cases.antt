@@ -9,6 +9,7 @@ use Rattle.transaction.specs.Rules.{headOk}
 use Rattle.transaction.specs.Steps.{pushed}
 use Rattle.image.specs.Pack.{loaded, packedTxs, packed, emptyImage}
 use Rattle.image.specs.Reading.{undoHere, readTx, readContent, memoryOf}
+use Rattle.image.specs.Decode.{notDecoded}
 use Rattle.restart.specs.Forward.{past, firstOf, forwardOf}
 use Rattle.restart.specs.Undo.{isRunning, isLost, runningOf, lostOf}
 use Rattle.restart.specs.Restart.{recoverOf}
@@ -25,6 +26,6 @@ worked = refl
 
 pub pages-worked : PagesWorked
 unfolding readRecord readRedo readCommit readAbort run whole readBody readGroup readLog emptyRecords emptyTx headOk pushed loaded packedTxs packed
-    emptyImage undoHere readTx readContent memoryOf past forwardOf isRunning isLost runningOf lostOf recoverOf loadOf notOpened openOf refusedBy stepsOf
+    emptyImage undoHere readTx readContent memoryOf notDecoded past forwardOf isRunning isLost runningOf lostOf recoverOf loadOf notOpened openOf refusedBy stepsOf
     examineOf pageOf
 pages-worked = refl

@@ -77,10 +77,10 @@ Worked = map shownOf rows ≡ map (λ r. r .shown) rows
 abbrev crossingGroup : ℕ → List ℕ
 crossingGroup id = 0x01 ∷ 0 ∷ id ∷ 0x00 ∷ 0xFF ∷ 0x03 ∷ 1 ∷ 2 ∷ 3 ∷ 0x01 ∷ 0x02 ∷ 0 ∷ id ∷ 0 ∷ 0 ∷ 0 ∷ 1 ∷ 0x02 ∷ []
 
--- an image with id 1 running, whose old bytes 5, 6, 7 go from 254 on; memory is zeros
-abbrev crossingImage : List ℕ
-crossingImage =
-    (replicate 11 0 ++ (1 ∷ 1 ∷ []))
+-- an image of this log end (its two bytes) with id 1 running, whose old bytes 5, 6, 7 go from 254 on; memory is zeros
+abbrev crossingImage : ℕ → ℕ → List ℕ
+crossingImage high low =
+    (high ∷ low ∷ (replicate 9 0 ++ (1 ∷ 1 ∷ [])))
     ++ (replicate 4096 0 ++ ((0 ∷ 1 ∷ 1 ∷ 0 ∷ 0 ∷ 0 ∷ 0 ∷ 1 ∷ 0x00 ∷ 0xFE ∷ 0x03 ∷ 5 ∷ 6 ∷ 7 ∷ []) ++ replicate 4530 0))
 
 -- such a redo record in the log; such an undo record, undone by step 4; the same undone by an abort in the log, then the redo record of another
@@ -88,10 +88,17 @@ abbrev crossingRedo : List ℕ
 crossingRedo = diskOf 0 (replicate 8653 0) (crossingGroup 1 ++ replicate 16366 0)
 
 abbrev crossingUndo : List ℕ
-crossingUndo = diskOf 1 crossingImage (replicate 16384 0)
+crossingUndo = diskOf 1 (crossingImage 0 0) (replicate 16384 0)
 
 abbrev crossingBoth : List ℕ
-crossingBoth = diskOf 1 crossingImage ((3 ∷ 0 ∷ 1 ∷ 3 ∷ crossingGroup 2) ++ replicate 16362 0)
+crossingBoth = diskOf 1 (crossingImage 0 0) ((3 ∷ 0 ∷ 1 ∷ 3 ∷ crossingGroup 2) ++ replicate 16362 0)
+
+-- a log end of 16,384 leaves no room for the abort record; 16,385 breaks an image rule
+abbrev noRoom : List ℕ
+noRoom = diskOf 1 (crossingImage 0x40 0x00) (replicate 16384 0)
+
+abbrev badImage : List ℕ
+badImage = diskOf 1 (crossingImage 0x40 0x01) (replicate 16384 0)
 
 -- the word, and three bytes of the page from a place on
 pub record PageShown : Type 0 where
@@ -112,9 +119,13 @@ abbrev pub pageRows : List PageRow
 pageRows =
     pageRow (diskM1 0 2) 0 10 done 0x41 0x42 0
     ∷ pageRow (diskM1 0 2) 15 253 done 0 0 0
-    -- 17 leaves the buffer, and comes before 3, which zeroes it
+    -- 1 comes before 17, and 17 before 3; both leave the buffer
+    ∷ pageRow [] 16 0 (refused 1) 165 165 165
     ∷ pageRow (diskM1 3 2) 16 0 (refused 17) 165 165 165
+    -- restart's numbers zero it
     ∷ pageRow (diskM1 3 2) 15 0 (refused 3) 0 0 0
+    ∷ pageRow badImage 0 253 (refused 4) 0 0 0
+    ∷ pageRow noRoom 0 253 (refused 5) 0 0 0
     -- after step 4, where the first groups leave 5
     ∷ pageRow diskM4 0 10 done 0 0 0
     -- such a record falls into both its pages
