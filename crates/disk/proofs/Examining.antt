@@ -116,3 +116,18 @@ few-undone disk = go (eqb (openOf disk .number) 0) refl
         pick Few (ltb 16384 (o .image .logend + stepsOf o .answer .end + 4 * stepsOf o .answer .undone)) (refusedBy 5) (meant (o .image .logend) (stepsOf o))
         (refused-few 5) (undone-within disk (eqb-true (openOf disk .number) 0 e))
     go false e = refused-few (o .number)
+
+-- ---- refused, it means a memory of zeros
+
+abbrev ZerosIfRefused : Meaning → Type 0
+ZerosIfRefused m = (m .result .number ≡ 0 → ⊥) → m .memory ≡ replicate 4096 0
+
+pub refused-zeros : (disk : List ℕ) → (examineOf disk .result .number ≡ 0 → ⊥) → examineOf disk .memory ≡ replicate 4096 0
+unfolding examineOf
+refused-zeros disk =
+    let o = openOf disk in
+    let s = stepsOf o in
+    pick ZerosIfRefused (eqb (o .number) 0) (ifFits (o .image .logend) s) (refusedBy (o .number))
+    (pick ZerosIfRefused (ltb 16384 (o .image .logend + s .answer .end + 4 * s .answer .undone)) (refusedBy 5) (meant (o .image .logend) s)
+    (λ z. refused-memory 5) (λ z. absurd (z refl)))
+    (λ z. refused-memory (o .number))

@@ -1,22 +1,20 @@
 -- One page of a disk's pattern: by cases, and sixteen of them laid together.
 use Prim.Native.Nat.{ℕ, zero, suc, _+_, _*_, _-_, _≤_, _<_}
 use native.Mathlib.Omega.{arith}
-use mathlib.Core.Bool.{Bool, true, false, cond}
 use mathlib.Core.List.{List, _++_}
 use mathlib.Core.Path.{_≡_, refl, sym, ap, ap₂, _∙_}
 use lib.ListN.{length, take, drop, replicate, length-drop, replicate-append-replicate}
 use lib.Seq.{sets, length-take-le, take-add, take-all}
-use lib.Dec.{eqb, leb, ltb}
+use lib.Dec.{eqb, leb}
 use borrow.Author.Tests.{eq-eqb, ne-eqb, le-leb, lt-leb}
 use Rattle.log.proofs.StoreLaws.{sets-all}
-use Rattle.restart.specs.Restart.{AfterSteps}
 use Rattle.store.specs.Answer.{Word, done, refused}
 use Rattle.store.specs.Stored.{DiskOutcome}
 use Rattle.store.proofs.Stepping.{same-or-other}
-use Rattle.disk.specs.Open.{openOf}
-use Rattle.disk.specs.Examine.{refusedBy, stepsOf, meant, examineOf}
+use Rattle.disk.specs.Examine.{examineOf}
 use Rattle.disk.specs.Restart.{restartOf}
 use Rattle.disk.specs.Enough.{Enough}
+use Rattle.disk.proofs.Examining.{refused-zeros}
 use Rattle.disk.proofs.Accepted.{accepted-is, memory-length}
 use Rattle.disk.proofs.Restarting.{restart-done, restart-refused}
 use Rattle.inspect.specs.Page.{PageLeft, pageIn, refusedPage, pageOf, laidTogether, LikeRestart, PagesLikeRestart}
@@ -81,21 +79,6 @@ laid-zeros f (suc k) h =
     ap₂ (λ (xs ys : List ℕ). xs ++ ys) (laid-zeros f k (λ n l. h n (omega arith))) (h k (omega arith))
     ∙ replicate-append-replicate (k * 256) 256 0
     ∙ ap (λ (j : ℕ). replicate j 0) e
-
--- a disk that is refused means a memory of zeros
-zeros-by : (opened full : Bool) (n logend : ℕ) (s : AfterSteps) → (cond opened (cond full (refusedBy 5) (meant logend s)) (refusedBy n) .result .number ≡ 0 → ⊥)
-    → cond opened (cond full (refusedBy 5) (meant logend s)) (refusedBy n) .memory ≡ replicate 4096 0
-unfolding refusedBy
-zeros-by true true n logend s z = refl
-zeros-by true false n logend s z = absurd (z refl)
-zeros-by false full n logend s z = refl
-
-refused-zeros : (disk : List ℕ) → (examineOf disk .result .number ≡ 0 → ⊥) → examineOf disk .memory ≡ replicate 4096 0
-unfolding examineOf
-refused-zeros disk z =
-    let o = openOf disk in
-    let s = stepsOf o in
-    zeros-by (eqb (o .number) 0) (ltb 16384 (o .image .logend + s .answer .end + 4 * s .answer .undone)) (o .number) (o .image .logend) s z
 
 -- of a disk of its length, into whatever buffers of theirs
 module _ (disk m t : List ℕ) (lent : ℕ → List ℕ) (allowed : ℕ) (d : length disk ≡ 33691) (u : length m ≡ 4096) (v : length t ≡ 16384)
