@@ -1,8 +1,8 @@
 -- One page of a disk's pattern: by cases, and sixteen of them laid together.
 use Prim.Native.Nat.{ℕ, zero, suc, _+_, _*_, _-_, _≤_, _<_}
 use native.Mathlib.Omega.{arith}
-use mathlib.Core.List.{List, _++_}
-use mathlib.Core.Path.{_≡_, refl, sym, ap, ap₂, _∙_}
+use mathlib.Core.List.{List, [], _++_}
+use mathlib.Core.Path.{_≡_, refl, sym, ap, _∙_}
 use lib.ListN.{length, take, drop, replicate, length-drop, replicate-append-replicate}
 use lib.Seq.{sets, length-take-le, take-add, take-all}
 use lib.Dec.{eqb, leb}
@@ -64,21 +64,25 @@ page-copied page memory buffer m h b =
 
 -- ---- sixteen pages
 
+-- laid one after the other they come to what grows by each of them
+laid-by : (f front : ℕ → List ℕ) (k : ℕ) → front 0 ≡ [] → ((n : ℕ) → n < k → front n ++ f n ≡ front (suc n)) → laidTogether f k ≡ front k
+laid-by f front zero z h = sym z
+laid-by f front (suc k) z h = ap (λ (xs : List ℕ). xs ++ f k) (laid-by f front k z (λ n l. h n (omega arith))) ∙ h k (omega arith)
+
+page-end : (n : ℕ) → n * 256 + 256 ≡ suc n * 256
+page-end n = omega arith
+
 laid-front : (f : ℕ → List ℕ) (m : List ℕ) (k : ℕ) → ((n : ℕ) → n < k → f n ≡ pageIn n m) → laidTogether f k ≡ take (k * 256) m
-laid-front f m zero h = refl
-laid-front f m (suc k) h =
-    let e : k * 256 + 256 ≡ suc k * 256 = omega arith in
-    ap₂ (λ (xs ys : List ℕ). xs ++ ys) (laid-front f m k (λ n l. h n (omega arith))) (h k (omega arith))
-    ∙ sym (take-add (k * 256) 256 m)
-    ∙ ap (λ (j : ℕ). take j m) e
+laid-front f m k h =
+    laid-by f (λ n. take (n * 256) m) k refl
+    (λ n l. ap (λ (ys : List ℕ). take (n * 256) m ++ ys) (h n l) ∙ sym (take-add (n * 256) 256 m) ∙ ap (λ (j : ℕ). take j m) (page-end n))
 
 laid-zeros : (f : ℕ → List ℕ) (k : ℕ) → ((n : ℕ) → n < k → f n ≡ replicate 256 0) → laidTogether f k ≡ replicate (k * 256) 0
-laid-zeros f zero h = refl
-laid-zeros f (suc k) h =
-    let e : k * 256 + 256 ≡ suc k * 256 = omega arith in
-    ap₂ (λ (xs ys : List ℕ). xs ++ ys) (laid-zeros f k (λ n l. h n (omega arith))) (h k (omega arith))
-    ∙ replicate-append-replicate (k * 256) 256 0
-    ∙ ap (λ (j : ℕ). replicate j 0) e
+laid-zeros f k h =
+    laid-by f (λ n. replicate (n * 256) 0) k refl
+    (λ n l. ap (λ (ys : List ℕ). replicate (n * 256) 0 ++ ys) (h n l)
+    ∙ replicate-append-replicate (n * 256) 256 0
+    ∙ ap (λ (j : ℕ). replicate j 0) (page-end n))
 
 -- of a disk of its length, into whatever buffers of theirs
 module _ (disk m t : List ℕ) (lent : ℕ → List ℕ) (allowed : ℕ) (d : length disk ≡ 33691) (u : length m ≡ 4096) (v : length t ≡ 16384)
