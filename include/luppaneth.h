@@ -34,7 +34,7 @@ extern "C" {
 #define LUPPANETH_TAIL_LEN 16384
 #define LUPPANETH_DISK_LEN 33691
 #define LUPPANETH_TEXT_LEN 80
-#define LUPPANETH_STATE_LEN 9488
+#define LUPPANETH_STATE_LEN 9552
 
 /* Parts of the disk: the pointer byte at 0, image A, image B, the log. */
 #define LUPPANETH_IMAGE_A 1
@@ -45,10 +45,11 @@ extern "C" {
 #define LUPPANETH_PAGE_LEN 256
 #define LUPPANETH_PAGES 16
 
-/* At most so many bytes in one write or read, writes in one transaction, ranges that one has read, transactions at a time. */
+/* At most so many bytes in one write or read, writes in one transaction, ranges that one has read, savepoints of one, transactions at a time. */
 #define LUPPANETH_MAX_WRITE 32
 #define LUPPANETH_MAX_WRITES 16
 #define LUPPANETH_MAX_READS 16
+#define LUPPANETH_MAX_SAVEPOINTS 4
 #define LUPPANETH_MAX_TRANSACTIONS 8
 
 /* As many stores as the call needs, or all the groups of the tail. Fewer stores are for rehearsing a power cut. */
@@ -63,25 +64,27 @@ enum luppaneth_answer {
     LUPPANETH_ANSWER_REFUSED = 2 /* by `number`; nothing was changed but what 3 to 5 set to zero: restart's memory and tail, first_groups' memory */
 };
 
-/* A reply's `number` where refused, in the order in which a call tests them; 17 comes after 1, 16 after 8, 15 after 9. */
+/* A reply's `number` where refused, in the order in which a call tests them; 17 comes after 1, 18 and 19 after 7, 16 after 8, 15 after 9. */
 enum luppaneth_number {
     LUPPANETH_WRONG_LENGTH = 1,           /* any call: a lent buffer hasn't its length */
     LUPPANETH_UNFIT = 2,                  /* any call handed a state: it is unrecovered or broken, or the tail isn't its own */
     LUPPANETH_BAD_POINTER = 3,            /* restart, first_groups, read_page: the pointer byte is above 2 */
     LUPPANETH_BAD_IMAGE = 4,              /* restart, first_groups, read_page: the image that the pointer byte names breaks a rule */
     LUPPANETH_NO_ROOM_TO_UNDO = 5,        /* restart, read_page: the log has no room for the abort records */
-    LUPPANETH_NOT_LISTED = 6,             /* write, read, precommit, abort, settle: no transaction has this id */
-    LUPPANETH_COMMITTING = 7,             /* write, read, precommit, abort: it has precommitted */
+    LUPPANETH_NOT_LISTED = 6,             /* write, read, savepoint, go_back, precommit, abort, settle: no transaction has this id */
+    LUPPANETH_COMMITTING = 7,             /* write, read, savepoint, go_back, precommit, abort: it has precommitted */
     LUPPANETH_BAD_RANGE = 8,              /* write, read: length 0 or above 32, or the range leaves memory */
     LUPPANETH_HELD = 9,                   /* write, read: another running transaction wrote a byte of the range. Write: or has read one */
-    LUPPANETH_TOO_MANY_WRITES = 10,       /* write: it has 16 */
+    LUPPANETH_TOO_MANY_WRITES = 10,       /* write: it has 16. go_back: it would have more than 16 */
     LUPPANETH_TOO_MANY_TRANSACTIONS = 11, /* begin: there are 8 */
     LUPPANETH_COUNTER_AT_END = 12,        /* begin: id 65,535 was given. Precommit: commit number 4,294,967,295 was given */
-    LUPPANETH_LOG_FULL = 13,              /* begin, write: the log has no room for it */
+    LUPPANETH_LOG_FULL = 13,              /* begin, write, go_back: the log has no room for it */
     LUPPANETH_NOT_DURABLE = 14,           /* settle: it is running, or its commit isn't on disk yet */
     LUPPANETH_TOO_MANY_READS = 15,        /* read_answer: it has 16 read ranges */
     LUPPANETH_TWO_PAGES = 16,             /* write: the range lies in two pages of 256 bytes; make two writes of it */
-    LUPPANETH_BAD_PAGE = 17               /* read_page: a page above 15 */
+    LUPPANETH_BAD_PAGE = 17,              /* read_page: a page above 15 */
+    LUPPANETH_NO_SAVEPOINT = 18,          /* go_back: the name is not set */
+    LUPPANETH_TOO_MANY_SAVEPOINTS = 19    /* savepoint: a fifth name, or the name 0 */
 };
 
 /* A reply's `stop`: why the log ended where it did, as a restart that is done found it. */
@@ -140,6 +143,16 @@ size_t luppaneth_read(struct luppaneth_state state, const unsigned char *memory,
 struct luppaneth_reply luppaneth_read_answer(struct luppaneth_state state, const unsigned char *memory, size_t memory_len,
                                              const unsigned char *tail, size_t tail_len, uint16_t id, size_t addr, size_t len);
 
+/* Notes how many writes of a running transaction stand, under a name from 1 to 255. A name that is set moves; there are at most four. Savepoints end
+ * with precommit and abort, and are never on disk. */
+struct luppaneth_reply luppaneth_savepoint(struct luppaneth_state state, const unsigned char *memory, size_t memory_len, const unsigned char *tail,
+                                           size_t tail_len, uint16_t id, uint8_t name);
+
+/* Takes back what the transaction wrote since a savepoint: the old bytes of every write since, newest first, as writes of its own, all or none.
+ * They count towards its 16 writes and take log room. Its savepoints stay. */
+struct luppaneth_reply luppaneth_go_back(struct luppaneth_state state, unsigned char *memory, size_t memory_len, const unsigned char *tail,
+                                         size_t tail_len, uint16_t id, uint8_t name);
+
 /* Ends a transaction as a booking: its group goes to the tail. value: its commit number. It isn't durable before a flush. */
 struct luppaneth_reply luppaneth_precommit(struct luppaneth_state state, const unsigned char *memory, size_t memory_len, unsigned char *tail,
                                            size_t tail_len, uint16_t id);
@@ -191,8 +204,8 @@ size_t luppaneth_text_len(void);
 
 /* ---- The layer that holds state and buffers
  *
- * Each call returns 0 for done, a luppaneth_number (1 to 17) where refused, or LUP_CUT, which none gives with LUPPANETH_ALL stores allowed. What is
- * handed out through a pointer is 0 (for read NULL) unless the call is done. A `struct luppaneth` has 63,672 bytes: keep it static or on the heap. */
+ * Each call returns 0 for done, a luppaneth_number (1 to 19) where refused, or LUP_CUT, which none gives with LUPPANETH_ALL stores allowed. What is
+ * handed out through a pointer is 0 (for read NULL) unless the call is done. A `struct luppaneth` has 63,736 bytes: keep it static or on the heap. */
 
 #define LUP_CUT (-1)
 
@@ -276,6 +289,18 @@ static inline int lup_read(struct luppaneth *l, uint16_t id, size_t addr, size_t
     return 0;
 }
 
+static inline int lup_savepoint(struct luppaneth *l, uint16_t id, uint8_t name)
+{
+    struct luppaneth_reply r = luppaneth_savepoint(l->state, l->memory, sizeof l->memory, l->tail, sizeof l->tail, id, name);
+    return lup_take(l, &r);
+}
+
+static inline int lup_go_back(struct luppaneth *l, uint16_t id, uint8_t name)
+{
+    struct luppaneth_reply r = luppaneth_go_back(l->state, l->memory, sizeof l->memory, l->tail, sizeof l->tail, id, name);
+    return lup_take(l, &r);
+}
+
 static inline int lup_precommit(struct luppaneth *l, uint16_t id, uint32_t *csn)
 {
     struct luppaneth_reply r = luppaneth_precommit(l->state, l->memory, sizeof l->memory, l->tail, sizeof l->tail, id);
@@ -323,7 +348,7 @@ static inline const char *lup_text(int answer)
         "the transaction has precommitted",
         "the range is empty, longer than 32 bytes or outside memory",
         "another transaction holds a byte of the range",
-        "the transaction has 16 writes",
+        "the transaction has 16 writes, or going back would make more",
         "8 transactions are open",
         "no id or commit number is left",
         "the log is full",
@@ -331,6 +356,8 @@ static inline const char *lup_text(int answer)
         "the transaction has read 16 ranges",
         "the write lies in two pages of 256 bytes; make two of it",
         "the page is above 15",
+        "no savepoint has this name",
+        "the transaction has four savepoints, or the name is 0",
     };
     if (answer == LUP_CUT)
         return "cut short";

@@ -39,16 +39,20 @@ pub fn opened() -> World {
     world
 }
 
-/// Begins a transaction with that many writes of 32 bytes, one behind the
-/// other from an address on.
+/// Begins a transaction with that many writes from an address on.
 fn begun(world: &mut World, address: usize, writes: usize) -> TxId {
     let id = TxId(done(world, Call::Begin) as u16);
+    write_many(world, id, address, writes);
+    id
+}
+
+/// Writes of 32 bytes, one behind the other.
+fn write_many(world: &mut World, id: TxId, address: usize, writes: usize) {
     for i in 0..writes {
         let bytes = vec![id.0 as u8 | 1; MAX_LENGTH];
         let address = address + MAX_LENGTH * i;
         done(world, Call::Write { id, address, bytes });
     }
-    id
 }
 
 /// Begins and aborts that many transactions.
@@ -155,6 +159,7 @@ impl Case {
     fn rows(&self) -> Vec<Row> {
         let mut rows = vec![self.row("begin", self.around(opened()), Call::Begin)];
         rows.extend(self.range_rows());
+        rows.extend(self.savepoint_rows());
         rows.extend(self.end_rows());
         rows.extend(self.disk_rows());
         rows
@@ -184,6 +189,31 @@ impl Case {
             self.row("read", world.clone(), read),
             self.row("read's sister", world, check_read),
         ]
+    }
+
+    /// Savepoints (document 02, A.7): one more, and returns over one write and
+    /// over eight, the most that can be taken back; the log has no room for
+    /// these behind the aborts.
+    fn savepoint_rows(&self) -> Vec<Row> {
+        let (world, id) = self.world(self.writes, false, false);
+        let set = Call::SetSavepoint { id, name: 1 };
+        let mut rows = vec![
+            self.row("set a savepoint", world, set),
+            self.return_row("go back over one write", 1),
+        ];
+        if self.aborts == 0 {
+            rows.push(self.return_row("go back over eight writes", MAX_UNDOS / 2));
+        }
+        rows
+    }
+
+    /// A return to where no write stood.
+    fn return_row(&self, name: &'static str, writes: usize) -> Row {
+        let mut world = opened();
+        let id = begun(&mut world, 0, 0);
+        done(&mut world, Call::SetSavepoint { id, name: 1 });
+        write_many(&mut world, id, 0, writes);
+        self.row(name, self.around(world), Call::GoBack { id, name: 1 })
     }
 
     fn end_rows(&self) -> [Row; 3] {

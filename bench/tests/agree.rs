@@ -3,9 +3,9 @@
 use bench::programs::{all, Program};
 use bench::rows;
 use second::gen::{stream, KINDS};
-use second::layout::{Range, MAX_READS};
+use second::layout::{Range, MAX_READS, MAX_SAVEPOINTS};
 use second::rng::Rng;
-use second::state::Status;
+use second::state::{Savepoint, Status};
 use second::trace::{adler32, calls, Answer, Call, Outcome, World};
 
 /// As the programs tell it: of a read the length alone.
@@ -102,7 +102,7 @@ fn worlds() -> Vec<World> {
 fn break_state(world: &mut World, rng: &mut Rng) {
     let state = &mut world.state;
     let small = rng.below(4);
-    match rng.below(14) {
+    match rng.below(16) {
         0 => state.recovered = !state.recovered,
         1 => state.log_end = rng.pick(&[0, 16_383, 16_384, 16_385, 65_535]),
         2 => state.csn_on_disk.0 = small as u32,
@@ -122,6 +122,10 @@ fn break_state(world: &mut World, rng: &mut Rng) {
                 8 => tx.csn.0 = small as u32,
                 9 => tx.status = rng.pick(&[Status::Running, Status::Committing]),
                 10 => drop(tx.redo.pop()),
+                14 | 15 if tx.savepoints.len() < MAX_SAVEPOINTS => tx.savepoints.push(Savepoint {
+                    name: rng.pick(&[0, 1, 2, 255]),
+                    writes: rng.below(tx.undo.len() + 2),
+                }),
                 11 | 12 if tx.reads.len() < MAX_READS => tx.reads.push(Range {
                     address: rng.pick(&[0, 4_064, 4_065]),
                     length: rng.pick(&[0, 1, 32, 33]),

@@ -62,12 +62,12 @@ typedef void (*any)(void);
 typedef void *(*unrecovered_at)(void *);
 typedef void *(*restart_at)(void *, unsigned char *, size_t, unsigned char *, size_t, unsigned char *, size_t, size_t);
 
-/* A struct that ends in a state ends in two bytes of padding, those of the last transaction: the last byte written is the struct's last, or the one
- * before them. */
+/* A struct that ends in a state ends in a byte of padding, that of the last transaction: the last byte written is the struct's last, or the one
+ * before it. */
 static int whole(const struct room *room, size_t size, const char *what)
 {
     size_t last = extent(room, size, what);
-    return last == size || last == size - 2;
+    return last == size || last == size - 1;
 }
 
 static void test_state(void)
@@ -137,12 +137,12 @@ static int zeros(const unsigned char *bytes, size_t count)
     return count == 0;
 }
 
-/* Padding in a state, of which nothing is said: in its own fields, in each of its eight transactions of 1,184 bytes, in a transaction's two lists
- * of records and its read ranges, and behind these. */
+/* Padding in a state, of which nothing is said: in its own fields, in each of its eight transactions of 1,192 bytes, in a transaction's two lists
+ * of records and its read ranges, and behind its savepoints. */
 static int padding(size_t i)
 {
-    size_t in = i < 16 ? 0 : (i - 16) % 1184;
-    return i == 1 || i == 15 || in == 3 || in == 9 || in == 571 || in == 1133 || in >= 1182;
+    size_t in = i < 16 ? 0 : (i - 16) % 1192;
+    return i == 1 || i == 15 || in == 3 || in == 9 || in == 571 || in == 1133 || in == 1191;
 }
 
 /* A state of which no field but `recovered` is set: its first byte. */
@@ -274,6 +274,20 @@ static void test_page_of_a_write(struct luppaneth *l)
     expect(lup_abort(l, id) == 0, "the abort of it");
 }
 
+/* Document 02, A.7: a return writes what stood; four names, none of them 0. */
+static void test_savepoints(struct luppaneth *l)
+{
+    unsigned char name;
+    uint16_t id = 0;
+    expect(lup_begin(l, &id) == 0 && lup_write(l, id, 40, "a", 1) == 0 && lup_savepoint(l, id, 255) == 0, "a savepoint");
+    expect(lup_write(l, id, 40, "bc", 2) == 0 && lup_go_back(l, id, 255) == 0 && l->memory[40] == 'a' && l->memory[41] == 0, "a return");
+    expect(lup_go_back(l, id, 1) == LUPPANETH_NO_SAVEPOINT, "a return to a name not set");
+    for (name = 1; name < LUPPANETH_MAX_SAVEPOINTS; name++)
+        expect(lup_savepoint(l, id, name) == 0, "four names");
+    expect(lup_savepoint(l, id, 9) == LUPPANETH_TOO_MANY_SAVEPOINTS && lup_savepoint(l, id, 0) == LUPPANETH_TOO_MANY_SAVEPOINTS, "a fifth name, and 0");
+    expect(lup_abort(l, id) == 0 && l->memory[40] == 0 && lup_go_back(l, id, 255) == LUPPANETH_NOT_LISTED, "the end of savepoints");
+}
+
 /* The same disk: what it booked is in page 0, a running transaction's write of test_disks is undone. */
 static void test_read_page(struct luppaneth *l)
 {
@@ -298,8 +312,8 @@ static void test_layer(struct luppaneth *l)
     int i;
     lup_init(l);
     expect(lup_begin(l, &id) == LUPPANETH_UNFIT && id == 0, "begin before a restart");
-    for (i = LUP_CUT - 1; i <= LUPPANETH_BAD_PAGE + 1; i++) {
-        int known = i != LUP_CUT - 1 && i != LUPPANETH_BAD_PAGE + 1;
+    for (i = LUP_CUT - 1; i <= LUPPANETH_TOO_MANY_SAVEPOINTS + 1; i++) {
+        int known = i != LUP_CUT - 1 && i != LUPPANETH_TOO_MANY_SAVEPOINTS + 1;
         expect((strcmp(lup_text(i), "no answer of this store") != 0) == known, "a text for each answer, and for no other number");
     }
     expect(lup_read(l, 1, 0, 1, &part) == LUPPANETH_UNFIT && part == NULL, "read before a restart");
@@ -320,6 +334,7 @@ int main(void)
     test_holds(&l);
     test_first_groups(&l);
     test_page_of_a_write(&l);
+    test_savepoints(&l);
     test_read_page(&l);
     test_layer(&l);
     if (!failed)

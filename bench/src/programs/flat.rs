@@ -1,9 +1,9 @@
 //! The second program's state as a flat one, and back.
 
-use crate::tuned::state::{Ranges, Records, State, Tx, COMMITTING, RUNNING};
+use crate::tuned::state::{Ranges, Records, Savepoints, State, Tx, COMMITTING, RUNNING};
 use second::layout::Range;
 use second::log::{Csn, TxId, Write};
-use second::state::Status;
+use second::state::{Savepoint, Status};
 
 /// Of states with at most 8 transactions of at most 16 records each of at most
 /// 32 bytes: others have no flat form.
@@ -26,6 +26,7 @@ pub fn flat(state: &second::state::State) -> State {
             undo: records(&tx.undo),
             redo: records(&tx.redo),
             reads: ranges(&tx.reads),
+            savepoints: savepoints(&tx.savepoints),
         };
     }
     flat
@@ -45,6 +46,14 @@ fn ranges(reads: &[Range]) -> Ranges {
         ranges.push(range.address, range.length);
     }
     ranges
+}
+
+fn savepoints(set: &[Savepoint]) -> Savepoints {
+    let mut savepoints = Savepoints::EMPTY;
+    for savepoint in set {
+        savepoints.push(savepoint.name, savepoint.writes as u8);
+    }
+    savepoints
 }
 
 /// The listed transactions alone: what stands past the counts is nobody's.
@@ -70,6 +79,7 @@ fn unflat_tx(tx: &Tx) -> second::state::Tx {
         undo: writes(&tx.undo),
         redo: writes(&tx.redo),
         reads: read(&tx.reads),
+        savepoints: set(&tx.savepoints),
     }
 }
 
@@ -85,4 +95,16 @@ fn writes(records: &Records) -> Vec<Write> {
 fn read(ranges: &Ranges) -> Vec<Range> {
     let range = |(address, length)| Range { address, length };
     ranges.ranges().map(range).collect()
+}
+
+fn set(savepoints: &Savepoints) -> Vec<Savepoint> {
+    let pairs = savepoints.names.iter().zip(&savepoints.writes);
+    let savepoint = |(&name, &writes): (&u8, &u8)| Savepoint {
+        name,
+        writes: writes as usize,
+    };
+    pairs
+        .take(savepoints.count as usize)
+        .map(savepoint)
+        .collect()
 }

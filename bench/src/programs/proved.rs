@@ -21,7 +21,7 @@ struct Reply {
     state: State,
 }
 
-const _: () = assert!(size_of::<State>() == 9_488 && size_of::<Reply>() == 9_504);
+const _: () = assert!(size_of::<State>() == 9_552 && size_of::<Reply>() == 9_568);
 
 /// Of the first groups: `answer` and `number` as in `Reply`.
 #[repr(C)]
@@ -73,6 +73,24 @@ mod c {
             id: u16,
             addr: usize,
             len: usize,
+        ) -> Reply;
+        pub fn luppaneth_savepoint(
+            state: State,
+            memory: *const u8,
+            memory_len: usize,
+            tail: *const u8,
+            tail_len: usize,
+            id: u16,
+            name: u8,
+        ) -> Reply;
+        pub fn luppaneth_go_back(
+            state: State,
+            memory: *mut u8,
+            memory_len: usize,
+            tail: *const u8,
+            tail_len: usize,
+            id: u16,
+            name: u8,
         ) -> Reply;
         pub fn luppaneth_precommit(
             state: State,
@@ -206,6 +224,19 @@ impl Proved {
     }
 
     #[inline(never)]
+    fn savepoint(&mut self, id: u16, name: u8) -> Outcome {
+        let reply = call!(luppaneth_savepoint, *self.state; self.lent; shared memory, shared tail; id, name);
+        self.told(&reply)
+    }
+
+    #[inline(never)]
+    fn go_back(&mut self, id: u16, name: u8) -> Outcome {
+        let reply =
+            call!(luppaneth_go_back, *self.state; self.lent; lent memory, shared tail; id, name);
+        self.told(&reply)
+    }
+
+    #[inline(never)]
     fn precommit(&mut self, id: u16) -> Outcome {
         let reply =
             call!(luppaneth_precommit, *self.state; self.lent; shared memory, lent tail; id);
@@ -321,6 +352,8 @@ impl Program for Proved {
                 address,
                 length,
             } => self.read_answer(id.0, *address, *length),
+            Call::SetSavepoint { id, name } => self.savepoint(id.0, *name),
+            Call::GoBack { id, name } => self.go_back(id.0, *name),
             Call::Precommit { id } => self.precommit(id.0),
             Call::Abort { id } => self.abort(id.0),
             Call::Flush { groups, allowed } => self.flush(*groups, *allowed),

@@ -88,6 +88,10 @@ impl Program for Second {
                 let result = state.check_read(memory, tail, *id, *address, *length);
                 told(result.map(|()| 0))
             }
+            Call::SetSavepoint { id, name } => {
+                told(state.set_savepoint(memory, tail, *id, *name).map(|()| 0))
+            }
+            Call::GoBack { id, name } => told(state.go_back(memory, tail, *id, *name).map(|()| 0)),
             Call::Precommit { id } => told(state.precommit(memory, tail, *id).map(|csn| csn.0)),
             Call::Abort { id } => told(state.abort(memory, tail, *id).map(|()| 0)),
             Call::Flush { groups, allowed } => {

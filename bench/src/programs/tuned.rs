@@ -75,6 +75,10 @@ impl Program for Tuned {
                 let result = state.check_read(memory, tail, id.0, *address, *length);
                 told(result.map(|()| 0))
             }
+            Call::SetSavepoint { id, name } => {
+                told(state.set_savepoint(memory, tail, id.0, *name).map(|()| 0))
+            }
+            Call::GoBack { id, name } => told(state.go_back(memory, tail, id.0, *name).map(|()| 0)),
             Call::Precommit { id } => told(state.precommit(memory, tail, id.0)),
             Call::Abort { id } => told(state.abort(memory, tail, id.0).map(|()| 0)),
             Call::Flush { groups, allowed } => {

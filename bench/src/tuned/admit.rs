@@ -79,7 +79,7 @@ fn measure_txs(state: &State) -> Option<usize> {
     let mut room = 0;
     let mut keys = [(0, 0); MAX_TXS];
     for (tx, key) in state.listed().iter().zip(&mut keys) {
-        if !counters.allow(tx.id, tx.status, tx.csn) || !tx.undo.ok() || !tx.reads_ok() {
+        if !counters.allow(tx.id, tx.status, tx.csn) || !tx.undo.ok() || !tx.extras_ok() {
             return None;
         }
         if tx.is_running() {

@@ -4,7 +4,7 @@ use super::admit::Admitted;
 use super::log::{put_abort, put_commit, put_redo};
 use super::state::{Records, State, Tx, COMMITTING, RUNNING};
 use super::Refusal;
-use second::layout::{range_ok, LOG_LEN, MAX_TXS, MAX_UNDOS, PAGE_LEN};
+use second::layout::{range_ok, LOG_LEN, MAX_LENGTH, MAX_SAVEPOINTS, MAX_TXS, MAX_UNDOS, PAGE_LEN};
 
 impl State {
     pub fn begin(&mut self, memory: &[u8], tail: &[u8]) -> Result<u16, Refusal> {
@@ -24,6 +24,7 @@ impl State {
         tx.undo.clear();
         tx.redo.clear();
         tx.reads.count = 0;
+        tx.savepoints.count = 0;
         self.count += 1;
         Ok(id)
     }
@@ -44,10 +45,7 @@ impl State {
         if admitted.room + 7 + bytes.len() > LOG_LEN {
             return Err(13);
         }
-        let range = &mut memory[addr..addr + bytes.len()];
-        tx.undo.push(addr, range);
-        tx.redo.push(addr, bytes);
-        range.copy_from_slice(bytes);
+        tx.write(memory, addr, bytes);
         Ok(())
     }
 
@@ -84,6 +82,55 @@ impl State {
         Ok(())
     }
 
+    pub fn set_savepoint(
+        &mut self,
+        memory: &[u8],
+        tail: &[u8],
+        id: u16,
+        name: u8,
+    ) -> Result<(), Refusal> {
+        let (_, slot) = self.find_running(memory, tail, id)?;
+        let tx = &mut self.txs[slot];
+        if let Some(place) = tx.savepoints.find(name) {
+            tx.savepoints.writes[place] = tx.undo.count;
+            return Ok(());
+        }
+        if name == 0 || tx.savepoints.count as usize == MAX_SAVEPOINTS {
+            return Err(19);
+        }
+        tx.savepoints.push(name, tx.undo.count);
+        Ok(())
+    }
+
+    /// The old bytes of every later write, newest first, all or none.
+    pub fn go_back(
+        &mut self,
+        memory: &mut [u8],
+        tail: &[u8],
+        id: u16,
+        name: u8,
+    ) -> Result<(), Refusal> {
+        let (admitted, slot) = self.find_running(memory, tail, id)?;
+        let tx = &mut self.txs[slot];
+        let place = tx.savepoints.find(name).ok_or(18)?;
+        let stood = tx.savepoints.writes[place] as usize;
+        let writes = tx.undo.count as usize;
+        if writes + (writes - stood) > MAX_UNDOS {
+            return Err(10);
+        }
+        let later = tx.undo.ranges().skip(stood);
+        if admitted.room + later.map(|(_, len)| 7 + len).sum::<usize>() > LOG_LEN {
+            return Err(13);
+        }
+        for i in (stood..writes).rev() {
+            let mut old = [0; MAX_LENGTH];
+            let len = tx.undo.bytes_of(i).len();
+            old[..len].copy_from_slice(tx.undo.bytes_of(i));
+            tx.write(memory, tx.undo.addr[i] as usize, &old[..len]);
+        }
+        Ok(())
+    }
+
     pub fn precommit(&mut self, memory: &[u8], tail: &mut [u8], id: u16) -> Result<u32, Refusal> {
         let (admitted, slot) = self.find_running(memory, tail, id)?;
         let csn = self.assigned.checked_add(1).ok_or(12)?;
@@ -92,6 +139,7 @@ impl State {
         put_commit(&mut tail[end..], id, csn);
         tx.redo.clear();
         tx.reads.count = 0;
+        tx.savepoints.count = 0;
         tx.status = COMMITTING;
         tx.csn = csn;
         self.assigned = csn;

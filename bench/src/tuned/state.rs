@@ -1,7 +1,7 @@
 //! The state between calls, laid out as the C interface has it: so one state
 //! can be handed to the proved library and to this program.
 
-use second::layout::{range_ok, MAX_LENGTH, MAX_TXS, MAX_UNDOS};
+use second::layout::{range_ok, MAX_LENGTH, MAX_SAVEPOINTS, MAX_TXS, MAX_UNDOS};
 use std::ops::Deref;
 
 pub const RUNNING: u8 = 1;
@@ -111,6 +111,50 @@ impl Records {
     }
 }
 
+/// Savepoints: names, each with how many writes stood.
+#[repr(C)]
+#[derive(Clone, Copy)]
+pub struct Savepoints {
+    pub count: u8,
+    pub names: [u8; MAX_SAVEPOINTS],
+    pub writes: [u8; MAX_SAVEPOINTS],
+}
+
+impl Savepoints {
+    pub const EMPTY: Savepoints = Savepoints {
+        count: 0,
+        names: [0; MAX_SAVEPOINTS],
+        writes: [0; MAX_SAVEPOINTS],
+    };
+
+    fn names(&self) -> &[u8] {
+        &self.names[..self.count as usize]
+    }
+
+    pub fn find(&self, name: u8) -> Option<usize> {
+        self.names().iter().position(|&other| other == name)
+    }
+
+    pub fn push(&mut self, name: u8, writes: u8) {
+        self.names[self.count as usize] = name;
+        self.writes[self.count as usize] = writes;
+        self.count += 1;
+    }
+
+    /// What number 2 asks, of a transaction with so many writes.
+    pub fn ok(&self, writes: u8) -> bool {
+        self.count as usize <= MAX_SAVEPOINTS
+            && self
+                .names()
+                .iter()
+                .zip(&self.writes)
+                .enumerate()
+                .all(|(i, (&name, &stood))| {
+                    name != 0 && stood <= writes && self.find(name) == Some(i)
+                })
+    }
+}
+
 #[repr(C)]
 #[derive(Clone, Copy)]
 pub struct Tx {
@@ -119,8 +163,9 @@ pub struct Tx {
     pub csn: u32,
     pub undo: Records,
     pub redo: Records,
-    /// Off the image.
+    /// Off the image, as the savepoints are.
     pub reads: Ranges,
+    pub savepoints: Savepoints,
 }
 
 impl Tx {
@@ -131,19 +176,28 @@ impl Tx {
         undo: Records::EMPTY,
         redo: Records::EMPTY,
         reads: Ranges::EMPTY,
+        savepoints: Savepoints::EMPTY,
     };
 
     pub fn is_running(&self) -> bool {
         self.status == RUNNING
     }
 
-    /// What number 2 asks of the read ranges.
-    pub fn reads_ok(&self) -> bool {
+    /// What number 2 asks of the read ranges and savepoints.
+    pub fn extras_ok(&self) -> bool {
         if self.is_running() {
-            self.reads.ok()
+            self.reads.ok() && self.savepoints.ok(self.undo.count)
         } else {
-            self.reads.count == 0
+            self.reads.count == 0 && self.savepoints.count == 0
         }
+    }
+
+    /// The records of a write, and the write.
+    pub fn write(&mut self, memory: &mut [u8], addr: usize, bytes: &[u8]) {
+        let range = &mut memory[addr..addr + bytes.len()];
+        self.undo.push(addr, range);
+        self.redo.push(addr, bytes);
+        range.copy_from_slice(bytes);
     }
 
     /// It has read or written each of the bytes.

@@ -22,6 +22,14 @@ pub struct Ranges {
 
 #[derive(Clone, Copy)]
 #[repr(C)]
+pub struct Savepoints {
+    count: u8,
+    names: [u8; 4],
+    counts: [u8; 4],
+}
+
+#[derive(Clone, Copy)]
+#[repr(C)]
 pub struct Transaction {
     id: u16,
     status: u8,
@@ -29,6 +37,7 @@ pub struct Transaction {
     undo: Records,
     redo: Records,
     reads: Ranges,
+    savepoints: Savepoints,
 }
 
 /// The state between calls. `recovered` is a bool on the other side: values come from the library alone.
@@ -69,8 +78,8 @@ pub struct GroupsReply {
     pub end: usize,
 }
 
-const _: () = assert!(size_of::<State>() == 9_488 && align_of::<State>() == 4);
-const _: () = assert!(size_of::<Reply>() == 9_504 && align_of::<Reply>() == 8);
+const _: () = assert!(size_of::<State>() == 9_552 && align_of::<State>() == 4);
+const _: () = assert!(size_of::<Reply>() == 9_568 && align_of::<Reply>() == 8);
 
 extern "C" {
     pub fn luppaneth_unrecovered() -> State;
@@ -111,6 +120,24 @@ extern "C" {
         id: u16,
         addr: usize,
         len: usize,
+    ) -> Reply;
+    pub fn luppaneth_savepoint(
+        state: State,
+        memory: *const u8,
+        memory_len: usize,
+        tail: *const u8,
+        tail_len: usize,
+        id: u16,
+        name: u8,
+    ) -> Reply;
+    pub fn luppaneth_go_back(
+        state: State,
+        memory: *mut u8,
+        memory_len: usize,
+        tail: *const u8,
+        tail_len: usize,
+        id: u16,
+        name: u8,
     ) -> Reply;
     pub fn luppaneth_precommit(
         state: State,

@@ -212,6 +212,52 @@ impl State {
         Ok(&memory[at..at + len])
     }
 
+    /// Notes how many writes of a running transaction stand, under a name from 1 to 255; a name that is set moves.
+    pub fn savepoint(
+        &mut self,
+        memory: &Memory,
+        tail: &Tail,
+        id: TxId,
+        name: u8,
+    ) -> Result<(), Refusal> {
+        let reply = unsafe {
+            abi::luppaneth_savepoint(
+                self.0,
+                memory.as_ptr(),
+                MEMORY_LEN,
+                tail.as_ptr(),
+                TAIL_LEN,
+                id.0,
+                name,
+            )
+        };
+        self.0 = reply.state;
+        answer(&reply)
+    }
+
+    /// Writes the old bytes of every write since a savepoint, newest first, all or none.
+    pub fn go_back(
+        &mut self,
+        memory: &mut Memory,
+        tail: &Tail,
+        id: TxId,
+        name: u8,
+    ) -> Result<(), Refusal> {
+        let reply = unsafe {
+            abi::luppaneth_go_back(
+                self.0,
+                memory.as_mut_ptr(),
+                MEMORY_LEN,
+                tail.as_ptr(),
+                TAIL_LEN,
+                id.0,
+                name,
+            )
+        };
+        self.0 = reply.state;
+        answer(&reply)
+    }
+
     /// Gives the transaction the next commit number and puts its group into the tail: from here on its writes can't be taken back, and
     /// nothing of it is on the disk yet.
     pub fn precommit(

@@ -5,7 +5,8 @@ use std::fmt;
 /// Why a call was refused. Refused, a call has changed nothing; restart zeroes memory and tail, and `inspect::first_groups` memory, where they refuse a
 /// disk.
 ///
-/// The variants stand in the order of their numbers. A call tests them in that order, but for 17, which comes after 1, 16, after 8, and 15, after 9.
+/// The variants stand in the order of their numbers. A call tests them in that order, but for 17, which comes after 1, 16, after 8, 15, after 9, and
+/// 18 and 19, after 7.
 #[derive(Clone, Copy, Debug, PartialEq, Eq, Hash)]
 pub enum Refusal {
     /// 1: a lent buffer hasn't its length. The types of this crate keep it away.
@@ -26,7 +27,7 @@ pub enum Refusal {
     BadRange = 8,
     /// 9: another running transaction wrote a byte of the range; for a write also: has read one.
     Held = 9,
-    /// 10: the transaction has 16 writes.
+    /// 10: the transaction has 16 writes, or going back would make it more.
     TooManyWrites = 10,
     /// 11: there are 8 transactions.
     TooManyTransactions = 11,
@@ -42,11 +43,15 @@ pub enum Refusal {
     TwoPages = 16,
     /// 17, `inspect::read_page`: the page's number is above 15.
     BadPage = 17,
+    /// 18: no savepoint of the transaction has this name.
+    NoSavepoint = 18,
+    /// 19: the transaction has four savepoints of other names, or the name is 0.
+    TooManySavepoints = 19,
 }
 
 impl Refusal {
     /// All of them, by number.
-    pub const ALL: [Refusal; 17] = [
+    pub const ALL: [Refusal; 19] = [
         Refusal::WrongLength,
         Refusal::Unfit,
         Refusal::BadPointer,
@@ -64,9 +69,11 @@ impl Refusal {
         Refusal::TooManyReads,
         Refusal::TwoPages,
         Refusal::BadPage,
+        Refusal::NoSavepoint,
+        Refusal::TooManySavepoints,
     ];
 
-    /// The documents' number, 1 to 17.
+    /// The documents' number, 1 to 19.
     pub fn number(self) -> u8 {
         self as u8
     }
@@ -88,7 +95,9 @@ impl Refusal {
             Refusal::Committing => "the transaction has precommitted",
             Refusal::BadRange => "the range is empty, longer than 32 bytes or not within the 4,096",
             Refusal::Held => "another running transaction holds a byte of the range",
-            Refusal::TooManyWrites => "the transaction has 16 writes already",
+            Refusal::TooManyWrites => {
+                "the transaction has 16 writes already, or would have more than 16 after going back"
+            }
             Refusal::TooManyTransactions => "8 transactions are running or not yet settled",
             Refusal::CounterAtEnd => "the last transaction id or the last commit number was given",
             Refusal::LogFull => "the log is full: this needs more than is left of its 16,384 bytes",
@@ -96,6 +105,10 @@ impl Refusal {
             Refusal::TooManyReads => "the transaction has read 16 ranges already",
             Refusal::TwoPages => "the write lies in two pages of 256 bytes",
             Refusal::BadPage => "the page's number is above 15",
+            Refusal::NoSavepoint => "no savepoint of the transaction has this name",
+            Refusal::TooManySavepoints => {
+                "the transaction has four savepoints already, or the name is 0"
+            }
         }
     }
 
@@ -122,6 +135,8 @@ impl Refusal {
                 "make two writes of it in one step: up to the first page's last byte, and from the next page's first on"
             }
             Refusal::BadPage => "the pattern has sixteen pages of 256 bytes, counted from 0",
+            Refusal::NoSavepoint => "go back to a name that was set in this step",
+            Refusal::TooManySavepoints => "use a name from 1 to 255; in place of a fifth, move one of the four",
         }
     }
 }

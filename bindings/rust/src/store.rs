@@ -83,6 +83,21 @@ impl Tx<'_> {
         Ok(w.state.read(&w.memory, &w.tail, self.id, at, len)?)
     }
 
+    /// Notes where this step's writes stand, under a name from 1 to 255. A name that is set moves; a step has at most four.
+    pub fn savepoint(&mut self, name: u8) -> Result<(), Error> {
+        let w = &mut *self.working;
+        w.state.savepoint(&w.memory, &w.tail, self.id, name)?;
+        Ok(())
+    }
+
+    /// Takes back what this step wrote since a savepoint: each of those bytes reads as just before its first write since. The old bytes are
+    /// written, as many writes as are taken back, all or none; they count among the step's 16 and take log room.
+    pub fn go_back(&mut self, name: u8) -> Result<(), Error> {
+        let w = &mut *self.working;
+        w.state.go_back(&mut w.memory, &w.tail, self.id, name)?;
+        Ok(())
+    }
+
     fn precommit(mut self) -> Result<(TxId, Csn), Refusal> {
         let w = &mut *self.working;
         let csn = w.state.precommit(&w.memory, &mut w.tail, self.id)?;

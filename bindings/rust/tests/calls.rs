@@ -49,6 +49,12 @@ impl Buffers {
     fn held(&self, id: TxId, at: usize, len: usize) -> Option<&[u8]> {
         self.state.held(&self.memory, &self.tail, id, at, len)
     }
+    fn savepoint(&mut self, id: TxId, name: u8) -> Result<(), Refusal> {
+        self.state.savepoint(&self.memory, &self.tail, id, name)
+    }
+    fn go_back(&mut self, id: TxId, name: u8) -> Result<(), Refusal> {
+        self.state.go_back(&mut self.memory, &self.tail, id, name)
+    }
     fn precommit(&mut self, id: TxId) -> Result<Csn, Refusal> {
         self.state.precommit(&self.memory, &mut self.tail, id)
     }
@@ -325,6 +331,53 @@ fn cover_is_byte_by_byte() {
     assert_eq!(b.read(id, 10, 6), Err(Refusal::TooManyReads));
 }
 
+/// Document 02, A.7: a return writes what stood, and the tried write does not survive a checkpoint before it.
+#[test]
+fn a_tried_write_is_taken_back() {
+    let mut b = Buffers::fresh();
+    let id = b.begin().unwrap();
+    b.savepoint(id, 7).unwrap();
+    b.write(id, 10, &[5, 6]).unwrap();
+    b.checkpoint(ALL).unwrap();
+    b.go_back(id, 7).unwrap();
+    assert_eq!(b.memory[10..12], [0, 0]);
+    b.precommit(id).unwrap();
+    let mut before = Buffers::on(b.disk);
+    assert_eq!(before.restart(ALL).unwrap().undone, 1);
+    assert_eq!(b.flush(1, ALL), done(9 + 9 + 8));
+    let mut after = Buffers::on(b.disk);
+    assert_eq!(after.restart(ALL).unwrap().undone, 0);
+    assert_eq!((before.memory[10], after.memory[10]), (0, 0));
+}
+
+/// Names: at most four, none of them 0; one that is set moves. Returns take back the writes of returns before them.
+#[test]
+fn savepoints_by_name() {
+    let mut b = Buffers::fresh();
+    let id = b.begin().unwrap();
+    assert_eq!(b.savepoint(id, 0), Err(Refusal::TooManySavepoints));
+    for name in [1, 2, 3, 255] {
+        assert_eq!(b.savepoint(id, name), Ok(()));
+    }
+    assert_eq!(b.savepoint(id, 4), Err(Refusal::TooManySavepoints));
+    assert_eq!(b.go_back(id, 4), Err(Refusal::NoSavepoint));
+    assert_eq!(b.go_back(id, 0), Err(Refusal::NoSavepoint));
+    b.write(id, 10, &[5]).unwrap();
+    b.savepoint(id, 1).unwrap();
+    b.write(id, 10, &[6]).unwrap();
+    assert_eq!(b.go_back(id, 1), Ok(()));
+    assert_eq!(b.memory[10], 5);
+    // 3 writes, then 3 more, then 6 more
+    assert_eq!(b.go_back(id, 2), Ok(()));
+    assert_eq!(b.go_back(id, 2), Ok(()));
+    assert_eq!(b.memory[10], 0);
+    assert_eq!(b.go_back(id, 2), Err(Refusal::TooManyWrites));
+    b.precommit(id).unwrap();
+    assert_eq!(b.savepoint(id, 1), Err(Refusal::Committing));
+    assert_eq!(b.go_back(id, 1), Err(Refusal::Committing));
+    assert_eq!(b.go_back(TxId(2), 1), Err(Refusal::NotListed));
+}
+
 /// Document 02, A.5: a write lies in one page; a read may lie in two.
 #[test]
 fn one_page_a_write() {
@@ -367,8 +420,5 @@ fn refusals_by_name_and_number() {
             "{text}"
         );
     }
-    assert_eq!(
-        (Refusal::from_number(0), Refusal::from_number(18)),
-        (None, None)
-    );
+    assert_eq!([0, 20].map(Refusal::from_number), [None, None]);
 }

@@ -92,6 +92,30 @@ fn a_step_that_fails_leaves_nothing() {
 }
 
 #[test]
+fn a_step_goes_back_to_a_savepoint() {
+    let mut store = fresh();
+    store
+        .book(|tx| {
+            tx.write(10, b"ab")?;
+            tx.savepoint(1)?;
+            tx.write(10, b"xy")?;
+            tx.write(20, b"z")?;
+            tx.go_back(1)?;
+            assert_eq!(tx.read(10, 2)?, b"ab");
+            tx.write(21, b"c")
+        })
+        .unwrap();
+    assert_eq!(
+        refusal(store.book(|tx| tx.go_back(1))),
+        Refusal::NoSavepoint
+    );
+    store.flush().unwrap();
+    let again = Store::open(store.into_device()).unwrap();
+    assert_eq!(again.read(10, 2).unwrap(), b"ab");
+    assert_eq!(again.read(20, 2).unwrap(), b"\0c");
+}
+
+#[test]
 fn eight_bookings_wait_for_a_flush() {
     let mut store = fresh();
     for n in 0..8 {

@@ -5,7 +5,7 @@ use log::TxId;
 use store::State;
 ghost use mathlib.Core.Path.{_≡_};
 ghost use lib.ListN.{length};
-ghost use Rattle.store.specs.Calls.{beginOf, writeOf, readOf, readAnswerOf, precommitOf, abortOf, settleOf};
+ghost use Rattle.store.specs.Calls.{beginOf, writeOf, readOf, readAnswerOf, savepointOf, goBackOf, precommitOf, abortOf, settleOf};
 ghost use Rattle.embed.specs.Reply.{replyOf};
 
 #[no_mangle]
@@ -64,6 +64,39 @@ pub extern "C" fn luppaneth_read_answer(
     ensures { λ r. ⌜ r ≡ replyOf (readAnswerOf state (now (memory .entry)) (now (tail .entry)) (record { 0 = id }) addr len) ⌝ }
 {
     let r = state.read_answer(memory, tail, TxId(id), addr, len);
+    let answer = r.answer;
+    let s = r.state;
+    answered(answer, 0, 0, s)
+}
+
+#[no_mangle]
+pub extern "C" fn luppaneth_savepoint(
+    state: State,
+    memory: &[u8],
+    tail: &[u8],
+    id: u16,
+    name: u8,
+) -> Reply
+    ensures { λ r. ⌜ r ≡ replyOf (savepointOf state (now (memory .entry)) (now (tail .entry)) (record { 0 = id }) name) ⌝ }
+{
+    let r = state.savepoint(memory, tail, TxId(id), name);
+    let answer = r.answer;
+    let s = r.state;
+    answered(answer, 0, 0, s)
+}
+
+#[no_mangle]
+pub extern "C" fn luppaneth_go_back(
+    state: State,
+    memory: &mut [u8],
+    tail: &[u8],
+    id: u16,
+    name: u8,
+) -> Reply
+    ensures { λ r. ⌜ r ≡ replyOf (goBackOf state (now (memory .entry)) (now (tail .entry)) (record { 0 = id }) name .result) ⌝ }
+    ensures { λ _. ⌜ now (memory .exit) ≡ goBackOf state (now (memory .entry)) (now (tail .entry)) (record { 0 = id }) name .memory ⌝ }
+{
+    let r = state.go_back(memory, tail, TxId(id), name);
     let answer = r.answer;
     let s = r.state;
     answered(answer, 0, 0, s)

@@ -11,12 +11,12 @@ use Rattle.transaction.specs.declared.Tx.{Tx}
 use Rattle.transaction.specs.Flat.{emptyTx}
 use Rattle.store.specs.State.{unrecovered}
 use Rattle.store.specs.Stored.{carriedOut}
-use Rattle.store.proofs.Apart.{Holding, none-holds, unrecovered-holds, carried-holds, begin-holds, write-holds, answer-holds, precommit-holds, abort-holds}
+use Rattle.store.proofs.Apart.{Holding, none-holds, unrecovered-holds, carried-holds, begin-holds, write-holds, answer-holds, savepoint-holds, go-back-holds, precommit-holds, abort-holds}
 use Rattle.store.proofs.Apart.{settle-holds, flush-holds, checkpoint-holds}
 use Rattle.disk.specs.Layout.{lengthsOk}
 use Rattle.disk.specs.Examine.{Meaning, examineOf}
 use Rattle.disk.specs.Restart.{recoveredState, restartPlan, refusedWith, ofMeaning, restartOf}
-use Rattle.history.specs.Calls.{Call, begin, write, read, readAnswer, precommit, abort, flush, settle, checkpoint, restart, World, stepOf}
+use Rattle.history.specs.Calls.{Call, begin, write, read, readAnswer, savepoint, goBack, precommit, abort, flush, settle, checkpoint, restart, World, stepOf}
 use Rattle.history.specs.Demand.{Happening, called, powerFails, Watched, happen, happenAll, opening}
 use Rattle.history.specs.Apart.{ReadersHold}
 
@@ -49,6 +49,8 @@ call-holds begin w h = begin-holds (w .state) (w .memory) (w .tail) h
 call-holds (write id a bs) w h = write-holds (w .state) (w .memory) (w .tail) h (record { 0 = id }) a bs
 call-holds (read id a n) w h = h
 call-holds (readAnswer id a n) w h = answer-holds (w .state) (w .memory) (w .tail) h (record { 0 = id }) a n
+call-holds (savepoint id name) w h = savepoint-holds (w .state) (w .memory) (w .tail) h (record { 0 = id }) name
+call-holds (goBack id name) w h = go-back-holds (w .state) (w .memory) (w .tail) h (record { 0 = id }) name
 call-holds (precommit id) w h = precommit-holds (w .state) (w .memory) (w .tail) h (record { 0 = id })
 call-holds (abort id) w h = abort-holds (w .state) (w .memory) (w .tail) h (record { 0 = id })
 call-holds (flush k a) w h = flush-holds (w .state) (w .disk) (w .memory) (w .tail) h k a

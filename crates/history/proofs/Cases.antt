@@ -12,8 +12,8 @@ use Rattle.log.specs.Group.{readBody, readGroup}
 use Rattle.log.specs.Log.{readLog}
 use Rattle.log.specs.Stop.{stopOf}
 use Rattle.transaction.specs.Flat.{emptyRecords, emptyTx}
-use Rattle.transaction.specs.Rules.{headOk, stateOk, heldAgainst}
-use Rattle.transaction.specs.Steps.{pushed, freshTx, written, withRead, precommitted}
+use Rattle.transaction.specs.Rules.{headOk, savepointsOk, stateOk, heldAgainst, nameRefused}
+use Rattle.transaction.specs.Steps.{pushed, freshTx, written, withRead, savepointed, goneBack, precommitted}
 use Rattle.image.specs.Pack.{loaded, packedTxs, packed, emptyImage}
 use Rattle.image.specs.Reading.{undoHere, readTx, readContent, memoryOf}
 use Rattle.restart.specs.Forward.{past, forwardOf}
@@ -23,7 +23,7 @@ use Rattle.log.proofs.Basics.{clash}
 use Rattle.store.specs.State.{unrecovered}
 use Rattle.store.specs.Rules.{unfit}
 use Rattle.store.specs.Stored.{carriedOut}
-use Rattle.store.specs.Steps.{begunState, writtenState, readState, precommittedState, without, droppedState}
+use Rattle.store.specs.Steps.{begunState, writtenState, readState, savepointState, wentBackState, precommittedState, without, droppedState}
 use Rattle.disk.specs.Open.{loadOf, notOpened, openOf}
 use Rattle.disk.specs.Examine.{refusedBy, stepsOf, examineOf}
 use Rattle.disk.specs.Restart.{recoveredState, restartOf, stopFound, stoppedOf}
@@ -31,7 +31,7 @@ use Rattle.text.specs.{decimal}
 use Rattle.listing.specs.Lines.{line, foundText, stopLine}
 use Rattle.listing.specs.Listing.{listingOf}
 use Rattle.history.specs.Calls.{World, freshWorld, runOf}
-use Rattle.history.specs.Cases.{Shown, Row, rows, showing, shown, Worked}
+use Rattle.history.specs.Cases.{Shown, Row, rows, savepointRows, showing, shown, Worked}
 use Rattle.history.proofs.Quick.{Short, widened, Lengths}
 use Rattle.history.proofs.QuickRun.{QuickRan, quickRun, RightRun, right-run}
 
@@ -46,11 +46,18 @@ abbrev quickShown : Row → Option Shown
 quickShown r = quickShowing (r .look) (quickRun (r .calls) start)
 
 computed : map quickShown rows ≡ map (λ r. some (r .expected)) rows
-unfolding undoOrder readRecord readRedo readCommit readAbort run all readBody readGroup readLog emptyRecords emptyTx headOk stateOk heldAgainst pushed freshTx
+unfolding undoOrder readRecord readRedo readCommit readAbort run all readBody readGroup readLog emptyRecords emptyTx headOk savepointsOk stateOk heldAgainst pushed freshTx
     written withRead precommitted loaded packedTxs packed emptyImage undoHere readTx readContent memoryOf past forwardOf isRunning isLost runningOf lostOf
     recoverOf unrecovered unfit begunState writtenState readState precommittedState without droppedState loadOf notOpened openOf refusedBy stepsOf examineOf recoveredState
     restartOf carriedOut stopOf stopFound stoppedOf decimal line foundText stopLine listingOf
 computed = refl
+
+savepoints-computed : map quickShown savepointRows ≡ map (λ r. some (r .expected)) savepointRows
+unfolding undoOrder readRecord readRedo readCommit readAbort run all readBody readGroup readLog emptyRecords emptyTx headOk savepointsOk stateOk heldAgainst nameRefused
+    pushed freshTx written withRead savepointed goneBack precommitted loaded packedTxs packed emptyImage undoHere readTx readContent memoryOf past forwardOf isRunning
+    isLost runningOf lostOf recoverOf unrecovered unfit begunState writtenState readState savepointState wentBackState precommittedState without droppedState loadOf openOf
+    stepsOf examineOf recoveredState restartOf carriedOut
+savepoints-computed = refl
 
 -- what is computed is what the definitions show
 right-shown : (r : Row) (x : Shown) → quickShown r ≡ some x → shown r ≡ x
@@ -68,4 +75,4 @@ all-shown [] e = refl
 all-shown (r ∷ rs) e = ap₂ _∷_ (right-shown r (r .expected) (cc)) (all-shown rs (cc))
 
 pub worked : Worked
-worked = all-shown rows computed
+worked = (all-shown rows computed, all-shown savepointRows savepoints-computed)

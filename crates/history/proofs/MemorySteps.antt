@@ -11,35 +11,37 @@ use Rattle.recovery.specs.Group.{Write, Group, aborted, groupsSize}
 use Rattle.recovery.specs.Transaction.{Tx as Transaction, running, lookup, heldByOther, reserved}
 use Rattle.recovery.specs.Ledger as ledger
 use Rattle.recovery.specs.Machine as machine
-use Rattle.recovery.specs.Machine.{Disk, Live, up, Listed, lastAssigned, Step, stays, begins, writes, precommits, rollsBack, settles, afterBegin, afterWrite}
-use Rattle.recovery.specs.Machine.{afterPrecommit, afterAbort, afterSettle}
-use Rattle.recovery.proofs.Byte.{undo-length}
-use Rattle.recovery.specs.Replay.{undoAll, layBytes}
+use Rattle.recovery.specs.Machine.{Disk, Live, up, Listed, lastAssigned, Step, stays, begins, writes, setsSavepoint, goesBack, precommits, rollsBack, settles, afterBegin, afterWrite}
+use Rattle.recovery.specs.Machine.{afterSavepoint, afterGoBack, afterPrecommit, afterAbort, afterSettle}
+use Rattle.recovery.proofs.Byte.{redo-length, undo-length}
+use Rattle.recovery.specs.Replay.{redoAll, undoAll, layBytes}
 use Rattle.log.specs.declared.TxId.{TxId}
 use Rattle.log.specs.Group.{encodeGroup}
 use Rattle.transaction.specs.View.{writesOf, viewOf}
+use Rattle.transaction.specs.Rules.{stoodAt}
+use Rattle.transaction.specs.Steps.{returnWrites}
 use Rattle.store.specs.declared.State.{State}
 use Rattle.store.specs.Answer.{Told}
 use Rattle.store.specs.State.{slotOf}
 use Rattle.store.specs.Rules.{tailLength, roomUsed}
 use Rattle.store.specs.Numbers.{txOf}
-use Rattle.store.specs.Steps.{begunState, writtenState, readState, precommittedState, droppedState}
-use Rattle.store.specs.Calls.{Outcome, beginNumber, writeNumber, answerNumber, precommitNumber, abortNumber, settleNumber, appended}
+use Rattle.store.specs.Steps.{begunState, writtenState, readState, savepointState, wentBackState, precommittedState, droppedState}
+use Rattle.store.specs.Calls.{Outcome, beginNumber, writeNumber, answerNumber, savepointNumber, goBackNumber, precommitNumber, abortNumber, settleNumber, appended}
 use Rattle.store.specs.View.{live}
 use Rattle.store.proofs.Fits.{Fit, fit}
-use Rattle.store.proofs.Passing.{RunningPassed, begin-passed, write-passed, precommit-passed, abort-passed, settle-passed}
-use Rattle.store.proofs.Calling.{begin-done, write-done, answer-done, precommit-done, abort-done, settle-done}
+use Rattle.store.proofs.Passing.{RunningPassed, begin-passed, write-passed, savepoint-passed, go-back-passed, precommit-passed, abort-passed, settle-passed}
+use Rattle.store.proofs.Calling.{begin-done, write-done, answer-done, savepoint-done, go-back-done, precommit-done, abort-done, settle-done}
 use Rattle.store.proofs.Stepping.{same-or-other}
-use Rattle.store.proofs.Views.{listed-view, tail-csn, commitOf, commit-appends, abort-appends, begin-live, write-live, answer-live, precommit-live}
+use Rattle.store.proofs.Views.{listed-view, tail-csn, commitOf, commit-appends, abort-appends, begin-live, write-live, answer-live, savepoint-live, go-back-live, set-view, later-view, precommit-live}
 use Rattle.store.proofs.Views.{abort-live, settle-live}
 use Rattle.store.proofs.Premises.{free-view, room-view}
-use Rattle.store.proofs.Keeping.{Kept, begin-keeps, write-keeps, answer-keeps, precommit-keeps, abort-keeps, settle-keeps}
+use Rattle.store.proofs.Keeping.{Kept, begin-keeps, write-keeps, answer-keeps, savepoint-keeps, go-back-keeps, precommit-keeps, abort-keeps, settle-keeps}
 use Rattle.disk.specs.Layout.{logFrom}
-use Rattle.history.specs.Calls.{Call, begin, write, readAnswer, precommit, abort, settle, World, Stepped, returned, changed, stepOf}
+use Rattle.history.specs.Calls.{Call, begin, write, readAnswer, savepoint, goBack, precommit, abort, settle, World, Stepped, returned, changed, stepOf}
 use Rattle.history.specs.Demand.{eventOf}
 use Rattle.history.proofs.OnDisk.{Start, opens, OnDisk}
 use Rattle.history.proofs.Shows.{Neat, LiveOn, awake, FollowsBy, refused-follows, begin-refuses, write-refuses, precommit-refuses, abort-refuses}
-use Rattle.history.proofs.Shows.{answer-refuses, settle-refuses, appended-neat}
+use Rattle.history.proofs.Shows.{answer-refuses, savepoint-refuses, go-back-refuses, settle-refuses, appended-neat}
 
 -- ---- the steps leave the log's end and the number on disk
 
@@ -55,6 +57,14 @@ written-same s j m a bs = (refl, refl)
 read-same : (s : State) (j a n : ℕ) → (readState s j a n .logend ≡ s .logend) × (readState s j a n .ondisk .0 ≡ s .ondisk .0)
 unfolding readState
 read-same s j a n = (refl, refl)
+
+savepoint-same : (s : State) (j name : ℕ) → (savepointState s j name .logend ≡ s .logend) × (savepointState s j name .ondisk .0 ≡ s .ondisk .0)
+unfolding savepointState
+savepoint-same s j name = (refl, refl)
+
+back-same : (s : State) (j : ℕ) (m : List ℕ) (name : ℕ) → (wentBackState s j m name .logend ≡ s .logend) × (wentBackState s j m name .ondisk .0 ≡ s .ondisk .0)
+unfolding wentBackState
+back-same s j m name = (refl, refl)
 
 precommitted-same : (s : State) (j : ℕ) → (precommittedState s j .logend ≡ s .logend) × (precommittedState s j .ondisk .0 ≡ s .ondisk .0)
 unfolding precommittedState
@@ -172,6 +182,42 @@ module _ {from : Start} (w : World) (d : Disk) (l : Live) (o : OnDisk from (w .d
         (subst (λ (r : Told). Kept (r .state) t) e (answer-keeps s m t (v .sizes) tid a n z))
         (ap (λ (r : Told). live (r .state) m t) (sym e) ∙ answer-live s m t (v .sizes) tid a n z ∙ v .view) (v .neat)))
         (λ h. refused-follows (up d l) w (readAnswer id a n) (o, awake v) (answer-refuses w id a n h))
+
+    pub savepoint-follows : (name : ℕ) → FollowsBy from (up d l) (savepoint id name) (stepOf (savepoint id name) w)
+    unfolding stepOf
+    savepoint-follows name =
+        same-or-other (savepointNumber s m t tid name) 0
+        (λ z.
+        let r = savepoint-passed s m t tid name z .runs in
+        let e = savepoint-done s m t tid name z in
+        follows (savepoint id name) (returned w _) (ledger.savepointSet (tx .id) name) (afterSavepoint tx name l) (ap (returned w) e)
+        (ap (λ (i : ℕ). ledger.savepointSet i name) (sym (r .named)))
+        (setsSavepoint d l tx name (listed (r .listed) (r .named)) (isRunning r)) o
+        (lives (savepointState s (slotOf s id) name) m t (afterSavepoint tx name l) (savepoint-same s (slotOf s id) name) (v .memory) (v .tail)
+        (subst (λ (y : Told). Kept (y .state) t) e (savepoint-keeps s m t (v .sizes) tid name z))
+        (ap (λ (y : Told). live (y .state) m t) (sym e) ∙ savepoint-live s m t (v .sizes) tid name z ∙ ap (afterSavepoint tx name) (v .view)) (v .neat)))
+        (λ h. refused-follows (up d l) w (savepoint id name) (o, awake v) (savepoint-refuses w id name h))
+
+    pub go-back-follows : (name : ℕ) → FollowsBy from (up d l) (goBack id name) (stepOf (goBack id name) w)
+    unfolding stepOf
+    go-back-follows name =
+        same-or-other (goBackNumber s m t tid name) 0
+        (λ z.
+        let p = go-back-passed s m t tid name z in
+        let r = p .runs in
+        let n = stoodAt name (txOf s id) in
+        let ws = returnWrites (txOf s id) name in
+        let e = go-back-done s m t tid name z in
+        follows (goBack id name) (changed w _) (ledger.wentBack (tx .id) name) (afterGoBack tx n l) (ap (changed w) e)
+        (ap (λ (i : ℕ). ledger.wentBack i name) (sym (r .named)))
+        (goesBack d l tx name n (listed (r .listed) (r .named)) (isRunning r) (set-view s m t (v .sizes) tid name z)
+        (omega (arith, p .room, room, later-view s m t (v .sizes) tid name z))) o
+        (lives (wentBackState s (slotOf s id) m name) (redoAll layBytes ws m) t (afterGoBack tx n l) (back-same s (slotOf s id) m name)
+        (redo-length 4096 m (v .memory) ws) (v .tail)
+        (subst (λ (y : Outcome). Kept (y .result .state) (y .tail)) e (go-back-keeps s m t (v .sizes) tid name z))
+        (ap (λ (y : Outcome). live (y .result .state) (y .memory) (y .tail)) (sym e) ∙ go-back-live s m t (v .sizes) tid name z ∙ ap (afterGoBack tx n) (v .view))
+        (v .neat)))
+        (λ h. refused-follows (up d l) w (goBack id name) (o, awake v) (go-back-refuses w id name h))
 
     pub precommit-follows : FollowsBy from (up d l) (precommit id) (stepOf (precommit id) w)
     unfolding stepOf

@@ -9,20 +9,21 @@ use lib.ListN.{length, take, drop, getD, set, replicate}
 use lib.Seq.{sets}
 use lib.Dec.{eqb, leb, ltb}
 use Rattle.recovery.specs.Group.{committed, aborted}
-use Rattle.recovery.specs.Replay.{undoAll, layBytes}
+use Rattle.recovery.specs.Replay.{redoAll, undoAll, layBytes}
 use Rattle.recovery.specs.Restart.{aborts}
 use Rattle.log.specs.Group.{encodeGroup}
 use Rattle.log.specs.Log.{encodeLog}
 use Rattle.transaction.specs.View.{usedBy, writesOf}
 use Rattle.transaction.specs.Rules.{covered}
+use Rattle.transaction.specs.Steps.{returnWrites}
 use Rattle.image.specs.Format.{encodeImage}
 use Rattle.restart.proofs.Recovery.{undoneBy}
 use Rattle.store.specs.declared.State.{State}
 use Rattle.store.specs.Answer.{done, cut, refused}
 use Rattle.store.specs.State.{imageOf, slotOf, unrecovered}
 use Rattle.store.specs.Rules.{tailLength, roomUsed}
-use Rattle.store.specs.Numbers.{txOf, beginChecks, writeChecks, readChecks, answerChecks, precommitChecks, abortChecks, settleChecks}
-use Rattle.store.specs.Steps.{begunState, writtenState, readState, precommittedState, droppedState}
+use Rattle.store.specs.Numbers.{txOf, beginChecks, writeChecks, readChecks, answerChecks, savepointChecks, goBackChecks, precommitChecks, abortChecks, settleChecks}
+use Rattle.store.specs.Steps.{begunState, writtenState, readState, savepointState, wentBackState, precommittedState, droppedState}
 use Rattle.store.specs.Calls.{decided}
 use Rattle.store.specs.Flush.{firstSize, flushedState}
 use Rattle.store.specs.Checkpoint.{targetAt, targetName}
@@ -100,6 +101,15 @@ module _ (d m bs : List ℕ) (s : State) where
   abbrev pub answerQuick : ℕ → ℕ → ℕ → Option Went
   answerQuick id a k =
       let n = numberOf s bs (answerChecks s id a k) in decided n (telling 0 0 d m bs (readState s (slotOf s id) a k)) (refusing n here)
+
+  abbrev pub savepointQuick : ℕ → ℕ → Option Went
+  savepointQuick id name =
+      let n = numberOf s bs (savepointChecks s id name) in decided n (telling 0 0 d m bs (savepointState s (slotOf s id) name)) (refusing n here)
+
+  abbrev pub goBackQuick : ℕ → ℕ → Option Went
+  goBackQuick id name =
+      let n = numberOf s bs (goBackChecks s (roomUsed s bs) id name) in
+      decided n (telling 0 0 d (redoAll layBytes (returnWrites (txOf s id) name) m) bs (wentBackState s (slotOf s id) m name)) (refusing n here)
 
   abbrev pub commitBytes : ℕ → List ℕ
   commitBytes id = encodeGroup (committed id (s .assigned .0 + 1) (writesOf (txOf s id .redo)))

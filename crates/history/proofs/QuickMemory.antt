@@ -9,25 +9,26 @@ use lib.Seq.{sets, length-sets}
 use lib.Dec.{eqb, leb}
 use borrow.Author.Tests.{eqb-true, leb-true}
 use Rattle.recovery.specs.Group.{Group, committed, aborted, groupsSize}
-use Rattle.recovery.specs.Replay.{undoAll, layBytes}
-use Rattle.recovery.proofs.Byte.{undo-length}
+use Rattle.recovery.specs.Replay.{redoAll, undoAll, layBytes}
+use Rattle.recovery.proofs.Byte.{redo-length, undo-length}
 use Rattle.log.specs.Group.{encodeGroup}
 use Rattle.log.proofs.Basics.{and-left, and-right}
 use Rattle.transaction.specs.Lists.{sumOf}
 use Rattle.transaction.specs.View.{usedBy, writesOf}
 use Rattle.transaction.specs.Rules.{covered, roomOf}
+use Rattle.transaction.specs.Steps.{returnWrites}
 use Rattle.store.specs.declared.State.{State}
 use Rattle.store.specs.State.{txsOf}
 use Rattle.store.specs.Rules.{tailLength, roomUsed}
-use Rattle.store.specs.Numbers.{txOf, beginChecks, writeChecks, readChecks, answerChecks, precommitChecks, abortChecks, settleChecks}
-use Rattle.store.specs.Calls.{readOf, precommitOf, abortOf, beginNumber, writeNumber, readNumber, appended}
+use Rattle.store.specs.Numbers.{txOf, beginChecks, writeChecks, readChecks, answerChecks, savepointChecks, goBackChecks, precommitChecks, abortChecks, settleChecks}
+use Rattle.store.specs.Calls.{readOf, precommitOf, abortOf, beginNumber, writeNumber, readNumber, goBackNumber, appended}
 use Rattle.store.proofs.Calling.{begin-done, begin-refused, write-done, write-refused, read-refused, answer-done, answer-refused}
-use Rattle.store.proofs.Calling.{precommit-done, precommit-refused, abort-done, abort-refused, settle-done, settle-refused}
-use Rattle.history.specs.Calls.{begin, write, read, readAnswer, precommit, abort, settle, part, World, Stepped}
+use Rattle.store.proofs.Calling.{savepoint-done, savepoint-refused, go-back-done, go-back-refused, precommit-done, precommit-refused, abort-done, abort-refused, settle-done, settle-refused}
+use Rattle.history.specs.Calls.{begin, write, read, readAnswer, savepoint, goBack, precommit, abort, settle, part, World, Stepped}
 use Rattle.history.specs.Calls.{returned, changed, stepOf}
 use Rattle.history.proofs.Padded.{padded, padded-log, numberOf, shared-number, padded-append}
 use Rattle.history.proofs.Quick.{widened, Lengths, follows, here, beginQuick, writeQuick, readQuick, answerQuick}
-use Rattle.history.proofs.Quick.{precommitQuick, abortQuick, settleQuick}
+use Rattle.history.proofs.Quick.{savepointQuick, goBackQuick, precommitQuick, abortQuick, settleQuick}
 use Rattle.history.proofs.QuickRight.{Right, decide, tested, done-right}
 
 module _ (d m bs : List ℕ) (s : State) (l : Lengths d m bs) where
@@ -82,6 +83,27 @@ module _ (d m bs : List ℕ) (s : State) (l : Lengths d m bs) where
       decide (returned w _) n _ _
       (λ z. (ap (returned w) (answer-done s m t (record { 0 = id }) a k (e ∙ z)), l))
       (λ h. (ap (returned w) (answer-refused s m t (record { 0 = id }) a k n e h), l))
+
+  pub savepoint-right : (id name : ℕ) → Right (stepOf (savepoint id name) w) (savepointQuick d m bs s id name)
+  unfolding stepOf
+  savepoint-right id name =
+      let n = numberOf s bs (savepointChecks s id name) in
+      let e = shared-number s m bs (savepointChecks s id name) (l .memory) (l .tail) in
+      decide (returned w _) n _ _
+      (λ z. (ap (returned w) (savepoint-done s m t (record { 0 = id }) name (e ∙ z)), l))
+      (λ h. (ap (returned w) (savepoint-refused s m t (record { 0 = id }) name n e h), l))
+
+  pub go-back-right : (id name : ℕ) → Right (stepOf (goBack id name) w) (goBackQuick d m bs s id name)
+  unfolding stepOf
+  go-back-right id name =
+      let cs = goBackChecks s (roomUsed s bs) id name in
+      let n = numberOf s bs cs in
+      let e : goBackNumber s m t (record { 0 = id }) name ≡ n = rw room (shared-number s m bs cs (l .memory) (l .tail)) in
+      let ws = returnWrites (txOf s id) name in
+      let l' : Lengths d (redoAll layBytes ws m) bs = record { disk = l .disk; memory = redo-length 4096 m (l .memory) ws; tail = l .tail } in
+      decide (changed w _) n _ _
+      (λ z. (ap (changed w) (go-back-done s m t (record { 0 = id }) name (e ∙ z)), l'))
+      (λ h. (ap (changed w) (go-back-refused s m t (record { 0 = id }) name n e h), l))
 
   pub settle-right : (id : ℕ) → Right (stepOf (settle id) w) (settleQuick d m bs s id)
   unfolding stepOf

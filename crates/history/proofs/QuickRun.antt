@@ -4,12 +4,12 @@ use mathlib.Core.List.{List, [], _∷_}
 use mathlib.Core.Option.{Option, none, some}
 use mathlib.Core.Path.{_≡_, refl, ap, _∙_}
 use Rattle.store.specs.declared.State.{State}
-use Rattle.history.specs.Calls.{Call, begin, write, read, readAnswer, precommit, abort, flush, settle, checkpoint, restart}
+use Rattle.history.specs.Calls.{Call, begin, write, read, readAnswer, savepoint, goBack, precommit, abort, flush, settle, checkpoint, restart}
 use Rattle.history.specs.Calls.{Reply, Stepped, stepOf, Ran, andRan, runOf}
 use Rattle.history.proofs.Quick.{Short, widened, Lengths, LengthsOf, Went, here, beginQuick, writeQuick, readQuick, answerQuick}
-use Rattle.history.proofs.Quick.{precommitQuick, abortQuick, flushQuick, settleQuick, checkpointQuick, restartQuick}
+use Rattle.history.proofs.Quick.{savepointQuick, goBackQuick, precommitQuick, abortQuick, flushQuick, settleQuick, checkpointQuick, restartQuick}
 use Rattle.history.proofs.QuickRight.{Right}
-use Rattle.history.proofs.QuickMemory.{begin-right, write-right, read-right, answer-right, precommit-right, abort-right, settle-right}
+use Rattle.history.proofs.QuickMemory.{begin-right, write-right, read-right, answer-right, savepoint-right, go-back-right, precommit-right, abort-right, settle-right}
 use Rattle.history.proofs.QuickStores.{flush-right, checkpoint-right}
 use Rattle.history.proofs.QuickRestart.{restart-right}
 
@@ -24,6 +24,8 @@ quickly begin = record { go = beginQuick; right = begin-right }
 quickly (write id a new) = record { go = λ d m bs s. writeQuick d m bs s id a new; right = λ d m bs s l. write-right d m bs s l id a new }
 quickly (read id a k) = record { go = λ d m bs s. readQuick d m bs s id a k; right = λ d m bs s l. read-right d m bs s l id a k }
 quickly (readAnswer id a k) = record { go = λ d m bs s. answerQuick d m bs s id a k; right = λ d m bs s l. answer-right d m bs s l id a k }
+quickly (savepoint id name) = record { go = λ d m bs s. savepointQuick d m bs s id name; right = λ d m bs s l. savepoint-right d m bs s l id name }
+quickly (goBack id name) = record { go = λ d m bs s. goBackQuick d m bs s id name; right = λ d m bs s l. go-back-right d m bs s l id name }
 quickly (precommit id) = record { go = λ d m bs s. precommitQuick d m bs s id; right = λ d m bs s l. precommit-right d m bs s l id }
 quickly (abort id) = record { go = λ d m bs s. abortQuick d m bs s id; right = λ d m bs s l. abort-right d m bs s l id }
 quickly (flush k a) = record { go = λ d m bs s. flushQuick d m bs s k a; right = λ d m bs s l. flush-right d m bs s l k a }

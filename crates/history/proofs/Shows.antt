@@ -18,20 +18,20 @@ use Rattle.store.specs.declared.State.{State}
 use Rattle.store.specs.State.{unrecovered}
 use Rattle.store.specs.Answer.{Told}
 use Rattle.store.specs.Rules.{roomUsed, unfit}
-use Rattle.store.specs.Numbers.{Check, firstNumber, sharedChecks, beginChecks, writeChecks, answerChecks, precommitChecks, abortChecks, settleChecks}
-use Rattle.store.specs.Calls.{Outcome, beginNumber, writeNumber, precommitNumber, abortNumber, settleNumber, answerNumber, appended}
+use Rattle.store.specs.Numbers.{Check, firstNumber, sharedChecks, beginChecks, writeChecks, answerChecks, savepointChecks, goBackChecks, precommitChecks, abortChecks, settleChecks}
+use Rattle.store.specs.Calls.{Outcome, beginNumber, writeNumber, precommitNumber, abortNumber, settleNumber, answerNumber, savepointNumber, goBackNumber, appended}
 use Rattle.store.specs.Stored.{DiskOutcome}
 use Rattle.store.specs.Flush.{flushPlan, flushOf}
 use Rattle.store.specs.Checkpoint.{checkpointPlan, checkpointOf}
 use Rattle.store.specs.View.{live}
-use Rattle.store.proofs.Calling.{begin-refused, write-refused, precommit-refused, abort-refused, settle-refused, answer-refused}
+use Rattle.store.proofs.Calling.{begin-refused, write-refused, precommit-refused, abort-refused, settle-refused, answer-refused, savepoint-refused, go-back-refused}
 use Rattle.store.proofs.Storing.{diskNumber, stored-refused}
 use Rattle.store.proofs.Appending.{appended-log}
 use Rattle.store.proofs.Stepping.{SizedState}
 use Rattle.store.proofs.Fits.{Fit}
 use Rattle.store.proofs.Views.{Appends, tail-zeros}
 use Rattle.disk.specs.Layout.{logFrom}
-use Rattle.history.specs.Calls.{Call, begin, write, read, readAnswer, precommit, abort, flush, settle, checkpoint, World, Stepped, returned, changed}
+use Rattle.history.specs.Calls.{Call, begin, write, read, readAnswer, savepoint, goBack, precommit, abort, flush, settle, checkpoint, World, Stepped, returned, changed}
 use Rattle.history.specs.Calls.{stored, stepOf}
 use Rattle.history.specs.Demand.{eventOf}
 use Rattle.history.proofs.Padded.{padded, padded-append}
@@ -115,6 +115,18 @@ module _ (w : World) where
       let e = answer-refused (w .state) (w .memory) (w .tail) (record { 0 = id }) a k _ refl h in
       record { event = ap (λ (r : Told). eventOf (readAnswer id a k) (returned w r .reply)) e; world = ap (λ (r : Told). returned w r .world) e }
 
+  pub savepoint-refuses : (id name : ℕ) → (savepointNumber (w .state) (w .memory) (w .tail) (record { 0 = id }) name ≡ 0 → ⊥) → Refuses w (savepoint id name)
+  unfolding stepOf
+  savepoint-refuses id name h =
+      let e = savepoint-refused (w .state) (w .memory) (w .tail) (record { 0 = id }) name _ refl h in
+      record { event = ap (λ (r : Told). eventOf (savepoint id name) (returned w r .reply)) e; world = ap (λ (r : Told). returned w r .world) e }
+
+  pub go-back-refuses : (id name : ℕ) → (goBackNumber (w .state) (w .memory) (w .tail) (record { 0 = id }) name ≡ 0 → ⊥) → Refuses w (goBack id name)
+  unfolding stepOf
+  go-back-refuses id name h =
+      let e = go-back-refused (w .state) (w .memory) (w .tail) (record { 0 = id }) name _ refl h in
+      record { event = ap (λ (o : Outcome). eventOf (goBack id name) (changed w o .reply)) e; world = ap (λ (o : Outcome). changed w o .world) e }
+
   pub precommit-refuses : (id : ℕ) → (precommitNumber (w .state) (w .memory) (w .tail) (record { 0 = id }) ≡ 0 → ⊥) → Refuses w (precommit id)
   unfolding stepOf
   precommit-refuses id h =
@@ -175,6 +187,12 @@ module _ (w : World) (r : Resting w) where
 
   pub answer-idle : (id a k : ℕ) → Refuses w (readAnswer id a k)
   answer-idle id a k = answer-refuses w id a k (never (answerChecks (w .state) id a k))
+
+  pub savepoint-idle : (id name : ℕ) → Refuses w (savepoint id name)
+  savepoint-idle id name = savepoint-refuses w id name (never (savepointChecks (w .state) id name))
+
+  pub go-back-idle : (id name : ℕ) → Refuses w (goBack id name)
+  go-back-idle id name = go-back-refuses w id name (never (goBackChecks (w .state) (roomUsed (w .state) (w .tail)) id name))
 
   pub precommit-idle : (id : ℕ) → Refuses w (precommit id)
   precommit-idle id = precommit-refuses w id (never (precommitChecks (w .state) id))

@@ -9,7 +9,7 @@ use Rattle.recovery.specs.Group.{groupsSize, lastCsn}
 use Rattle.recovery.specs.Lists.{All}
 use Rattle.recovery.specs.Ledger.{Event, settled, Commit, Ledger, noLedger, committedIn, latest}
 use Rattle.recovery.specs.Machine.{Disk, standingBefore, standingIn, Live, System, down, up, diskOf, openingDisk, undoneBy, Step, stays, begins}
-use Rattle.recovery.specs.Machine.{writes, precommits, rollsBack, flushes, flushIsCut, settles, checkpoints, checkpointIsCut, restarts, restartIsCut, Run, opened, next}
+use Rattle.recovery.specs.Machine.{writes, setsSavepoint, goesBack, precommits, rollsBack, flushes, flushIsCut, settles, checkpoints, checkpointIsCut, restarts, restartIsCut, Run, opened, next}
 use Rattle.recovery.specs.Claim.{commits, layCommits, Numbered}
 use Rattle.recovery.proofs.Groups.{lastCsn-append}
 use Rattle.recovery.proofs.Numbers.{Numbers}
@@ -25,19 +25,20 @@ use Rattle.disk.specs.Layout.{logFrom}
 use Rattle.disk.specs.Examine.{examineOf}
 use Rattle.disk.specs.Restart.{restartOf}
 use Rattle.disk.specs.Enough.{Enough}
-use Rattle.history.specs.Calls.{Call, begin, write, read, readAnswer, precommit, abort, flush, settle, checkpoint, restart, told, World, stepOf}
+use Rattle.history.specs.Calls.{Call, begin, write, read, readAnswer, savepoint, goBack, precommit, abort, flush, settle, checkpoint, restart, told, World, stepOf}
 use Rattle.history.specs.Demand.{eventOf, Happening, called, powerFails, Watched, happen, happenAll, opening, LatestDurable, Survives, Demand3}
 use Rattle.history.proofs.OnDisk.{Start, opens, OnDisk, fresh, fresh-shows, end-shown, memory-shown}
 use Rattle.history.proofs.Shows.{LiveOn, Beside, awake, rests, Shows, FollowsBy, refused-follows, read-refuses}
-use Rattle.history.proofs.Shows.{begin-idle, write-idle, answer-idle, precommit-idle, abort-idle, settle-idle, flush-idle, checkpoint-idle}
-use Rattle.history.proofs.MemorySteps.{begin-follows, write-follows, answer-follows, precommit-follows, abort-follows, settle-follows}
+use Rattle.history.proofs.Shows.{begin-idle, write-idle, answer-idle, savepoint-idle, go-back-idle, precommit-idle, abort-idle, settle-idle, flush-idle, checkpoint-idle}
+use Rattle.history.proofs.MemorySteps.{begin-follows, write-follows, answer-follows, savepoint-follows, go-back-follows, precommit-follows, abort-follows, settle-follows}
 use Rattle.history.proofs.FlushSteps.{flush-follows}
 use Rattle.history.proofs.CheckpointSteps.{checkpoint-follows}
 use Rattle.history.proofs.RestartSteps.{log-left, restart-made, restart-follows}
 
--- a store before its first call, and an empty ledger
-abbrev pub openedOn : List ℕ → List ℕ → List ℕ → Watched
-openedOn disk memory tail = record { world = record { disk = disk; memory = memory; tail = tail; state = unrecovered }; ledger = noLedger }
+-- a store before its first call, and an empty ledger that starts from a memory
+abbrev pub openedOn : List ℕ → List ℕ → List ℕ → List ℕ → Watched
+openedOn opening disk memory tail =
+    record { world = record { disk = disk; memory = memory; tail = tail; state = unrecovered }; ledger = noLedger opening }
 
 module _ (from : Start) where
   -- ---- what the machine's invariant says of a disk
@@ -79,6 +80,8 @@ module _ (from : Start) where
   follows begin w s k r o (rests x) = refused-follows s w begin (o, rests x) (begin-idle w x)
   follows (write id a bs) w s k r o (rests x) = refused-follows s w (write id a bs) (o, rests x) (write-idle w x id a bs)
   follows (readAnswer id a n) w s k r o (rests x) = refused-follows s w (readAnswer id a n) (o, rests x) (answer-idle w x id a n)
+  follows (savepoint id name) w s k r o (rests x) = refused-follows s w (savepoint id name) (o, rests x) (savepoint-idle w x id name)
+  follows (goBack id name) w s k r o (rests x) = refused-follows s w (goBack id name) (o, rests x) (go-back-idle w x id name)
   follows (precommit id) w s k r o (rests x) = refused-follows s w (precommit id) (o, rests x) (precommit-idle w x id)
   follows (abort id) w s k r o (rests x) = refused-follows s w (abort id) (o, rests x) (abort-idle w x id)
   follows (settle id) w s k r o (rests x) = refused-follows s w (settle id) (o, rests x) (settle-idle w x id)
@@ -87,6 +90,8 @@ module _ (from : Start) where
   follows begin w s k r o (awake {d} {l} v) = begin-follows w d l o v
   follows (write id a bs) w s k r o (awake {d} {l} v) = write-follows w d l o v id a bs
   follows (readAnswer id a n) w s k r o (awake {d} {l} v) = answer-follows w d l o v id a n
+  follows (savepoint id name) w s k r o (awake {d} {l} v) = savepoint-follows w d l o v id name
+  follows (goBack id name) w s k r o (awake {d} {l} v) = go-back-follows w d l o v id name
   follows (precommit id) w s k r o (awake {d} {l} v) = precommit-follows w d l o v id
   follows (abort id) w s k r o (awake {d} {l} v) = abort-follows w d l o v id
   follows (settle id) w s k r o (awake {d} {l} v) = settle-follows w d l o v id
@@ -101,14 +106,14 @@ module _ (from : Start) where
     pub run : Run (opens from) system (k .ledger)
     pub shows : Shows from (k .world) system
 
-  pub happens : (h : Happening) (k : Watched) → Reached k → Reached (happen h k)
+  unfoldable pub happens : (h : Happening) (k : Watched) → Reached k → Reached (happen h k)
   happens (called c) k r =
       let f = follows c (k .world) (r .system) (k .ledger) (r .run) (r .shows .0) (r .shows .1) in
       record { system = f .next; run = next (r .run) (f .step); shows = f .shows }
   happens (powerFails m t lm lt) k r =
       record { system = r .system; run = r .run; shows = (r .shows .0, rests (record { memory = lm; tail = lt; state = refl })) }
 
-  pub all-happen : (hs : List Happening) (k : Watched) → Reached k → Reached (happenAll hs k)
+  unfoldable pub all-happen : (hs : List Happening) (k : Watched) → Reached k → Reached (happenAll hs k)
   all-happen [] k r = r
   all-happen (h ∷ hs) k r = all-happen hs (happen h k) (happens h k r)
 
@@ -123,6 +128,8 @@ module _ (from : Start) where
   step-settles s t e k id r (stays s′) q = clash (cc)
   step-settles s t e k id r (begins d l room) q = clash (cc)
   step-settles s t e k id r (writes d l x w listed run within free room) q = clash (cc)
+  step-settles s t e k id r (setsSavepoint d l x name listed run) q = clash (cc)
+  step-settles s t e k id r (goesBack d l x name n listed run set room) q = clash (cc)
   step-settles s t e k id r (precommits d l x listed run) q = clash (cc)
   step-settles s t e k id r (rollsBack d l x listed run) q = clash (cc)
   step-settles s t e k id r (flushes d l n allowed enough) q = clash (cc)
@@ -180,9 +187,9 @@ module _ (from : Start) where
 
   -- whatever happens to a store whose disk shows the opening one, and whatever memory and tail hold at first
   pub survives : (disk memory tail : List ℕ) → OnDisk from disk (openingDisk (opens from)) → length memory ≡ 4096 → length tail ≡ 16384
-      → (hs : List Happening) → SurvivesFrom (happenAll hs (openedOn disk memory tail))
+      → (hs : List Happening) → SurvivesFrom (happenAll hs (openedOn (from .memory) disk memory tail))
   survives disk memory tail o lm lt hs =
-      claimed (happenAll hs (openedOn disk memory tail)) (all-happen hs (openedOn disk memory tail)
+      claimed (happenAll hs (openedOn (from .memory) disk memory tail)) (all-happen hs (openedOn (from .memory) disk memory tail)
       (record { system = down (openingDisk (opens from)); run = opened; shows = (o, rests (record { memory = lm; tail = lt; state = refl })) }))
 
 -- a fresh disk opens from zeros and 0

@@ -6,18 +6,20 @@ use lib.ListN.{replicate}
 use Rattle.store.specs.declared.State.{State}
 use Rattle.store.specs.State.{unrecovered}
 use Rattle.store.specs.Answer.{Word, Told}
-use Rattle.store.specs.Calls.{Outcome, beginOf, writeOf, readOf, readAnswerOf, precommitOf, abortOf, settleOf}
+use Rattle.store.specs.Calls.{Outcome, beginOf, writeOf, readOf, readAnswerOf, savepointOf, goBackOf, precommitOf, abortOf, settleOf}
 use Rattle.store.specs.Stored.{DiskOutcome}
 use Rattle.store.specs.Flush.{flushOf}
 use Rattle.store.specs.Checkpoint.{checkpointOf}
 use Rattle.disk.specs.Restart.{restartOf}
 
--- the nine calls and read's sister (`readAnswer`), with their arguments
+-- the nine calls, read's sister (`readAnswer`), setting a savepoint and going back (document 02, A.7), with their arguments
 pub data Call : Type 0 where
   begin : Call
   write : (id addr : ℕ) (bytes : List ℕ) → Call
   read : (id addr len : ℕ) → Call
   readAnswer : (id addr len : ℕ) → Call
+  savepoint : (id name : ℕ) → Call
+  goBack : (id name : ℕ) → Call
   precommit : (id : ℕ) → Call
   abort : (id : ℕ) → Call
   flush : (groups allowed : ℕ) → Call
@@ -71,6 +73,8 @@ stepOf begin w = returned w (beginOf (w .state) (w .memory) (w .tail))
 stepOf (write id addr bytes) w = changed w (writeOf (w .state) (w .memory) (w .tail) (record { 0 = id }) addr bytes)
 stepOf (read id addr len) w = record { reply = part (readOf (w .state) (w .memory) (w .tail) (record { 0 = id }) addr len); world = w }
 stepOf (readAnswer id addr len) w = returned w (readAnswerOf (w .state) (w .memory) (w .tail) (record { 0 = id }) addr len)
+stepOf (savepoint id name) w = returned w (savepointOf (w .state) (w .memory) (w .tail) (record { 0 = id }) name)
+stepOf (goBack id name) w = changed w (goBackOf (w .state) (w .memory) (w .tail) (record { 0 = id }) name)
 stepOf (precommit id) w = changed w (precommitOf (w .state) (w .memory) (w .tail) (record { 0 = id }))
 stepOf (abort id) w = changed w (abortOf (w .state) (w .memory) (w .tail) (record { 0 = id }))
 stepOf (flush groups allowed) w = stored (flushOf (w .state) (w .disk) (w .memory) (w .tail) groups allowed)

@@ -15,7 +15,7 @@ use Rattle.disk.specs.Layout.{logFrom}
 use Rattle.disk.specs.Open.{openOf}
 use Rattle.text.specs.{ascii}
 use Rattle.listing.specs.Listing.{restartWhole, listingOf}
-use Rattle.history.specs.Calls.{Call, begin, write, read, readAnswer, precommit, abort, flush, settle, checkpoint, restart}
+use Rattle.history.specs.Calls.{Call, begin, write, read, readAnswer, savepoint, goBack, precommit, abort, flush, settle, checkpoint, restart}
 use Rattle.history.specs.Calls.{Reply, told, part, World, freshWorld, Ran, runOf}
 
 -- what is told, call by call, and what is looked at in the end
@@ -95,14 +95,14 @@ justDone = told done 0 0
 abbrev pub refusedBy : ℕ → Reply
 refusedBy n = told (refused n) 0 0
 
--- n times: a transaction without writes, flushed and settled, the first with id and commit number i; then one more begin
-abbrev pub rounds : ℕ → ℕ → List Call
-rounds zero i = begin ∷ []
-rounds (suc n) i = begin ∷ precommit i ∷ flush 1 8 ∷ settle i ∷ rounds n (suc i)
+-- n times: a transaction without writes, flushed and settled, the first with id and commit number i; then the calls that follow
+abbrev pub rounds : ℕ → ℕ → List Call → List Call
+rounds zero i cs = cs
+rounds (suc n) i cs = begin ∷ precommit i ∷ flush 1 8 ∷ settle i ∷ rounds n (suc i) cs
 
-abbrev pub roundReplies : ℕ → ℕ → List Reply
-roundReplies zero i = refusedBy 13 ∷ []
-roundReplies (suc n) i = told done i 0 ∷ told done i 0 ∷ told done 0 8 ∷ justDone ∷ roundReplies n (suc i)
+abbrev pub roundReplies : ℕ → ℕ → List Reply → List Reply
+roundReplies zero i rs = rs
+roundReplies (suc n) i rs = told done i 0 ∷ told done i 0 ∷ told done 0 8 ∷ justDone ∷ roundReplies n (suc i) rs
 
 -- so many fill the log: 8 bytes each
 abbrev pub filling : ℕ
@@ -134,6 +134,13 @@ oneTx = 1 ∷ replicate 11 0 ++ (1 ∷ 1 ∷ [])
 -- id 1 in an image, running, with an undo record of 5, 6, 7 from 254 on, so over two pages
 abbrev pub crossingTx : List ℕ
 crossingTx = 0 ∷ 1 ∷ 1 ∷ 0 ∷ 0 ∷ 0 ∷ 0 ∷ 1 ∷ 0x00 ∷ 0xFE ∷ 0x03 ∷ 5 ∷ 6 ∷ 7 ∷ []
+
+-- a tried write, a checkpoint, a return to before it, and a precommit: two redo records and a commit record, 24 bytes
+abbrev pub tried : List Call
+tried = restart 16384 ∷ begin ∷ savepoint 1 7 ∷ write 1 10 (5 ∷ []) ∷ checkpoint 4122 ∷ goBack 1 7 ∷ precommit 1 ∷ []
+
+abbrev pub triedReplies : List Reply
+triedReplies = opened ∷ told done 1 0 ∷ justDone ∷ justDone ∷ told done 0 4122 ∷ justDone ∷ told done 1 0 ∷ []
 
 abbrev pub rows : List Row
 rows =
@@ -222,9 +229,9 @@ rows =
     }
     -- M8: 2,048 transactions without writes fill the log; the next begin is 13
     ∷ record {
-      calls = restart 16384 ∷ rounds filling 1;
+      calls = restart 16384 ∷ rounds filling 1 (begin ∷ []);
       look = endOfLog;
-      expected = record { replies = opened ∷ roundReplies filling 1; seen = 16384 ∷ [] };
+      expected = record { replies = opened ∷ roundReplies filling 1 (refusedBy 13 ∷ []); seen = 16384 ∷ [] };
     }
     -- M9: of two groups one is flushed: settling the second is 14
     ∷ record {
@@ -357,6 +364,86 @@ rows =
     }
     ∷ []
 
+-- savepoints (document 02, A.7)
+abbrev pub savepointRows : List Row
+savepointRows =
+    -- "A checkpoint between mark and return must not let the tried line survive a restart": the current fails before the flush
+    record {
+      calls = tried ++ (restart 16384 ∷ []);
+      look = byteAt 10;
+      expected = record { replies = triedReplies ++ (told done 1 16384 ∷ []); seen = 0 ∷ [] };
+    }
+    -- in it
+    ∷ record {
+      calls = tried ++ (flush 1 23 ∷ restart 16384 ∷ []);
+      look = byteAt 10;
+      expected = record { replies = triedReplies ++ (told cut 0 23 ∷ told done 1 16384 ∷ []); seen = 0 ∷ [] };
+    }
+    -- and after it: the log has the tried write, and the old byte after it
+    ∷ record {
+      calls = tried ++ (flush 1 24 ∷ restart 16360 ∷ []);
+      look = both (byteAt 10) (logFront 25);
+      expected = record {
+        replies = triedReplies ++ (told done 0 24 ∷ told done 0 16360 ∷ []);
+        seen =
+            0 ∷ 0x01 ∷ 0x00 ∷ 0x01 ∷ 0x00 ∷ 0x0A ∷ 0x01 ∷ 5 ∷ 0x01 ∷ 0x01 ∷ 0x00 ∷ 0x01 ∷ 0x00 ∷ 0x0A ∷ 0x01 ∷ 0 ∷ 0x01
+            ∷ 0x02 ∷ 0x00 ∷ 0x01 ∷ 0x00 ∷ 0x00 ∷ 0x00 ∷ 0x01 ∷ 0x02 ∷ 0 ∷ [];
+      };
+    }
+    -- eight later writes can be taken back, nine can't: 10
+    ∷ record {
+      calls = restart 16384 ∷ begin ∷ savepoint 1 255 ∷ replicate 8 (write 1 10 (5 ∷ [])) ++ (goBack 1 255 ∷ write 1 10 (5 ∷ []) ∷ []);
+      look = byteAt 10;
+      expected = record { replies = opened ∷ told done 1 0 ∷ replicate 10 justDone ++ (refusedBy 10 ∷ []); seen = 0 ∷ [] };
+    }
+    ∷ record {
+      calls = restart 16384 ∷ begin ∷ savepoint 1 255 ∷ replicate 9 (write 1 10 (5 ∷ [])) ++ (goBack 1 255 ∷ []);
+      look = byteAt 10;
+      expected = record { replies = opened ∷ told done 1 0 ∷ replicate 10 justDone ++ (refusedBy 10 ∷ []); seen = 5 ∷ [] };
+    }
+    -- 2,041 transactions leave 56 bytes of the log, two running ones with writes of 6 and 7 bytes 13: one too few to take back the longer (13), and just enough
+    -- for the other
+    ∷ record {
+      calls =
+          restart 16384
+          ∷ rounds 2041 1
+          (begin ∷ begin ∷ savepoint 2042 1 ∷ savepoint 2043 1 ∷ write 2042 10 (replicate 6 5) ∷ write 2043 20 (replicate 7 6) ∷ goBack 2043 1
+          ∷ goBack 2042 1
+          ∷ []);
+      look = both (byteAt 10) (byteAt 20);
+      expected = record {
+        replies =
+            opened ∷ roundReplies 2041 1 (told done 2042 0 ∷ told done 2043 0 ∷ replicate 4 justDone ++ (refusedBy 13 ∷ justDone ∷ []));
+        seen = 0 ∷ 6 ∷ [];
+      };
+    }
+    -- a name set again moves: the write between the two stays
+    ∷ record {
+      calls = restart 16384 ∷ begin ∷ savepoint 1 1 ∷ write 1 10 (5 ∷ []) ∷ savepoint 1 1 ∷ write 1 10 (6 ∷ []) ∷ goBack 1 1 ∷ [];
+      look = byteAt 10;
+      expected = record { replies = opened ∷ told done 1 0 ∷ replicate 5 justDone; seen = 5 ∷ [] };
+    }
+    -- names: 0 and a fifth are 19, one of four moves; going back to 0 and to one not set is 18; a committing transaction has none: 7
+    ∷ record {
+      calls =
+          restart 16384 ∷ begin ∷ goBack 1 3 ∷ savepoint 1 0 ∷ map (savepoint 1) (3 ∷ 4 ∷ 5 ∷ 255 ∷ []) ++ (savepoint 1 6 ∷ savepoint 1 5 ∷ goBack 1 0
+          ∷ goBack 1 6 ∷ goBack 1 3 ∷ savepoint 2 0 ∷ goBack 2 0 ∷ precommit 1 ∷ savepoint 1 0 ∷ goBack 1 0 ∷ []);
+      look = nowhere;
+      expected = record {
+        replies =
+            opened ∷ told done 1 0 ∷ refusedBy 18 ∷ refusedBy 19 ∷ replicate 4 justDone ++ (refusedBy 19 ∷ justDone ∷ refusedBy 18
+            ∷ refusedBy 18 ∷ justDone ∷ refusedBy 6 ∷ refusedBy 6 ∷ told done 1 0 ∷ refusedBy 7 ∷ refusedBy 7 ∷ []);
+        seen = [];
+      };
+    }
+    -- returns in a row: each takes back the writes of those before it as well, 1, 2, 4 and 8; the fifth would be sixteen more
+    ∷ record {
+      calls = restart 16384 ∷ begin ∷ savepoint 1 1 ∷ write 1 10 (5 ∷ []) ∷ replicate 5 (goBack 1 1);
+      look = byteAt 10;
+      expected = record { replies = opened ∷ told done 1 0 ∷ replicate 6 justDone ++ (refusedBy 10 ∷ []); seen = 0 ∷ [] };
+    }
+    ∷ []
+
 -- ---- what the definitions show
 
 abbrev pub showing : (World → List ℕ) → Ran → Shown
@@ -366,5 +453,8 @@ abbrev pub shown : Row → Shown
 shown r = showing (r .look) (runOf (r .calls) freshWorld)
 
 -- each row shows what it should
+abbrev pub ShowsAll : List Row → Type 0
+ShowsAll rs = map shown rs ≡ map (λ r. r .expected) rs
+
 abbrev pub Worked : Type 0
-Worked = map shown rows ≡ map (λ r. r .expected) rows
+Worked = ShowsAll rows × ShowsAll savepointRows

@@ -7,9 +7,9 @@ use mathlib.Core.Path.{_≡_}
 use lib.ListN.{length, replicate}
 use Rattle.recovery.specs.Group.{groupsSize}
 use Rattle.recovery.specs.Lists.{All}
-use Rattle.recovery.specs.Ledger.{Event, unchanged, begun, wrote, precommitted, rolledBack, flushed, settled, restarted, cut}
-use Rattle.recovery.specs.Ledger.{Commit, Ledger, noLedger, committedIn, latest, enter}
-use Rattle.recovery.specs.Claim.{commits, layCommits, Numbered}
+use Rattle.recovery.specs.Ledger.{Event, unchanged, begun, wrote, savepointSet, wentBack, precommitted, rolledBack, flushed, settled, restarted, cut}
+use Rattle.recovery.specs.Ledger.{Commit, Ledger, noLedger, committedIn, layCommits, latest, enter}
+use Rattle.recovery.specs.Claim.{commits, Numbered}
 use Rattle.log.specs.Log.{readLog}
 use Rattle.store.specs.Answer as words
 use Rattle.store.specs.State.{unrecovered}
@@ -17,7 +17,7 @@ use Rattle.disk.specs.Layout.{logFrom}
 use Rattle.disk.specs.Examine.{examineOf}
 use Rattle.disk.specs.Restart.{restartOf}
 use Rattle.disk.specs.Enough.{Enough}
-use Rattle.history.specs.Calls.{Call, begin, write, read, readAnswer, precommit, abort, flush, settle, checkpoint, restart}
+use Rattle.history.specs.Calls.{Call, begin, write, read, readAnswer, savepoint, goBack, precommit, abort, flush, settle, checkpoint, restart}
 use Rattle.history.specs.Calls.{Reply, told, part, World, stepOf}
 
 -- ---- what the ledger is fed of a call
@@ -28,6 +28,8 @@ doneEvent begin id = begun id
 doneEvent (write id addr bytes) value = wrote id (record { addr = addr; bytes = bytes })
 doneEvent (read id addr len) value = unchanged
 doneEvent (readAnswer id addr len) value = unchanged
+doneEvent (savepoint id name) value = savepointSet id name
+doneEvent (goBack id name) value = wentBack id name
 doneEvent (precommit id) csn = precommitted id csn
 doneEvent (abort id) value = rolledBack id
 doneEvent (flush groups allowed) value = flushed groups allowed
@@ -41,6 +43,8 @@ cutEvent begin = unchanged
 cutEvent (write id addr bytes) = unchanged
 cutEvent (read id addr len) = unchanged
 cutEvent (readAnswer id addr len) = unchanged
+cutEvent (savepoint id name) = unchanged
+cutEvent (goBack id name) = unchanged
 cutEvent (precommit id) = unchanged
 cutEvent (abort id) = unchanged
 cutEvent (flush groups allowed) = flushed groups allowed
@@ -76,9 +80,9 @@ abbrev pub happenAll : List Happening → Watched → Watched
 happenAll [] k = k
 happenAll (h ∷ hs) k = happenAll hs (happen h k)
 
--- "an all-zero disk"; memory and tail hold anything, the ledger is empty. Until a restart is done, number 2 refuses every other call.
+-- "an all-zero disk"; memory and tail hold anything, the ledger is empty and starts from zeros. Until a restart is done, number 2 refuses every other call.
 abbrev pub opening : List ℕ → List ℕ → Watched
-opening memory tail = record { world = record { disk = replicate 33691 0; memory = memory; tail = tail; state = unrecovered }; ledger = noLedger }
+opening memory tail = record { world = record { disk = replicate 33691 0; memory = memory; tail = tail; state = unrecovered }; ledger = noLedger (replicate 4096 0) }
 
 -- ---- what is claimed
 

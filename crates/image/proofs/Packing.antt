@@ -33,7 +33,7 @@ packed-outline (saved id status csn us) e = ap (outline id status csn) (packed-r
 pub packed-transaction : (t : Saved) → UndosOk (undosIn t) → viewOf (packedTx t) ≡ transactionOf t
 unfolding loaded emptyRecords
 packed-transaction (saved id status csn us) e =
-    ap (λ (ws : List Write). record { id = id; committing = eqb status 2; csn = csn; undo = ws; redo = [] }) (packed-writes us e)
+    ap (λ (ws : List Write). record { id = id; committing = eqb status 2; csn = csn; undo = ws; redo = []; savepoints = [] }) (packed-writes us e)
 
 -- each transaction's records keep the rules
 abbrev pub TxsOk : List Saved → Type 0

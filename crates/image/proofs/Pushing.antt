@@ -23,7 +23,7 @@ use Rattle.transaction.proofs.Lists.{up-same}
 use Rattle.transaction.proofs.RangeLaws.{in-range}
 use Rattle.transaction.proofs.Writes.{writes-up, bytes-length}
 use Rattle.transaction.proofs.Pushed.{Sized, empty-sized, push-sized, pushed-count, pushed-writes}
-use Rattle.image.specs.Content.{rangeOf}
+use Rattle.transaction.specs.View.{rangeOf}
 use Rattle.image.specs.Pack.{pushedAll}
 use Rattle.image.proofs.Lists.{up-map}
 

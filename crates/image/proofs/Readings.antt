@@ -18,7 +18,7 @@ use Rattle.log.specs.Group.{andThen}
 use Rattle.log.proofs.Basics.{clash, and-left, and-right, and-both}
 use Rattle.transaction.specs.Lists.{every}
 use Rattle.transaction.specs.Rules.{rangeOk}
-use Rattle.image.specs.Content.{rangeOf}
+use Rattle.transaction.specs.View.{rangeOf}
 use Rattle.image.specs.Format.{undosSize}
 use Rattle.image.specs.Reading.{undoHere, firstUndo, readUndos}
 use Rattle.image.specs.Heads.{undoSize, undosEnd, undoStarts}

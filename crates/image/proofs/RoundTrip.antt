@@ -16,14 +16,14 @@ use Rattle.log.specs.Group.{andThen}
 use Rattle.log.proofs.RoundTrip.{joined2}
 use Rattle.transaction.specs.declared.Tx.{Tx}
 use Rattle.transaction.specs.Lists.{every}
-use Rattle.transaction.specs.View.{outline, viewOf}
+use Rattle.transaction.specs.View.{rangeOf, outline, viewOf}
 use Rattle.transaction.specs.Rules.{rangeOk}
 use Rattle.transaction.proofs.Lists.{up-same}
 use Rattle.transaction.proofs.RangeLaws.{counted, ranged}
 use Rattle.image.specs.declared.Image.{Image}
 use Rattle.image.specs.Slots.{slotAt, listed, outlineAt}
 use Rattle.image.specs.Rules.{imageOk, keepsRules}
-use Rattle.image.specs.Content.{Saved, saved, Content, savedAt, savedIn, contentOf, rangeOf, outlineIn, contentOk, transactionOf, transactionsIn}
+use Rattle.image.specs.Content.{Saved, saved, Content, savedAt, savedIn, contentOf, outlineIn, contentOk, transactionOf, transactionsIn}
 use Rattle.image.specs.Format.{encodeHead, encodeUndo, encodeUndos, encodeTx, encodeTxs, encodeContent, encodeImage, undosIn, txSize, imageSize}
 use Rattle.image.specs.Reading.{undoHere, firstUndo, readUndos, savedIf, readTx, onTx, readTxs, contentIf, readContent, memoryOf}
 use Rattle.image.specs.Pack.{packed}

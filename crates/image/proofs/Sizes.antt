@@ -11,13 +11,13 @@ use Rattle.log.proofs.Basics.{and-left, and-right}
 use Rattle.transaction.specs.declared.records.Records.{Records}
 use Rattle.transaction.specs.declared.Tx.{Tx}
 use Rattle.transaction.specs.Lists.{upFrom, every}
-use Rattle.transaction.specs.View.{rangesOf, writesOf, outline}
+use Rattle.transaction.specs.View.{rangesOf, rangeOf, writesOf, outline}
 use Rattle.transaction.specs.Rules.{rangeOk, headOk, recordsOk, outlineOk}
 use Rattle.transaction.proofs.RangeLaws.{in-range, counted, ranged}
 use Rattle.image.specs.declared.Image.{Image}
 use Rattle.image.specs.Slots.{slotAt}
 use Rattle.image.specs.Rules.{keepsRules}
-use Rattle.image.specs.Content.{Saved, saved, Content, savedAt, rangeOf, outlineIn, contentOk}
+use Rattle.image.specs.Content.{Saved, saved, Content, savedAt, outlineIn, contentOk}
 use Rattle.image.specs.Format.{encodeUndo, encodeUndos, encodeTx, encodeTxs, encodeContent, undosSize, txSize, txsSize, contentSize, imageSize}
 use Rattle.image.proofs.Rules.{rules-length, rules-each, image-count, undo-at}
 use Rattle.image.proofs.Pushing.{first-ranged, rest-ranged}

@@ -17,12 +17,13 @@ use Rattle.log.specs.Number.{be16, be32}
 use Rattle.log.specs.Group.{andThen}
 use Rattle.log.proofs.Basics.{clash, and-right, and-both}
 use Rattle.transaction.specs.Lists.{every}
+use Rattle.transaction.specs.View.{rangeOf}
 use Rattle.transaction.specs.Rules.{rangeOk, headOk, outlineOk}
 use Rattle.image.specs.declared.keys.Keys.{Keys}
 use Rattle.image.specs.declared.read.KeysRead.{KeysRead}
 use Rattle.image.specs.Rules.{distinct, outlinesOk, boundsOk}
 use Rattle.image.specs.Keys.{noKeys}
-use Rattle.image.specs.Content.{Saved, saved, Content, rangeOf, outlineIn, contentOk}
+use Rattle.image.specs.Content.{Saved, saved, Content, outlineIn, contentOk}
 use Rattle.image.specs.Format.{undosIn, undosSize, txSize, txsSize}
 use Rattle.image.specs.Reading.{undoHere, firstUndo, readUndos, savedIf, readTx, onTx, readTxs, contentIf, readContent, keepingRules, readImage}
 use Rattle.image.specs.Pack.{packed}

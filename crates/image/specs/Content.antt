@@ -9,7 +9,7 @@ use Rattle.recovery.specs.Group.{Write}
 use Rattle.recovery.specs.Transaction.{Tx as Transaction}
 use Rattle.transaction.specs.declared.Tx.{Tx}
 use Rattle.transaction.specs.Lists.{upFrom}
-use Rattle.transaction.specs.View.{Range, range, writesOf, Outline, outline, viewOf}
+use Rattle.transaction.specs.View.{writesOf, rangeOf, Outline, outline, viewOf}
 use Rattle.image.specs.declared.Image.{Image}
 use Rattle.image.specs.Slots.{slotAt, listed}
 use Rattle.image.specs.Rules.{imageOk}
@@ -49,19 +49,16 @@ contentOf i =
 
 -- ---- the image rules of a content
 
-abbrev pub rangeOf : Write → Range
-rangeOf w = range (w .addr) (length (w .bytes))
-
 abbrev pub outlineIn : Saved → Outline
 outlineIn (saved id status csn us) = outline id status csn (map rangeOf us)
 
 abbrev pub contentOk : Content → Bool
 contentOk c = imageOk (c .logend) (c .ondisk) (c .assigned) (c .lastid) (map outlineIn (c .txs))
 
--- ---- transactions as recovery has them: an image on disk holds no redo records
+-- ---- transactions as recovery has them: an image on disk holds no redo records and no savepoints
 
 abbrev pub transactionOf : Saved → Transaction
-transactionOf (saved id status csn us) = record { id = id; committing = eqb status statusCommitting; csn = csn; undo = us; redo = [] }
+transactionOf (saved id status csn us) = record { id = id; committing = eqb status statusCommitting; csn = csn; undo = us; redo = []; savepoints = [] }
 
 abbrev pub transactionsIn : Image → List Transaction
 transactionsIn i = map viewOf (listed (i .txs) (i .count))

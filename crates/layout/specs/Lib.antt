@@ -85,6 +85,10 @@ maxRecords = 16
 abbrev pub maxWrite : ℕ
 maxWrite = 32
 
+-- document 02, A.7: "Up to four marks"
+abbrev pub maxSavepoints : ℕ
+maxSavepoints = 4
+
 -- "status (1: 1 running, 2 committing)"
 abbrev pub statusRunning : ℕ
 statusRunning = 1

@@ -56,6 +56,9 @@ pub const MAX_RECORDS: usize = 16;
 
 pub const MAX_WRITE: usize = 32;
 
+// At most so many savepoints of a transaction (document 02, A.7).
+pub const MAX_SAVEPOINTS: usize = 4;
+
 // What a transaction is.
 pub const RUNNING: u8 = 1;
 

@@ -91,6 +91,7 @@ begin-keeps o d l k fits u = record {
             (put-off a (replay (layByte a) (d .after ++ l .tail) (baseAt o (d .before) a)) (getD (l .memory) a 0) (running (l .txs)) (new d l) []
             (refl, refl) (rw append-nil (b .live)));
       };
+  records = rw (runnings d l) (all-append (u .records) (cons {x = new d l} (record { olds = refl; within = nil }) nil));
   room = record { fits = u .room .fits; used = rw (runnings d l, reserved-append (running (l .txs)) (new d l ∷ [])) (omega arith) };
   numbers = u .numbers;
   ledger = record {
@@ -102,4 +103,5 @@ begin-keeps o d l k fits u = record {
     settled = u .ledger .settled;
     latests = rw (committings d l) (u .ledger .latests);
   };
+  opening = u .opening;
 }

@@ -89,7 +89,7 @@ laid-byte a w m h = sets-at a (w .bytes) m (w .addr) h
 -- a relation between two memories that each single write keeps is kept by all of it
 module _ {M N : Type 0} (layM : Write → M → M) (layN : Write → N → N) (Rel : M → N → Type 0)
     (step : (w : Write) (m : M) (n : N) → Rel m n → Rel (layM w m) (layN w n)) where
-  rel-redo : (ws : List Write) (m : M) (n : N) → Rel m n → Rel (redoAll layM ws m) (redoAll layN ws n)
+  pub rel-redo : (ws : List Write) (m : M) (n : N) → Rel m n → Rel (redoAll layM ws m) (redoAll layN ws n)
   rel-redo [] m n r = r
   rel-redo (w ∷ ws) m n r = rel-redo ws (layM w m) (layN w n) (step w m n r)
 
@@ -139,6 +139,9 @@ module _ (k : ℕ) (m : List ℕ) (lm : length m ≡ k) where
   pub undo-length : (ws : List Write) → length (undoAll layBytes ws m) ≡ k
   undo-length ws = rel-undo layBytes (λ w n. n) Long long-step ws m k lm
 
+  pub redo-length : (ws : List Write) → length (redoAll layBytes ws m) ≡ k
+  redo-length ws = rel-redo layBytes (λ w n. n) Long long-step ws m k lm
+
   pub replay-length : (gs : List Group) → length (replay layBytes gs m) ≡ k
   replay-length gs = rel-replay layBytes (λ w n. n) Long long-step gs m k lm
 
@@ -148,6 +151,9 @@ module _ (k : ℕ) (m : List ℕ) (lm : length m ≡ k) where
   module _ (a : ℕ) (h : a < k) where
     pub undo-byte : (ws : List Write) → getD (undoAll layBytes ws m) a 0 ≡ undoAll (layByte a) ws (getD m a 0)
     undo-byte ws = rel-undo layBytes (layByte a) (Shows k a) (shows-step k a) ws m (getD m a 0) (lm, h, refl) .2
+
+    pub redo-byte : (ws : List Write) → getD (redoAll layBytes ws m) a 0 ≡ redoAll (layByte a) ws (getD m a 0)
+    redo-byte ws = rel-redo layBytes (layByte a) (Shows k a) (shows-step k a) ws m (getD m a 0) (lm, h, refl) .2
 
     pub replay-byte : (gs : List Group) → getD (replay layBytes gs m) a 0 ≡ replay (layByte a) gs (getD m a 0)
     replay-byte gs = rel-replay layBytes (layByte a) (Shows k a) (shows-step k a) gs m (getD m a 0) (lm, h, refl) .2

@@ -1,4 +1,4 @@
--- Worked cases of recovery, M3 to M5 from the image on and four more: one table with one computed proof. And cases of number 9.
+-- Worked cases of recovery, M3 to M5 from the image on and seven more: one table with one computed proof. And cases of number 9.
 use mathlib.Core.Path.{_≡_, refl}
 use mathlib.Core.Bool.{Bool, true, false}
 use mathlib.Core.List.{List, [], _∷_}
@@ -25,15 +25,18 @@ zeros = replicate 4096 0
 abbrev pub byte10 : ℕ → Write
 byte10 b = record { addr = 10; bytes = b ∷ [] }
 
+abbrev pub byte11 : ℕ → Write
+byte11 b = record { addr = 11; bytes = b ∷ [] }
+
 abbrev memory10 : ℕ → List ℕ
 memory10 b = set zeros 10 b
 
 -- a transaction that wrote at address 10, over these old bytes, oldest first
 abbrev ran : ℕ → List Write → Tx
-ran id old = record { id = id; committing = false; csn = 0; undo = old; redo = [] }
+ran id old = record { id = id; committing = false; csn = 0; undo = old; redo = []; savepoints = [] }
 
 abbrev precommitted : ℕ → ℕ → List Write → Tx
-precommitted id csn old = record { id = id; committing = true; csn = csn; undo = old; redo = [] }
+precommitted id csn old = record { id = id; committing = true; csn = csn; undo = old; redo = []; savepoints = [] }
 
 unfoldable pub rows : List Row
 rows =
@@ -54,6 +57,16 @@ rows =
     ∷ record { txs = ran 1 (byte10 3 ∷ byte10 4 ∷ []) ∷ []; groups = []; memory = memory10 5; wanted = memory10 3 }
     -- an abort of an id that is finished does nothing
     ∷ record { txs = ran 1 (byte10 0 ∷ []) ∷ []; groups = committed 1 1 (byte10 5 ∷ []) ∷ aborted 1 ∷ []; memory = memory10 5; wanted = memory10 5 }
+    -- A.7: id 1 writes 5 at 10, sets a savepoint, writes 6 at 11, checkpoint, goes back; its commit is on disk, or it is not
+    ∷ record {
+      txs = ran 1 (byte10 0 ∷ byte11 0 ∷ []) ∷ [];
+      groups = committed 1 1 (byte10 5 ∷ byte11 6 ∷ byte11 0 ∷ []) ∷ [];
+      memory = set (memory10 5) 11 6;
+      wanted = memory10 5;
+    }
+    ∷ record { txs = ran 1 (byte10 0 ∷ byte11 0 ∷ []) ∷ []; groups = []; memory = set (memory10 5) 11 6; wanted = zeros }
+    -- the same with the checkpoint after the return
+    ∷ record { txs = ran 1 (byte10 0 ∷ byte11 0 ∷ byte11 6 ∷ []) ∷ []; groups = []; memory = memory10 5; wanted = zeros }
     -- running ones are undone in image order; on demand 3's lists they never meet in a byte
     ∷ record { txs = ran 1 (byte10 3 ∷ []) ∷ ran 2 (byte10 4 ∷ []) ∷ []; groups = []; memory = memory10 5; wanted = memory10 4 }
     ∷ []

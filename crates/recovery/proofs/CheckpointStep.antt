@@ -87,6 +87,7 @@ module _ (o : Opening) (d : Disk) (l : Live) (k : Ledger) (u : Up o d l k) where
     imageLength = u .liveLength;
     liveLength = u .liveLength;
     bytes = λ a h. checkpoint-byte a (u .bytes a h);
+    records = rw append-nil (u .records);
     room = record {
       fits = λ q.
           let e : l .tail ≡ take q (l .tail) ++ drop q (l .tail) = sym (take-append-drop q (l .tail)) in
@@ -104,4 +105,5 @@ module _ (o : Opening) (d : Disk) (l : Live) (k : Ledger) (u : Up o d l k) where
       settled = u .ledger .settled;
       latests = rw append-nil (u .ledger .latests);
     };
+    opening = u .opening;
   }

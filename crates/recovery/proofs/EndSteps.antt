@@ -3,6 +3,7 @@
 use mathlib.Core.Path.{_≡_, refl, sym, ap, _∙_, subst}
 use mathlib.Core.Logic.{_≢_}
 use mathlib.Core.Bool.{Bool, false}
+use mathlib.Core.Option.{none}
 use mathlib.Core.List.{List, [], _∷_, _++_, map-append, reverse, reverse-append, append-assoc, append-nil}
 use Prim.Native.Nat.{ℕ, suc, _+_, _≤_, _<_}
 use native.Mathlib.Omega.{arith}
@@ -11,27 +12,28 @@ use borrow.Author.Tests.{lt-ltb}
 use Rattle.recovery.specs.Group.{Write, Group, committed, aborted, groupSize, groupsSize, csnAfter, lastCsn}
 use Rattle.recovery.specs.Lists.{All, nil, cons}
 use Rattle.recovery.specs.Transaction.{Tx, running, committing, reserved}
-use Rattle.recovery.specs.Replay.{replay}
+use Rattle.recovery.specs.Replay.{redoAll, replay, layBytes}
 use Rattle.recovery.specs.Restart.{groupId, above, sortDesc}
 use Rattle.recovery.specs.Ledger.{Ledger, OpenTx, Commit, Entry, openWrites, others, enterPrecommitted, enterRolledBack}
 use Rattle.recovery.specs.Machine.{Opening, Disk, historyOf, standingBefore, standingIn, Live, Listed, lastAssigned, inCommit, afterPrecommit, afterAbort}
 use Rattle.recovery.specs.Claim.{commits}
 use Rattle.recovery.proofs.Lists.{all-map, all-zip, all-append, all-here, all-less, all-more, all-edit, all-filter, filter-in, filter-append}
-use Rattle.recovery.proofs.Lists.{EveryPrefix, prefix-whole, prefix-snoc}
+use Rattle.recovery.proofs.Lists.{all-every, EveryPrefix, prefix-whole, prefix-snoc}
 use Rattle.recovery.proofs.Distinct.{Distinct, distinct-more, distinct-others, distinct-less, distinct-edit}
 use Rattle.recovery.proofs.Transactions.{Found, find, DistinctIds, found-running, found-apart, running-out, running-append, committing-in}
 use Rattle.recovery.proofs.Transactions.{committing-out, committing-append, isCommitting, isAbove}
 use Rattle.recovery.proofs.Sorting.{sort-top}
 use Rattle.recovery.proofs.Groups.{groupsSize-append, reserved-append, lastCsn-append, replay-append}
 use Rattle.recovery.proofs.Byte.{act, oldest, newest, redo-newest, layByte, undo-byte, undo-length}
-use Rattle.recovery.proofs.LiveByte.{RunningAt, Restores, precommit-byte, abort-byte}
+use Rattle.recovery.proofs.LiveByte.{RunningAt, others-alone, Restores, precommit-byte, abort-byte}
+use Rattle.recovery.proofs.Records.{olds-beside, Recorded}
 use Rattle.recovery.proofs.TailFit.{Ungrouped, foreign-map, tied-grows, tied-one-commit, tied-one-abort}
 use Rattle.recovery.proofs.CheckpointLaw.{undoes-one-commit, undoes-one-abort}
 use Rattle.recovery.proofs.Follows.{Follows, follows-next}
 use Rattle.recovery.proofs.GrowthLaw.{growth-commit, growth-abort}
 use Rattle.recovery.proofs.Room.{Roomy, roomy-now}
 use Rattle.recovery.proofs.Ledger.{entryOf, opens, HasLatest, commits-append, others-one, writes-one, latest-own, latest-other}
-use Rattle.recovery.proofs.Invariant.{Standing, AtByte, Up, baseAt, ImageAt}
+use Rattle.recovery.proofs.Invariant.{Standing, AtByte, Up, baseAt, ImageAt, baseMemory, base-length}
 
 module _ (o : Opening) (d : Disk) (l : Live) (k : Ledger) (r : Tx) (listed : Listed r (l .txs)) (run : r .committing ≡ false) (u : Up o d l k) where
   found : Found (r .id) r (l .txs)
@@ -134,6 +136,15 @@ module _ (o : Opening) (d : Disk) (l : Live) (k : Ledger) (r : Tx) (listed : Lis
   actives-less : others (r .id) (k .active) ≡ opens (xs ++ ys)
   actives-less = ap (λ (ss : List OpenTx). others (r .id) ss) actives ∙ others-one r xs ys apart
 
+  -- the commits leave what they left, with the writes of the group over it
+  end-memory : (g : Group) → replay layBytes (historyOf d ++ (l .tail ++ (g ∷ []))) (o .memory) ≡ replay layBytes (g ∷ []) (baseMemory o d l)
+  end-memory g =
+      ap (λ (gs : List Group). replay layBytes gs (o .memory)) (sym (append-assoc (historyOf d) (l .tail) (g ∷ [])))
+      ∙ replay-append layBytes (historyOf d ++ l .tail) (g ∷ []) (o .memory)
+
+  others-recorded : All (Recorded (o .size) (baseMemory o d l)) (xs ++ ys)
+  others-recorded = all-less xs r ys (rw runnings at (u .records))
+
   -- Abort.
 
   abbrev abortGroup : Group
@@ -195,6 +206,7 @@ module _ (o : Opening) (d : Disk) (l : Live) (k : Ledger) (r : Tx) (listed : Lis
           )
               (abort-byte a x (getD (l .memory) a 0) xs r ys (live-before a b));
         };
+    records = rw (abort-runnings, end-memory abortGroup) others-recorded;
     room = record {
       fits = end-fits abortGroup refl (omega arith) abort-follows;
       used = rw abort-runnings (end-used abortGroup refl (omega arith));
@@ -208,6 +220,7 @@ module _ (o : Opening) (d : Disk) (l : Live) (k : Ledger) (r : Tx) (listed : Lis
       settled = u .ledger .settled;
       latests = rw (abort-committings, abort-commits) (u .ledger .latests);
     };
+    opening = u .opening;
   }
 
   -- Precommit.
@@ -294,6 +307,21 @@ module _ (o : Opening) (d : Disk) (l : Live) (k : Ledger) (r : Tx) (listed : Lis
       (all-map (λ t p. (p .1 .0, latest-other (t .id) soFar entry (λ e. p .0 (sym e)) ∙ p .1 .1, p .1 .2))
       (all-zip committings-apart (rw committings at (u .ledger .latests))))
 
+  -- the bytes that others wrote are none that r wrote
+  others-beside : All (λ t. (a : ℕ) → a < o .size → newest a (t .redo) ≢ none → newest a (r .redo) ≡ none) (xs ++ ys)
+  others-beside = all-every (xs ++ ys)
+      (λ a h.
+      let b : AtByte o d l (u .late) a = u .bytes a h in
+      others-alone a (replay (layByte a) (d .after ++ l .tail) (baseAt o (d .before) a)) (getD (l .memory) a 0) xs r ys (live-before a b))
+
+  precommit-records : All (Recorded (o .size) (redoAll layBytes (r .redo) (baseMemory o d l))) (xs ++ ys)
+  precommit-records =
+      all-map
+      (λ t p. record {
+        olds = p .0 .olds ∙ olds-beside (o .size) (t .redo) (r .redo) (baseMemory o d l) (base-length o d l) (p .0 .within) (p .1);
+        within = p .0 .within;
+      }) (all-zip others-recorded others-beside)
+
   pub precommit-keeps : Up o d (afterPrecommit r l) (enterPrecommitted (r .id) (suc (lastAssigned l)) k)
   precommit-keeps = record {
     late = u .late ++ (r′ ∷ []);
@@ -321,6 +349,7 @@ module _ (o : Opening) (d : Disk) (l : Live) (k : Ledger) (r : Tx) (listed : Lis
             precommit-runnings,
           ) (after .0);
         };
+    records = rw (precommit-runnings, end-memory commitGroup) precommit-records;
     room = record {
       fits = end-fits commitGroup refl (omega arith) precommit-follows;
       used = rw precommit-runnings (end-used commitGroup refl (omega arith));
@@ -335,4 +364,5 @@ module _ (o : Opening) (d : Disk) (l : Live) (k : Ledger) (r : Tx) (listed : Lis
       settled = u .ledger .settled;
       latests = rw (precommit-committings, precommit-commits) precommit-latests;
     };
+    opening = u .opening;
   }

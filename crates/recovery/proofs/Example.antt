@@ -1,16 +1,18 @@
--- M1, cut and done, and M3 as lists of calls: the steps can be taken, and the theorem says what one more restart leaves.
-use mathlib.Core.Path.{_≡_, refl, ap, _∙_}
+-- M1, cut and done, M3, and returns to savepoints (document 02, A.7) as lists of calls: the steps can be taken, and the theorem says what one more
+-- restart leaves.
+use mathlib.Core.Path.{_≡_, refl, sym, ap, _∙_, subst}
 use mathlib.Core.List.{List, [], _∷_}
+use Prim.Native.Nat.{ℕ}
 use lib.Dec.{lit≤}
-use lib.ListN.{replicate, set}
+use lib.ListN.{getD, replicate, set}
 use Rattle.recovery.specs.Group.{Write}
 use Rattle.recovery.specs.Lists.{nil}
+use Rattle.recovery.specs.Transaction.{Tx}
 use Rattle.recovery.specs.Restart.{undoOrder}
-use Rattle.recovery.specs.Ledger.{Commit, Ledger}
-use Rattle.recovery.specs.Machine.{Opening, freshOpening, standingBefore, System, diskOf, recovered, newTx, withWrite, inCommit, begins, writes}
-use Rattle.recovery.specs.Machine.{precommits, rollsBack, flushes, flushIsCut, settles, checkpoints, restarts, Run, opened, next}
-use Rattle.recovery.specs.Claim.{layCommits}
-use Rattle.recovery.proofs.Cases.{byte10}
+use Rattle.recovery.specs.Ledger.{Commit, Ledger, openWrites, layCommits}
+use Rattle.recovery.specs.Machine.{Opening, freshOpening, standingBefore, System, diskOf, recovered, newTx, withWrite, withSavepoint, inCommit, begins}
+use Rattle.recovery.specs.Machine.{writes, setsSavepoint, goesBack, precommits, rollsBack, flushes, flushIsCut, settles, checkpoints, restarts, Run, opened, next}
+use Rattle.recovery.proofs.Cases.{byte10, byte11}
 use Rattle.recovery.proofs.Theorem.{theorem}
 
 abbrev store : Opening
@@ -83,3 +85,90 @@ m3-settled = refl
 -- so one more restart leaves 7
 pub m3-recovers : recovered (diskOf (m3 .system)) ≡ set (replicate 4096 0) 10 7
 m3-recovers = theorem store (m3 .run) .restores ∙ ap (λ (cs : List Commit). layCommits cs (replicate 4096 0)) m3-durable
+
+-- ---- savepoints
+
+-- id 1 wrote 5 at 10, set savepoint 7, and wrote 6 at 11; then it went back
+abbrev set7 : Tx
+set7 = withSavepoint 7 (withWrite (byte10 0) (byte10 5) (newTx 1))
+
+abbrev tried : Tx
+tried = withWrite (byte11 0) (byte11 6) set7
+
+abbrev back : Tx
+back = withWrite (byte11 6) (byte11 0) tried
+
+-- up to the tried write
+unfoldable before : History
+unfolding undoOrder standingBefore
+before =
+    let r0 = next opened (restarts _ 0 nil nil) in
+    let r1 = next r0 (begins _ _ (lit≤ tt)) in
+    let r2 = next r1 (writes _ _ (newTx 1) (byte10 5) refl refl (lit≤ tt) refl (lit≤ tt)) in
+    let r3 = next r2 (setsSavepoint _ _ (withWrite (byte10 0) (byte10 5) (newTx 1)) 7 refl refl) in
+    let r4 = next r3 (writes _ _ set7 (byte11 6) refl refl (lit≤ tt) refl (lit≤ tt)) in
+    record { system = _; ledger = _; run = r4 }
+
+-- the checkpoint stands between savepoint and return; precommit
+unfoldable return : History
+unfolding before undoOrder standingBefore
+return =
+    let r5 = next (before .run) (checkpoints _ _) in
+    let r6 = next r5 (goesBack _ _ tried 7 1 refl refl refl (lit≤ tt)) in
+    let r7 = next r6 (precommits _ _ back refl refl) in
+    record { system = _; ledger = _; run = r7 }
+
+-- the current fails before the flush; flush 1 with 31 stores is cut, with 32 it is done
+return-cut : History
+unfolding return before undoOrder
+return-cut = record { system = _; ledger = _; run = next (return .run) (flushIsCut _ _ 1 31 (lit≤ tt)) }
+
+return-done : History
+unfolding return before undoOrder
+return-done = record { system = _; ledger = _; run = next (return .run) (flushes _ _ 1 32 (lit≤ tt)) }
+
+tried-lost : recovered (diskOf (return .system)) ≡ replicate 4096 0
+unfolding return before undoOrder
+tried-lost = theorem store (return .run) .restores
+
+return-cut-lost : recovered (diskOf (return-cut .system)) ≡ replicate 4096 0
+unfolding return-cut return before undoOrder
+return-cut-lost = theorem store (return-cut .run) .restores
+
+-- 5 at 10, and the tried write does not survive
+abbrev Bytes : List ℕ → Type 0
+Bytes m = (getD m 10 0 ≡ 5) × (getD m 11 0 ≡ 0)
+
+return-kept : Bytes (recovered (diskOf (return-done .system)))
+unfolding return-done return before undoOrder
+return-kept = subst Bytes (sym (theorem store (return-done .run) .restores)) (refl, refl)
+
+-- returns in a row take back 1 write, then 2, then 4
+abbrev backTwice : Tx
+backTwice = withWrite (byte11 6) (byte11 0) (withWrite (byte11 0) (byte11 6) back)
+
+returns : History
+unfolding before undoOrder standingBefore
+returns =
+    let r5 = next (before .run) (goesBack _ _ tried 7 1 refl refl refl (lit≤ tt)) in
+    let r6 = next r5 (goesBack _ _ back 7 1 refl refl refl (lit≤ tt)) in
+    let r7 = next r6 (goesBack _ _ backTwice 7 1 refl refl refl (lit≤ tt)) in
+    record { system = _; ledger = _; run = r7 }
+
+returns-written : openWrites 1 (returns .ledger .active)
+    ≡ byte10 5 ∷ byte11 6 ∷ byte11 0 ∷ byte11 6 ∷ byte11 0 ∷ byte11 6 ∷ byte11 0 ∷ byte11 6 ∷ byte11 0 ∷ []
+unfolding returns before undoOrder
+returns-written = refl
+
+-- the name moved behind the tried write: going back leaves it
+moved : History
+unfolding before undoOrder standingBefore
+moved =
+    let r5 = next (before .run) (setsSavepoint _ _ tried 7 refl refl) in
+    let r6 = next r5 (writes _ _ (withSavepoint 7 tried) (byte11 8) refl refl (lit≤ tt) refl (lit≤ tt)) in
+    let r7 = next r6 (goesBack _ _ (withWrite (byte11 6) (byte11 8) (withSavepoint 7 tried)) 7 2 refl refl refl (lit≤ tt)) in
+    record { system = _; ledger = _; run = r7 }
+
+moved-written : openWrites 1 (moved .ledger .active) ≡ byte10 5 ∷ byte11 6 ∷ byte11 8 ∷ byte11 6 ∷ []
+unfolding moved before undoOrder
+moved-written = refl

@@ -61,6 +61,11 @@ module _ (o : Opening) (d : Disk) (l : Live) (k : Ledger) (P U : List Group) (sp
   same-commits : commits (historyOf d) ++ commits (l .tail) ≡ commits (historyOf (storing P d)) ++ commits U
   same-commits = rw (split, commits-append P U, stored-commits) (sym (append-assoc (commits (historyOf d)) (commits P) (commits U)))
 
+  -- all groups stay as they are
+  same-groups : historyOf d ++ l .tail ≡ historyOf (storing P d) ++ U
+  same-groups = ap (λ (gs : List Group). historyOf d ++ gs) split
+      ∙ sym (ap (λ (gs : List Group). gs ++ U) stored-history ∙ append-assoc (historyOf d) P U)
+
   stored-ledger : Agrees (storing P d) (storedLive P U l) (leave (entries P) k)
   stored-ledger = record {
     durable = rw (u .ledger .durable, commits-entries P, stored-commits);
@@ -85,6 +90,7 @@ module _ (o : Opening) (d : Disk) (l : Live) (k : Ledger) (P U : List Group) (sp
           undoes = rw (replay-append (layByte a) (d .after) P (baseAt o (d .before) a)) (undoes-late P (rw split at (b .undoes)));
           live = rw whole at (b .live);
         };
+    records = rw same-groups at (u .records);
     room = record {
       fits = rw (stored-before P d) (rw whole at (u .room .fits));
       used = rw (stored-stands P d) (omega (arith, u .room .used, groupsSize-append (standingIn d) P, ap groupsSize split ∙ groupsSize-append P U));
@@ -96,6 +102,7 @@ module _ (o : Opening) (d : Disk) (l : Live) (k : Ledger) (P U : List Group) (sp
       image = u .numbers .image;
     };
     ledger = stored-ledger;
+    opening = u .opening;
   }
 
 module _ (o : Opening) (d : Disk) (l : Live) (k : Ledger) (q allowed : ℕ) (u : Up o d l k) where

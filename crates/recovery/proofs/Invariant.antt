@@ -1,20 +1,23 @@
 -- The invariant of disk, live state and ledger, and its part that lasts when the current fails.
-use mathlib.Core.Path.{_≡_}
-use mathlib.Core.List.{List, _++_, List·Memᴰ}
+use mathlib.Core.Path.{_≡_, ap, _∙_}
+use mathlib.Core.Bool.{false}
+use mathlib.Core.List.{List, _++_, append-assoc, List·Memᴰ}
 use Prim.Native.Nat.{ℕ, _≤_, _<_}
 use lib.ListN.{length, getD}
 use Rattle.recovery.specs.Group.{Group, lastCsn}
 use Rattle.recovery.specs.Lists.{All}
 use Rattle.recovery.specs.Transaction.{Tx, running, committing}
-use Rattle.recovery.specs.Replay.{replay}
+use Rattle.recovery.specs.Replay.{replay, layBytes}
 use Rattle.recovery.specs.Restart.{groupId}
 use Rattle.recovery.specs.Ledger.{Commit, Ledger, emptied}
-use Rattle.recovery.specs.Machine.{Opening, Disk, historyOf, Live, System, down, up, lastAssigned}
+use Rattle.recovery.specs.Machine.{Opening, Disk, historyOf, Live, System, down, up, Listed, lastAssigned}
 use Rattle.recovery.specs.Claim.{commits}
-use Rattle.recovery.proofs.Lists.{EveryPrefix, prefix-left}
-use Rattle.recovery.proofs.Transactions.{DistinctIds}
-use Rattle.recovery.proofs.Byte.{layByte}
+use Rattle.recovery.proofs.Lists.{all-here, EveryPrefix, prefix-left}
+use Rattle.recovery.proofs.Transactions.{DistinctIds, Found, find, found-running}
+use Rattle.recovery.proofs.Groups.{replay-append}
+use Rattle.recovery.proofs.Byte.{layByte, replay-length, replay-byte}
 use Rattle.recovery.proofs.LiveByte.{RunningAt}
+use Rattle.recovery.proofs.Records.{Recorded}
 use Rattle.recovery.proofs.TailFit.{Fit}
 use Rattle.recovery.proofs.CheckpointLaw.{Undoes}
 use Rattle.recovery.proofs.Follows.{Follows}
@@ -53,15 +56,39 @@ pub record AtByte (o : Opening) (d : Disk) (l : Live) (late : List Tx) (a : ℕ)
   pub undoes : Undoes a (replay (layByte a) (d .after) (baseAt o (d .before) a)) (l .tail) late
   pub live : RunningAt a (replay (layByte a) (d .after ++ l .tail) (baseAt o (d .before) a)) (getD (l .memory) a 0) (running (l .txs))
 
+-- the memory by the commits of history and tail
+abbrev pub baseMemory : Opening → Disk → Live → List ℕ
+baseMemory o d l = replay layBytes (historyOf d ++ l .tail) (o .memory)
+
+pub base-length : (o : Opening) (d : Disk) (l : Live) → length (baseMemory o d l) ≡ o .size
+base-length o d l = replay-length (o .size) (o .memory) (o .sized) (historyOf d ++ l .tail)
+
+pub base-byte : (o : Opening) (d : Disk) (l : Live) (a : ℕ) → a < o .size
+    → getD (baseMemory o d l) a 0 ≡ replay (layByte a) (d .after ++ l .tail) (baseAt o (d .before) a)
+unfolding baseAt
+base-byte o d l a h =
+    replay-byte (o .size) (o .memory) (o .sized) a h (historyOf d ++ l .tail)
+    ∙ (ap (λ (gs : List Group). replay (layByte a) gs (getD (o .memory) a 0)) (append-assoc (d .before) (d .after) (l .tail))
+    ∙ replay-append (layByte a) (d .before) (d .after ++ l .tail) (getD (o .memory) a 0))
+
 pub record Up (o : Opening) (d : Disk) (l : Live) (k : Ledger) : Type 0 where
   pub late : List Tx
   pub standing : Standing d l late
   pub imageLength : length (d .image .memory) ≡ o .size
   pub liveLength : length (l .memory) ≡ o .size
   pub bytes : (a : ℕ) → a < o .size → AtByte o d l late a
+  pub records : All (Recorded (o .size) (baseMemory o d l)) (running (l .txs))
   pub room : Room o d l
   pub numbers : Numbers o d
   pub ledger : Agrees d l k
+  pub opening : k .opening ≡ o .memory
+
+-- of one that is listed
+pub recorded : (o : Opening) (d : Disk) (l : Live) (k : Ledger) → Up o d l k → (r : Tx) → Listed r (l .txs) → r .committing ≡ false
+    → Recorded (o .size) (baseMemory o d l) r
+recorded o d l k u r listed run =
+    let f : Found (r .id) r (l .txs) = find (r .id) r (l .txs) listed in
+    all-here (running (f .before)) r (running (f .after)) (rw (found-running r run f) at (u .records))
 
 -- What a restart needs. It says nothing of the ledger's open transactions and queue.
 pub record Down (o : Opening) (d : Disk) (k : Ledger) : Type 0 where
@@ -73,6 +100,7 @@ pub record Down (o : Opening) (d : Disk) (k : Ledger) : Type 0 where
   pub durable : k .durable ≡ commits (historyOf d)
   pub assigned : (rest : List Commit) × (k .assigned ≡ commits (historyOf d) ++ rest)
   pub settled : All (λ c. List·Memᴰ c (k .durable)) (k .settled)
+  pub opening : k .opening ≡ o .memory
 
 abbrev pub Inv : Opening → System → Ledger → Type 0
 Inv o (down d) k = Down o d k
@@ -89,6 +117,7 @@ crash o d l k u = record {
   durable = u .ledger .durable;
   assigned = (commits (l .tail), u .ledger .assigned);
   settled = u .ledger .settled;
+  opening = u .opening;
 }
 
 -- the ledger loses what is open and queued
@@ -102,4 +131,5 @@ down-emptied o d k w = record {
   durable = w .durable;
   assigned = w .assigned;
   settled = w .settled;
+  opening = w .opening;
 }

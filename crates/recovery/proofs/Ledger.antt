@@ -9,15 +9,15 @@ use native.Mathlib.Omega.{arith}
 use lib.Dec.{eqb, leb}
 use lib.ListN.{length, replicate}
 use borrow.Author.Tests.{ne-eqb, eqb-true}
-use Rattle.recovery.specs.Group.{Write, Group, committed, aborted, groupSize, fitting}
+use Rattle.recovery.specs.Group.{Group, committed, aborted, groupSize, fitting}
 use Rattle.recovery.specs.Lists.{All, nil, cons, orElse}
 use Rattle.recovery.specs.Transaction.{Tx, running, committing}
 use Rattle.recovery.specs.Replay.{redoAll, replay, layBytes}
 use Rattle.recovery.specs.Restart.{aborts}
-use Rattle.recovery.specs.Ledger.{OpenTx, Commit, Entry, commit, abort, Ledger, entrySize, fittingEntries, committedIn, openWrites, others, addWrite}
-use Rattle.recovery.specs.Ledger.{latest}
-use Rattle.recovery.specs.Machine.{Disk, historyOf, Live, withWrite}
-use Rattle.recovery.specs.Claim.{commits, layCommits}
+use Rattle.recovery.specs.Ledger.{OpenTx, Commit, Entry, commit, abort, Ledger, entrySize, fittingEntries, committedIn, openWrites, others, ofId}
+use Rattle.recovery.specs.Ledger.{latest, layCommits}
+use Rattle.recovery.specs.Machine.{Disk, historyOf, Live}
+use Rattle.recovery.specs.Claim.{commits}
 use Rattle.recovery.proofs.Bool.{eqb-same, some-none}
 use Rattle.recovery.proofs.Lists.{else-none, else-assoc}
 
@@ -31,7 +31,7 @@ abbrev pub entries : List Group → List Entry
 entries gs = map entryOf gs
 
 abbrev pub openOf : Tx → OpenTx
-openOf t = record { id = t .id; writes = t .redo }
+openOf t = record { id = t .id; writes = t .redo; savepoints = t .savepoints }
 
 abbrev pub opens : List Tx → List OpenTx
 opens ts = map openOf ts
@@ -91,14 +91,16 @@ module _ (r : Tx) where
   writes-one [] ys h = rw (eqb-same (r .id))
   writes-one (x ∷ xs) ys (cons n ns) = rw (ne-eqb (r .id) (x .id) (λ e. n (sym e))) (writes-one xs ys ns)
 
-  add-none : (w : Write) {rs : List Tx} → All (λ t. t .id ≢ r .id) rs → map (addWrite (r .id) w) (opens rs) ≡ opens rs
-  add-none w nil = refl
-  add-none w (cons {x} n ns) = rw (ne-eqb (r .id) (x .id) (λ e. n (sym e))) (ap (λ (l : List OpenTx). openOf x ∷ l) (add-none w ns))
+  module _ (f : OpenTx → OpenTx) where
+    edit-none : {rs : List Tx} → All (λ t. t .id ≢ r .id) rs → map (ofId (r .id) f) (opens rs) ≡ opens rs
+    edit-none nil = refl
+    edit-none (cons {x} n ns) = rw (ne-eqb (r .id) (x .id) (λ e. n (sym e))) (ap (λ (l : List OpenTx). openOf x ∷ l) (edit-none ns))
 
-  pub add-one : (u w : Write) (xs ys : List Tx) → All (λ t. t .id ≢ r .id) (xs ++ ys)
-      → map (addWrite (r .id) w) (opens (xs ++ r ∷ ys)) ≡ opens (xs ++ withWrite u w r ∷ ys)
-  add-one u w [] ys h = rw (eqb-same (r .id)) (ap (λ (l : List OpenTx). openOf (withWrite u w r) ∷ l) (add-none w h))
-  add-one u w (x ∷ xs) ys (cons n ns) = rw (ne-eqb (r .id) (x .id) (λ e. n (sym e))) (ap (λ (l : List OpenTx). openOf x ∷ l) (add-one u w xs ys ns))
+    pub edit-one : (r′ : Tx) (xs ys : List Tx) → All (λ t. t .id ≢ r .id) (xs ++ ys) → f (openOf r) ≡ openOf r′
+        → map (ofId (r .id) f) (opens (xs ++ r ∷ ys)) ≡ opens (xs ++ r′ ∷ ys)
+    edit-one r′ [] ys h e = rw (eqb-same (r .id)) (rw e (ap (λ (l : List OpenTx). openOf r′ ∷ l) (edit-none h)))
+    edit-one r′ (x ∷ xs) ys (cons n ns) e =
+        rw (ne-eqb (r .id) (x .id) (λ q. n (sym q))) (ap (λ (l : List OpenTx). openOf x ∷ l) (edit-one r′ xs ys ns e))
 
 -- the latest of an id
 

@@ -11,6 +11,7 @@ pub mod Finished
 pub mod AbortLaw
 pub mod Byte
 pub mod LiveByte
+pub mod Records
 pub mod Held
 pub mod TailFit
 pub mod CheckpointLaw
@@ -23,11 +24,16 @@ pub mod Ledger
 pub mod Invariant
 pub mod NoRedo
 pub mod BeginStep
+pub mod EditStep
 pub mod WriteStep
+pub mod SavepointStep
+pub mod GoBackStep
+pub mod Returns
 pub mod EndSteps
 pub mod FlushStep
 pub mod SettleStep
 pub mod CheckpointStep
 pub mod RestartStep
 pub mod Theorem
+pub mod Lasting
 pub mod Example

@@ -1,5 +1,6 @@
 -- Options, and lists: a property of every element, `any`, `filter`, and properties of every first part.
 use mathlib.Core.Path.{_≡_, refl, sym, ap, _∙_, subst}
+use mathlib.Core.Logic.{_≢_}
 use mathlib.Core.Bool.{Bool, true, false, cond, _&&_}
 use mathlib.Core.List.{List, [], _∷_, _++_, map, reverse, reverse-cons, append-nil}
 use mathlib.Core.Option.{Option, none, some}
@@ -7,7 +8,7 @@ use Prim.Native.Nat.{ℕ, zero, suc}
 use lib.ListN.{take}
 use lib.Seq.{take-nil}
 use Rattle.recovery.specs.Lists.{All, nil, cons, any, filter, orElse}
-use Rattle.recovery.proofs.Bool.{opposed, or-left, or-right}
+use Rattle.recovery.proofs.Bool.{opposed, or-left, or-right, some-none}
 
 module _ {A : Type 0} where
   -- one thing or another
@@ -19,6 +20,18 @@ module _ {A : Type 0} where
   pub else-assoc : (o p q : Option A) → orElse (orElse o p) q ≡ orElse o (orElse p q)
   else-assoc none p q = refl
   else-assoc (some a) p q = refl
+
+  pub else-some : (o p : Option A) → o ≢ none → orElse o p ≢ none
+  else-some none p h e = h refl
+  else-some (some a) p h e = h e
+
+  pub else-next : (o p : Option A) → p ≢ none → orElse o p ≢ none
+  else-next none p h e = h e
+  else-next (some a) p h e = some-none {x = a} refl e
+
+  pub else-both : (o p : Option A) → orElse o p ≡ none → (o ≡ none) × (p ≡ none)
+  else-both none p e = (refl, e)
+  else-both (some a) p e = absurd (some-none {x = a} refl e)
 
   -- every element
 
@@ -62,6 +75,11 @@ module _ {A : Type 0} where
 
   pub all-edit : {p : A → Type 0} (xs : List A) (r r′ : A) (ys : List A) → (p r → p r′) → All p (xs ++ r ∷ ys) → All p (xs ++ r′ ∷ ys)
   all-edit xs r r′ ys f h = all-more xs r′ ys (f (all-here xs r ys h)) (all-less xs r ys h)
+
+  -- what holds of every element for each of many numbers
+  pub all-every : {p : ℕ → Type 0} {q : ℕ → A → Type 0} (xs : List A) → ((a : ℕ) → p a → All (q a) xs) → All (λ x. (a : ℕ) → p a → q a x) xs
+  all-every [] f = nil
+  all-every (x ∷ xs) f = cons (λ a h. all-here [] x xs (f a h)) (all-every xs (λ a h. all-less [] x xs (f a h)))
 
   -- any
 

@@ -1,6 +1,6 @@
 -- The live store at one byte: no two running transactions hold it, and what undoing, committing or aborting one of them does to it.
 use mathlib.Core.Path.{_≡_, refl, ap, _∙_}
-use mathlib.Core.Logic.{_⊎_, inl, inr}
+use mathlib.Core.Logic.{_≢_, _⊎_, inl, inr}
 use mathlib.Core.Option.{Option, none, some}
 use mathlib.Core.List.{List, [], _∷_, _++_}
 use Prim.Native.Nat.{ℕ}
@@ -8,9 +8,9 @@ use Rattle.recovery.specs.Group.{Write}
 use Rattle.recovery.specs.Lists.{All, nil, cons, orElse}
 use Rattle.recovery.specs.Transaction.{Tx}
 use Rattle.recovery.specs.Replay.{undoAll, undoEach}
-use Rattle.recovery.specs.Machine.{withWrite}
+use Rattle.recovery.specs.Machine.{withWrite, withSavepoint}
 use Rattle.recovery.proofs.Bool.{some-none}
-use Rattle.recovery.proofs.Lists.{all-map, all-here, all-less, all-more}
+use Rattle.recovery.proofs.Lists.{all-map, all-here, all-less, all-more, all-edit}
 use Rattle.recovery.proofs.Byte.{act, seen, layByte, oldest, newest, undo-oldest, oldest-append, newest-append}
 
 -- the transaction has no undo record over the byte
@@ -52,6 +52,14 @@ module _ (a x mem : ℕ) where
   put-off (t ∷ xs) r ys q (passes k h) = passes k (put-off xs r ys q h)
   put-off (t ∷ xs) r ys q (holds o n k) = holds o n (all-more xs r ys q k)
 
+  -- savepoints are no records
+  pub savepoint-byte : (name : ℕ) (xs : List Tx) (r : Tx) (ys : List Tx) → RunningAt a x mem (xs ++ r ∷ ys)
+      → RunningAt a x mem (xs ++ withSavepoint name r ∷ ys)
+  savepoint-byte name [] r ys (passes k h) = passes k h
+  savepoint-byte name [] r ys (holds o n k) = holds o n k
+  savepoint-byte name (t ∷ xs) r ys (passes k h) = passes k (savepoint-byte name xs r ys h)
+  savepoint-byte name (t ∷ xs) r ys (holds o n k) = holds o n (all-edit xs r (withSavepoint name r) ys (λ q. q) k)
+
   put-on : (xs : List Tx) (r : Tx) (ys : List Tx) → oldest a (r .undo) ≡ some x → newest a (r .redo) ≡ some mem → All (Quiet a) (xs ++ ys)
       → RunningAt a x mem (xs ++ r ∷ ys)
   put-on [] r ys o n q = holds o n q
@@ -66,6 +74,35 @@ module _ (a x mem : ℕ) where
       further (off q h′) = off q (passes k h′)
       further (on o n q) = on o n (cons k q)
   side (t ∷ xs) r ys (holds o n k) = off (all-here xs r ys k) (holds o n (all-less xs r ys k))
+
+  -- where no other has a record over the byte, memory has the newest value of r, or that of the commits
+  pub own-byte : (xs : List Tx) (r : Tx) (ys : List Tx) → RunningAt a x mem (xs ++ r ∷ ys) → All (Quiet a) (xs ++ ys) → mem ≡ act (newest a (r .redo)) x
+  own-byte xs r ys h q = go (side xs r ys h)
+    where
+      go : Side a x mem r (xs ++ ys) → mem ≡ act (newest a (r .redo)) x
+      go (off k h′) = rw (k .1) (quiet-memory q h′)
+      go (on o n k) = rw n refl
+
+  -- where r has an undo record over the byte, no other has one
+  pub own-alone : (xs : List Tx) (r : Tx) (ys : List Tx) → RunningAt a x mem (xs ++ r ∷ ys) → oldest a (r .undo) ≢ none → All (Quiet a) (xs ++ ys)
+  own-alone xs r ys h s = go (side xs r ys h)
+    where
+      go : Side a x mem r (xs ++ ys) → All (Quiet a) (xs ++ ys)
+      go (off k h′) = absurd (s (k .0))
+      go (on o n k) = k
+
+  -- where another has a redo record over the byte, r has none
+  pub others-alone : (xs : List Tx) (r : Tx) (ys : List Tx) → RunningAt a x mem (xs ++ r ∷ ys)
+      → All (λ t. newest a (t .redo) ≢ none → newest a (r .redo) ≡ none) (xs ++ ys)
+  others-alone xs r ys h = go (side xs r ys h)
+    where
+      each : (ts : List Tx) → newest a (r .redo) ≡ none → All (λ t. newest a (t .redo) ≢ none → newest a (r .redo) ≡ none) ts
+      each [] e = nil
+      each (t ∷ ts) e = cons {x = t} (λ _. e) (each ts e)
+
+      go : Side a x mem r (xs ++ ys) → All (λ t. newest a (t .redo) ≢ none → newest a (r .redo) ≡ none) (xs ++ ys)
+      go (off k h′) = each (xs ++ ys) (k .1)
+      go (on o n k) = all-map (λ t q s. absurd (s (q .1))) k
 
   -- a transaction without an undo record over the byte has no redo record there either
   pub quiet-by-undo : {rs : List Tx} → RunningAt a x mem rs → All (λ r. oldest a (r .undo) ≡ none → Quiet a r) rs

@@ -129,6 +129,7 @@ module _ (o : Opening) (d : Disk) (k : Ledger) (lastId : ℕ) (image-ids : All (
     imageLength = w .imageLength;
     liveLength = recover-length (o .size) (d .image .memory) (w .imageLength) txs csn (d .after);
     bytes = λ a h. restart-byte a (w .imageLength) h (w .bytes a h);
+    records = nil;
     room = record {
       fits = restart-fits;
       used = rw (groupsSize-append (standingBefore d) (d .after), groupsSize-aborts us) (omega (arith, prefix-whole (Roomy o d) (d .after) (w .fits)));
@@ -143,4 +144,5 @@ module _ (o : Opening) (d : Disk) (k : Ledger) (lastId : ℕ) (image-ids : All (
       settled = w .settled;
       latests = nil;
     };
+    opening = w .opening;
   }

@@ -87,6 +87,7 @@ module _ (o : Opening) (d : Disk) (l : Live) (k : Ledger) (r : Tx) (listed : Lis
         bytes = λ a h.
             let b : AtByte o d l (u .late) a = u .bytes a h in
             record { image = b .image; undoes = b .undoes; live = rw runnings (b .live) };
+        records = rw runnings (u .records);
         room = record { fits = u .room .fits; used = rw runnings (u .room .used) };
         numbers = u .numbers;
         ledger = record {
@@ -97,4 +98,5 @@ module _ (o : Opening) (d : Disk) (l : Live) (k : Ledger) (r : Tx) (listed : Lis
           settled = all-append (u .ledger .settled) (rw (f .1) (cons {x = f .0} (f .4) nil));
           latests = rw committings′ (all-less cs r ds (rw committings at (u .ledger .latests)));
         };
+        opening = u .opening;
       }

@@ -1,31 +1,39 @@
 -- Demand 3 on the abstract store: after any list of calls, refused, cut or done, the claim holds of disk and ledger. A call added later
 -- adds a constructor of Step, a lemma like those below and a line of `keeps`.
 use mathlib.Core.Path.{_≡_, refl, sym, ap, _∙_, subst}
-use mathlib.Core.Bool.{true}
-use mathlib.Core.List.{List, [], _++_}
-use Prim.Native.Nat.{_≤_}
+use mathlib.Core.Logic.{_≢_}
+use mathlib.Core.Bool.{true, false}
+use mathlib.Core.Option.{none, some}
+use mathlib.Core.List.{List, [], _++_, reverse}
+use Prim.Native.Nat.{ℕ, _≤_, _<_}
 use native.Mathlib.Omega.{arith}
-use lib.ListN.{getD}
+use lib.ListN.{length, getD, take, drop}
 use lib.Seq.{take-nil}
-use Rattle.recovery.specs.Group.{Group, groupsSize}
-use Rattle.recovery.specs.Lists.{nil}
-use Rattle.recovery.specs.Transaction.{Tx}
+use Rattle.recovery.specs.Group.{Write, Group, groupsSize}
+use Rattle.recovery.specs.Lists.{All, nil}
+use Rattle.recovery.specs.Transaction.{Tx, running}
+use Rattle.recovery.specs.Savepoint.{countAt}
+use Rattle.recovery.specs.Replay.{redoAll, layBytes, oldsOf}
 use Rattle.recovery.specs.Restart.{undoOrder}
-use Rattle.recovery.specs.Ledger.{Event, Commit, Ledger, noLedger, committedIn, enter}
+use Rattle.recovery.specs.Ledger.{Event, Commit, Ledger, noLedger, committedIn, layCommits, committedMemory, takenBack, enterWentBack, enter}
 use Rattle.recovery.specs.Machine.{Opening, Disk, historyOf, standingBefore, Live, System, down, up, diskOf, openingDisk, Listed, Step, stays, begins}
-use Rattle.recovery.specs.Machine.{writes, precommits, rollsBack, flushes, flushIsCut, settles, checkpoints, checkpointIsCut, restarts, restartIsCut, Run, opened, next}
-use Rattle.recovery.specs.Claim.{commits, layCommits, Claim}
-use Rattle.recovery.proofs.Lists.{prefix-whole}
+use Rattle.recovery.specs.Machine.{writes, setsSavepoint, goesBack, precommits, rollsBack, flushes, flushIsCut, settles, checkpoints, checkpointIsCut, restarts, restartIsCut, Run, opened, next}
+use Rattle.recovery.specs.Machine.{afterGoBack}
+use Rattle.recovery.specs.Claim.{commits, Claim}
+use Rattle.recovery.proofs.Lists.{all-map, prefix-whole}
 use Rattle.recovery.proofs.Distinct.{empty}
 use Rattle.recovery.proofs.Groups.{groupsSize-append, replay-append}
-use Rattle.recovery.proofs.Byte.{layByte, by-bytes}
+use Rattle.recovery.proofs.Byte.{oldest, newest, layByte, by-bytes}
 use Rattle.recovery.proofs.Numbers.{consecutive-nil, consecutive-numbered}
 use Rattle.recovery.proofs.Log.{form-one, opening-stands}
 use Rattle.recovery.proofs.Room.{Roomy}
 use Rattle.recovery.proofs.Ledger.{Settles, replay-commits}
-use Rattle.recovery.proofs.Invariant.{Down, Inv, ImageAt, baseAt, crash, down-emptied}
+use Rattle.recovery.proofs.Invariant.{Down, Inv, ImageAt, baseAt, base-length, recorded, crash, down-emptied}
 use Rattle.recovery.proofs.BeginStep.{begin-keeps}
 use Rattle.recovery.proofs.WriteStep.{write-keeps}
+use Rattle.recovery.proofs.SavepointStep.{savepoint-keeps}
+use Rattle.recovery.proofs.GoBackStep.{enterWrites, ledger-memory, held-alone, taken-back, went-back, go-back-keeps}
+use Rattle.recovery.proofs.Returns.{return-cancels, return-reads, return-leaves}
 use Rattle.recovery.proofs.EndSteps.{precommit-keeps, abort-keeps}
 use Rattle.recovery.proofs.FlushStep.{flush-keeps, cut-flush-keeps}
 use Rattle.recovery.proofs.SettleStep.{settle-finds, settle-keeps}
@@ -43,6 +51,8 @@ module _ (o : Opening) where
   keeps s t e k (stays s′) v = v
   keeps s t e k (begins d l room) v = begin-keeps o d l k room v
   keeps s t e k (writes d l r w listed run within free room) v = write-keeps o d l k r w listed run v within free room
+  keeps s t e k (setsSavepoint d l r name listed run) v = savepoint-keeps o d l k r name listed run v
+  keeps s t e k (goesBack d l r name n listed run set room) v = go-back-keeps o d l k v r listed run name n set room
   keeps s t e k (precommits d l r listed run) v = precommit-keeps o d l k r listed run v
   keeps s t e k (rollsBack d l r listed run) v = abort-keeps o d l k r listed run v
   keeps s t e k (flushes d l q allowed enough) v = flush-keeps o d l k q allowed v enough
@@ -53,7 +63,7 @@ module _ (o : Opening) where
   keeps s t e k (restarts s′ lastId image-ids group-ids) v = restart-keeps o (diskOf s′) k lastId image-ids group-ids (lasts s′ k v)
   keeps s t e k (restartIsCut s′) v = down-emptied o (diskOf s′) k (lasts s′ k v)
 
-  start : Down o (openingDisk o) noLedger
+  start : Down o (openingDisk o) (noLedger (o .memory))
   unfolding undoOrder baseAt
   start = record {
     imageDistinct = empty;
@@ -64,6 +74,7 @@ module _ (o : Opening) where
     durable = refl;
     assigned = ([], refl);
     settled = nil;
+    opening = refl;
   }
 
   pub holds : {s : System} {k : Ledger} → Run o s k → Inv o s k
@@ -105,3 +116,39 @@ module _ (o : Opening) where
   pub settled-found : (d : Disk) (l : Live) (k : Ledger) (r : Tx) → Run o (up d l) k → Listed r (l .txs) → r .committing ≡ true → r .csn ≤ l .csn
       → Settles r (k .durable) (committedIn (k .queue))
   settled-found d l k r run listed committing on-disk = settle-finds o d l k r listed committing on-disk (holds run)
+
+  -- ---- undo records and returns (document 02, A.7), on any list of calls
+
+  module _ (d : Disk) (l : Live) (k : Ledger) (run : Run o (up d l) k) where
+    -- Record by record: an undo record of a running transaction has the bytes that the opening memory, the durable ones, the queue and its own
+    -- earlier writes leave on the range.
+    pub undo-recorded : All (λ r. r .undo ≡ oldsOf (committedMemory k) (r .redo)) (running (l .txs))
+    undo-recorded =
+        all-map (λ r x. x .olds ∙ ap (λ (m : List ℕ). oldsOf m (r .redo)) (sym (ledger-memory o d l k (holds run)))) (holds run .records)
+
+    module _ (r : Tx) (listed : Listed r (l .txs)) (runs : r .committing ≡ false) (n : ℕ) where
+      -- the writes that the ledger computes for a return are those that the store makes
+      pub return-agrees : takenBack (committedMemory k) (some n) (r .redo) ≡ reverse (drop n (r .undo))
+      return-agrees = taken-back o d l k (holds run) r listed runs n
+
+      -- To the ledger a return is its writes one by one, as it is to the store (`afterGoBack`).
+      pub return-as-writes : (name : ℕ) → countAt name (r .savepoints) ≡ some n → enterWentBack (r .id) name k ≡ enterWrites (r .id) (reverse (drop n (r .undo))) k
+      return-as-writes name set = went-back o d l k (holds run) r listed runs name n set
+
+      -- they are never kept away by number 9: where r has a record over a byte, no other running transaction has one
+      pub return-free : (a : ℕ) → a < o .size → oldest a (r .undo) ≢ none → All (λ t. t .id ≢ r .id → oldest a (t .undo) ≡ none) (running (l .txs))
+      return-free = held-alone o d l k (holds run) r listed runs
+
+      -- what r has to commit then leaves what its first n writes leave: the writes taken back survive in no commit
+      pub return-lost : redoAll layBytes (r .redo ++ reverse (drop n (r .undo))) (committedMemory k) ≡ redoAll layBytes (take n (r .redo)) (committedMemory k)
+      return-lost =
+          let long : length (committedMemory k) ≡ o .size = ap length (ledger-memory o d l k (holds run)) ∙ base-length o d l in
+          ap (λ (ws : List Write). redoAll layBytes (r .redo ++ ws) (committedMemory k)) (sym return-agrees)
+          ∙ return-cancels (o .size) n (r .redo) (committedMemory k) long (recorded o d l k (holds run) r listed runs .within)
+
+      -- after it a byte written since reads as the commits and the first n writes leave it; any other stays
+      pub return-restores : (a : ℕ) → a < o .size
+          → (newest a (drop n (r .redo)) ≢ none
+          → getD (afterGoBack r n l .memory) a 0 ≡ getD (redoAll layBytes (take n (r .redo)) (committedMemory k)) a 0)
+          × (newest a (drop n (r .redo)) ≡ none → getD (afterGoBack r n l .memory) a 0 ≡ getD (l .memory) a 0)
+      return-restores a h = (return-reads o d l k (holds run) r listed runs n a h, return-leaves o d l k (holds run) r listed runs n a h)

@@ -3,37 +3,30 @@ use mathlib.Core.Path.{_≡_, refl, sym, ap, _∙_}
 use mathlib.Core.Logic.{_≢_}
 use mathlib.Core.Bool.{Bool, true, false}
 use mathlib.Core.Option.{Option, none, some}
-use mathlib.Core.List.{List, [], _∷_, _++_, map}
+use mathlib.Core.List.{List, [], _∷_, _++_}
 use Prim.Native.Nat.{ℕ, suc, _+_, _≤_, _<_}
 use native.Mathlib.Omega.{arith}
 use lib.Dec.{eqb}
-use lib.ListN.{length, getD, take, drop, length-drop}
-use lib.Seq.{length-sets, getD-take, getD-drop, length-take-le}
+use lib.ListN.{length, getD, drop}
+use lib.Seq.{length-sets, getD-take, getD-drop}
 use borrow.Author.Tests.{eqb-true}
 use Rattle.recovery.specs.Group.{Write}
-use Rattle.recovery.specs.Lists.{All}
-use Rattle.recovery.specs.Transaction.{Tx, running, committing, heldByOther, reserved}
-use Rattle.recovery.specs.Replay.{replay, layBytes}
-use Rattle.recovery.specs.Ledger.{Ledger, OpenTx, addWrite, enterWrote}
-use Rattle.recovery.specs.Machine.{Opening, Disk, Live, Listed, roomUsed, oldBytes, withWrite, afterWrite}
+use Rattle.recovery.specs.Lists.{All, nil, cons}
+use Rattle.recovery.specs.Transaction.{Tx, running, heldByOther}
+use Rattle.recovery.specs.Replay.{redoAll, replay, layBytes, oldBytes, oldsOf}
+use Rattle.recovery.specs.Ledger.{Ledger, addWrites, enterWrote}
+use Rattle.recovery.specs.Machine.{Opening, Disk, Live, Listed, roomUsed, withWrite, afterWrite}
 use Rattle.recovery.proofs.Bool.{some-none}
-use Rattle.recovery.proofs.Lists.{all-map, all-edit}
-use Rattle.recovery.proofs.Distinct.{distinct-edit}
-use Rattle.recovery.proofs.Transactions.{Found, find, running-in, committing-out, found-running, found-apart}
-use Rattle.recovery.proofs.Groups.{redoSize-append, reserved-append}
-use Rattle.recovery.proofs.Byte.{act, seen, seenAt, oldest, layByte, laid-byte, oldest-append}
-use Rattle.recovery.proofs.LiveByte.{Quiet, RunningAt, Touch, miss, hit, write-byte}
+use Rattle.recovery.proofs.Lists.{all-append}
+use Rattle.recovery.proofs.Transactions.{Found, find, found-running}
+use Rattle.recovery.proofs.Groups.{redoSize-append}
+use Rattle.recovery.proofs.Byte.{act, seen, seenAt, oldest, newest, layByte, laid-byte, oldest-append, redo-newest, redo-length, redo-byte}
+use Rattle.recovery.proofs.LiveByte.{Quiet, RunningAt, own-byte, own-alone, Touch, miss, hit, write-byte}
+use Rattle.recovery.proofs.Records.{Within, Covers, old-length, old-same, Recorded, olds-append}
 use Rattle.recovery.proofs.Held.{others-quiet}
-use Rattle.recovery.proofs.TailFit.{foreign-map}
-use Rattle.recovery.proofs.Follows.{Over, Linked, here, there}
-use Rattle.recovery.proofs.Ledger.{opens, add-one}
-use Rattle.recovery.proofs.Invariant.{Standing, AtByte, Up, baseAt}
-
-linked-edit : {t : Tx} (xs : List Tx) (r r′ : Tx) (ys : List Tx) → r′ .id ≡ r .id → (Over t r → Over t r′) → Linked t (xs ++ r ∷ ys) → Linked t (xs ++ r′ ∷ ys)
-linked-edit [] r r′ ys e f (here p o) = here (p ∙ sym e) (f o)
-linked-edit [] r r′ ys e f (there l) = there l
-linked-edit (x ∷ xs) r r′ ys e f (here p o) = here p o
-linked-edit (x ∷ xs) r r′ ys e f (there l) = there (linked-edit xs r r′ ys e f l)
+use Rattle.recovery.proofs.Follows.{Over}
+use Rattle.recovery.proofs.Invariant.{Up, baseAt, baseMemory, base-length, base-byte, recorded}
+use Rattle.recovery.proofs.EditStep.{edited-listed, edited-room, edited-keeps}
 
 -- one more undo record covers no less
 over-write : (t r : Tx) (u w : Write) → Over t r → Over t (withWrite u w r)
@@ -59,16 +52,15 @@ whereabouts a i (b ∷ bs) (x ∷ es) e = go (eqb a i) refl (whereabouts a (suc 
     go false p (out q r) = out (rw p q) (rw p r)
     go false p (at j q l r s) = at (suc j) (omega arith) (omega arith) (rw p r) (rw p s)
 
-touch : (a : ℕ) (m : List ℕ) (w : Write) (others : List Tx) → a < length m → w .addr + length (w .bytes) ≤ length m → (seen a w ≢ none → All (Quiet a) others)
+pub touch : (a : ℕ) (m : List ℕ) (w : Write) (others : List Tx) → a < length m → w .addr + length (w .bytes) ≤ length m → (seen a w ≢ none → All (Quiet a) others)
     → Touch a (getD m a 0) (getD (layBytes w m) a 0) (oldBytes w m) w others
-touch a m w others ha hw q = go (whereabouts a (w .addr) (oldBytes w m .bytes) (w .bytes) old-length)
+touch a m w others ha hw q = go (whereabouts a (w .addr) (oldBytes w m .bytes) (w .bytes) same-length)
   where
-    old-length : length (take (length (w .bytes)) (drop (w .addr) m)) ≡ length (w .bytes)
-    old-length = length-take-le (length (w .bytes)) (drop (w .addr) m) (rw (length-drop (w .addr) m) (omega arith))
+    same-length : length (oldBytes w m .bytes) ≡ length (w .bytes)
+    same-length = old-length (length m) w m refl hw
 
-    old : (j : ℕ) → a ≡ w .addr + j → j < length (take (length (w .bytes)) (drop (w .addr) m))
-        → getD (take (length (w .bytes)) (drop (w .addr) m)) j 0 ≡ getD m a 0
-    old j e l = getD-take (length (w .bytes)) (drop (w .addr) m) j 0 (rw old-length at l) ∙ (getD-drop (w .addr) m j 0 ∙ ap (λ (i : ℕ). getD m i 0) (sym e))
+    old : (j : ℕ) → a ≡ w .addr + j → j < length (oldBytes w m .bytes) → getD (oldBytes w m .bytes) j 0 ≡ getD m a 0
+    old j e l = getD-take (length (w .bytes)) (drop (w .addr) m) j 0 (rw same-length at l) ∙ (getD-drop (w .addr) m j 0 ∙ ap (λ (i : ℕ). getD m i 0) (sym e))
 
     new : (s : Option ℕ) → seen a w ≡ s → getD (layBytes w m) a 0 ≡ act s (getD m a 0)
     new s e = laid-byte a w m ha ∙ ap (λ (x : Option ℕ). act x (getD m a 0)) e
@@ -93,79 +85,67 @@ module _ (o : Opening) (d : Disk) (l : Live) (k : Ledger) (r : Tx) (w : Write) (
   abbrev r′ : Tx
   r′ = withWrite (oldBytes w (l .memory)) w r
 
-  txs′ : afterWrite r w l .txs ≡ f .before ++ r′ ∷ f .after
-  txs′ = f .edited (withWrite old w)
-
   runnings : running (l .txs) ≡ xs ++ r ∷ ys
   runnings = found-running r run f
 
-  runnings′ : running (afterWrite r w l .txs) ≡ xs ++ r′ ∷ ys
-  runnings′ = ap running txs′ ∙ running-in (f .before) r′ (f .after) run
+  -- the byte a by the commits
+  abbrev byCommits : ℕ → ℕ
+  byCommits a = replay (layByte a) (d .after ++ l .tail) (baseAt o (d .before) a)
 
-  committings : committing (afterWrite r w l .txs) ≡ committing (l .txs)
-  committings = ap committing txs′
-      ∙ (committing-out (f .before) r′ (f .after) run ∙ sym (ap committing (f .whole) ∙ committing-out (f .before) r (f .after) run))
+  live-before : (a : ℕ) → a < o .size → RunningAt a (byCommits a) (getD (l .memory) a 0) (xs ++ r ∷ ys)
+  live-before a h = rw runnings at (u .bytes a h .live)
 
-  abbrev s : Standing d l (u .late)
-  s = u .standing
+  -- no other running transaction has a record over a byte of the range
+  abbrev Alone : Type 0
+  Alone = (a : ℕ) → a < o .size → seen a w ≢ none → All (Quiet a) (xs ++ ys)
 
-  apart : All (λ t. t .id ≢ r .id) (xs ++ ys)
-  apart = found-apart r run f (u .standing .liveDistinct)
+  -- Number 9 keeps others away;
+  alone-unheld : heldByOther (r .id) w (l .txs) ≡ false → Alone
+  alone-unheld free a h touched = others-quiet r run f (u .standing .liveDistinct) w free a (byCommits a) (getD (l .memory) a 0) (live-before a h) touched
 
-  write-standing : Standing d (afterWrite r w l) (u .late)
-  write-standing = record {
-    imageDistinct = s .imageDistinct;
-    imageIds = s .imageIds;
-    groupIds = s .groupIds;
-    liveDistinct = rw txs′ (distinct-edit (f .before) r r′ (f .after) refl (rw (f .whole) at (s .liveDistinct)));
-    liveIds = rw txs′ (all-edit (f .before) r r′ (f .after) (λ h. h) (rw (f .whole) at (s .liveIds)));
-    follows = record {
-      committings = s .follows .committings;
-      runnings = rw runnings′ (all-map (λ t h. linked-edit xs r r′ ys refl (over-write t r old w) h) (rw runnings at (s .follows .runnings)));
-      lives = rw runnings′ (all-edit xs r r′ ys (λ h. h) (rw runnings at (s .follows .lives)));
-    };
-    onDisk = s .onDisk;
-    fit = record {
-      sorted = rw committings (s .fit .sorted);
-      tied = s .fit .tied;
-      once = s .fit .once;
-      foreign = rw txs′ (all-map (foreign-map (λ i h. all-edit (f .before) r r′ (f .after) (λ n. n) h)) (rw (f .whole) at (s .fit .foreign)));
-      free = rw runnings′ (all-edit xs r r′ ys (λ h. h) (rw runnings at (s .fit .free)));
-    };
-    csns = rw committings (s .csns);
-  }
+  -- and so do the transaction's own undo records.
+  alone-own : Covers (r .undo) w → Alone
+  alone-own own a h touched = own-alone a (byCommits a) (getD (l .memory) a 0) xs r ys (live-before a h) (own a touched)
+
+  -- a write takes 7 + length of room
+  pub written-room : roomUsed d (afterWrite r w l) ≡ roomUsed d l + (7 + length (w .bytes))
+  written-room =
+      omega (arith, redoSize-append (r .redo) (w ∷ []), edited-room o d l k r f run u (withWrite old w) (layBytes w (l .memory)) (addWrites (w ∷ [])) refl run refl)
+
+  pub written-listed : Listed r′ (afterWrite r w l .txs)
+  written-listed = edited-listed o d l k r f run u (withWrite old w) (layBytes w (l .memory)) (addWrites (w ∷ [])) refl run refl
+
+  module _ (within : Within (o .size) w) (alone : Alone) where
+    -- the undo record has the bytes that the commits and the transaction's earlier writes leave on the range
+    written-recorded : Recorded (o .size) (baseMemory o d l) r′
+    written-recorded =
+        let m : List ℕ = baseMemory o d l in
+        let lm : length (baseMemory o d l) ≡ o .size = base-length o d l in
+        let before : Recorded (o .size) (baseMemory o d l) r = recorded o d l k u r listed run in
+        let new : old ≡ oldBytes w (redoAll layBytes (r .redo) m) =
+        old-same (o .size) w (l .memory) (redoAll layBytes (r .redo) m) (u .liveLength) (redo-length (o .size) m lm (r .redo)) within
+        (λ a h s. own-byte a (byCommits a) (getD (l .memory) a 0) xs r ys (live-before a h) (alone a h s)
+        ∙ sym (redo-byte (o .size) m lm a h (r .redo) ∙ (redo-newest a (r .redo) (getD m a 0) ∙ ap (λ (x : ℕ). act (newest a (r .redo)) x) (base-byte o d l a h)))) in
+        record {
+          olds = ap (λ (us : List Write). us ++ (old ∷ [])) (before .olds) ∙ (ap (λ (v : Write). oldsOf m (r .redo) ++ (v ∷ [])) new
+              ∙ sym (olds-append (r .redo) (w ∷ []) m));
+          within = all-append (before .within) (cons {x = w} within nil);
+        }
+
+    written-keeps : roomUsed d l + (7 + length (w .bytes)) ≤ o .capacity → Up o d (afterWrite r w l) (enterWrote (r .id) w k)
+    written-keeps fits =
+        edited-keeps o d l k r f run u (withWrite old w) (layBytes w (l .memory)) (addWrites (w ∷ [])) refl run refl
+        (λ t. over-write t r old w) (length-sets (l .memory) (w .addr) (w .bytes) ∙ u .liveLength)
+        (λ a h.
+        write-byte a (byCommits a) (getD (l .memory) a 0) (getD (layBytes w (l .memory)) a 0) xs r ys old w (live-before a h)
+        (touch a (l .memory) w (xs ++ ys) (rw (u .liveLength) h) (rw (u .liveLength) within) (alone a h)))
+        (omega (arith, written-room)) written-recorded
 
   pub write-keeps : w .addr + length (w .bytes) ≤ o .size → heldByOther (r .id) w (l .txs) ≡ false → roomUsed d l + (7 + length (w .bytes)) ≤ o .capacity
       → Up o d (afterWrite r w l) (enterWrote (r .id) w k)
-  write-keeps within free fits = record {
-    late = u .late;
-    standing = write-standing;
-    imageLength = u .imageLength;
-    liveLength = length-sets (l .memory) (w .addr) (w .bytes) ∙ u .liveLength;
-    bytes = λ a h.
-        let b : AtByte o d l (u .late) a = u .bytes a h in
-        let x : ℕ = replay (layByte a) (d .after ++ l .tail) (baseAt o (d .before) a) in
-        let live : RunningAt a x (getD (l .memory) a 0) (xs ++ r ∷ ys) = rw runnings at (b .live) in
-        record {
-          image = b .image;
-          undoes = b .undoes;
-          live = rw runnings′
-              (write-byte a x (getD (l .memory) a 0) (getD (layBytes w (l .memory)) a 0) xs r ys old w live
-              (touch a (l .memory) w (xs ++ ys) (rw (u .liveLength) h) (rw (u .liveLength) within) (others-quiet r run f (s .liveDistinct) w free a x (getD (l .memory) a 0) live)));
-        };
-    room = record {
-      fits = u .room .fits;
-      used = rw (runnings′, reserved-append xs (r′ ∷ ys), redoSize-append (r .redo) (w ∷ []))
-          (omega (arith, ap reserved runnings ∙ reserved-append xs (r ∷ ys)));
-    };
-    numbers = u .numbers;
-    ledger = record {
-      durable = u .ledger .durable;
-      assigned = u .ledger .assigned;
-      queue = u .ledger .queue;
-      active = ap (λ (ss : List OpenTx). map (addWrite (r .id) w) ss) (u .ledger .active ∙ ap opens runnings)
-          ∙ (add-one r old w xs ys apart ∙ ap opens (sym runnings′));
-      settled = u .ledger .settled;
-      latests = rw committings (u .ledger .latests);
-    };
-  }
+  write-keeps within free fits = written-keeps within (alone-unheld free) fits
+
+  -- the same where the transaction has undo records over the whole range already
+  pub rewrite-keeps : Within (o .size) w → Covers (r .undo) w → roomUsed d l + (7 + length (w .bytes)) ≤ o .capacity
+      → Up o d (afterWrite r w l) (enterWrote (r .id) w k)
+  rewrite-keeps within own fits = written-keeps within (alone-own own) fits

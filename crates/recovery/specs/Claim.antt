@@ -6,8 +6,8 @@ use lib.ListN.{length}
 use Rattle.layout.specs.{abortLen}
 use Rattle.recovery.specs.Group.{Group, committed, aborted, groupsSize}
 use Rattle.recovery.specs.Lists.{All}
-use Rattle.recovery.specs.Replay.{redoAll, layBytes}
 use Rattle.recovery.specs.Ledger.{Commit, Ledger}
+pub use Rattle.recovery.specs.Ledger.{layCommits}
 use Rattle.recovery.specs.Machine.{Opening, Disk, standingIn, undoneBy, recovered}
 
 -- the commits of a log
@@ -15,11 +15,6 @@ abbrev pub commits : List Group → List Commit
 commits [] = []
 commits (committed i n ws ∷ gs) = record { id = i; csn = n; writes = ws } ∷ commits gs
 commits (aborted i ∷ gs) = commits gs
-
--- committed transactions laid over a memory, one after the other, each one's writes in order
-abbrev pub layCommits : List Commit → List ℕ → List ℕ
-layCommits [] m = m
-layCommits (c ∷ cs) m = layCommits cs (redoAll layBytes (c .writes) m)
 
 -- the commit numbers go on from n
 abbrev pub Numbered : ℕ → List Commit → Type 0

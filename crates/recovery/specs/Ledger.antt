@@ -1,18 +1,21 @@
 -- The ledger (document 01: the bench book): kept apart from the store and fed only the calls.
 use Prim.Native.Nat.{ℕ, _+_, _-_}
 use mathlib.Core.Bool.{not, cond}
-use mathlib.Core.List.{List, [], _∷_, _++_, map}
+use mathlib.Core.List.{List, [], _∷_, _++_, map, reverse}
 use mathlib.Core.Option.{Option, none, some}
 use lib.ListN.{length, take, drop, replicate}
 use lib.Dec.{eqb, leb}
 use Rattle.layout.specs.{commitLen, abortLen}
 use Rattle.recovery.specs.Group.{Write, redoSize}
 use Rattle.recovery.specs.Lists.{filter, orElse}
+use Rattle.recovery.specs.Savepoint.{Savepoint, setName, countAt}
+use Rattle.recovery.specs.Replay.{redoAll, layBytes, oldsOf}
 
--- an open transaction (an open sheet): its id and its write set, in order
+-- an open transaction (an open sheet): its id, its write set, in order, and its savepoints (marks)
 pub record OpenTx : Type 0 where
   pub id : ℕ
   pub writes : List Write
+  pub savepoints : List Savepoint
 
 -- a committed transaction (a booking)
 pub record Commit : Type 0 where
@@ -25,8 +28,9 @@ pub data Entry : Type 0 where
   commit : Commit → Entry
   abort : Entry
 
--- active: the open transactions; durable: kept; assigned: in force
+-- opening: the starting memory, which no call changes; active: the open transactions; durable: kept; assigned: in force
 pub record Ledger : Type 0 where
+  pub opening : List ℕ
   pub active : List OpenTx
   pub queue : List Entry
   pub durable : List Commit
@@ -34,8 +38,8 @@ pub record Ledger : Type 0 where
   pub settled : List Commit
 
 -- all empty at first
-abbrev pub noLedger : Ledger
-noLedger = record { active = []; queue = []; durable = []; assigned = []; settled = [] }
+abbrev pub noLedger : List ℕ → Ledger
+noLedger opening = record { opening = opening; active = []; queue = []; durable = []; assigned = []; settled = [] }
 
 abbrev pub entrySize : Entry → ℕ
 entrySize (commit c) = redoSize (c .writes) + commitLen
@@ -51,7 +55,12 @@ committedIn [] = []
 committedIn (commit c ∷ es) = c ∷ committedIn es
 committedIn (abort ∷ es) = committedIn es
 
--- by id: the write set, the other open transactions, one more write
+-- committed transactions laid over a memory, one after the other, each one's writes in order
+abbrev pub layCommits : List Commit → List ℕ → List ℕ
+layCommits [] m = m
+layCommits (c ∷ cs) m = layCommits cs (redoAll layBytes (c .writes) m)
+
+-- by id: the write set, the other open transactions, a change of that one, one more write
 abbrev pub openWrites : ℕ → List OpenTx → List Write
 openWrites i [] = []
 openWrites i (s ∷ ss) = cond (eqb i (s .id)) (s .writes) (openWrites i ss)
@@ -59,8 +68,27 @@ openWrites i (s ∷ ss) = cond (eqb i (s .id)) (s .writes) (openWrites i ss)
 abbrev pub others : ℕ → List OpenTx → List OpenTx
 others i ss = filter (λ s. not (eqb i (s .id))) ss
 
+abbrev pub ofId : ℕ → (OpenTx → OpenTx) → OpenTx → OpenTx
+ofId i f s = cond (eqb i (s .id)) (f s) s
+
+abbrev pub addWrites : List Write → OpenTx → OpenTx
+addWrites ws s = record { id = s .id; writes = s .writes ++ ws; savepoints = s .savepoints }
+
 abbrev pub addWrite : ℕ → Write → OpenTx → OpenTx
-addWrite i w s = cond (eqb i (s .id)) (record { id = s .id; writes = s .writes ++ (w ∷ []) }) s
+addWrite i w s = ofId i (addWrites (w ∷ [])) s
+
+-- a savepoint "notes how many writes stand on its sheet"
+abbrev pub noteSavepoint : ℕ → OpenTx → OpenTx
+noteSavepoint name s = record { id = s .id; writes = s .writes; savepoints = setName name (length (s .writes)) (s .savepoints) }
+
+-- The writes of a return to where n writes stood: of every later one, newest first, the old bytes, "those that the starting memory, the kept, the
+-- queue and the sheet's writes before the one taken back leave there". m is what the first three leave. A name not set: none.
+abbrev pub takenBack : List ℕ → Option ℕ → List Write → List Write
+takenBack m none ws = []
+takenBack m (some n) ws = reverse (oldsOf (redoAll layBytes (take n ws) m) (drop n ws))
+
+abbrev pub addReturn : List ℕ → ℕ → OpenTx → OpenTx
+addReturn m name s = addWrites (takenBack m (countAt name (s .savepoints)) (s .writes)) s
 
 -- the latest of an id
 abbrev pub latest : ℕ → List Commit → Option Commit
@@ -79,6 +107,8 @@ pub data Event : Type 0 where
   unchanged : Event
   begun : (id : ℕ) → Event
   wrote : (id : ℕ) → Write → Event
+  savepointSet : (id name : ℕ) → Event
+  wentBack : (id name : ℕ) → Event
   precommitted : (id csn : ℕ) → Event
   rolledBack : (id : ℕ) → Event
   flushed : (count allowed : ℕ) → Event
@@ -87,21 +117,34 @@ pub data Event : Type 0 where
   cut : Event → Event
 
 abbrev pub withActive : List OpenTx → Ledger → Ledger
-withActive ss l = record { active = ss; queue = l .queue; durable = l .durable; assigned = l .assigned; settled = l .settled }
+withActive ss l = record { opening = l .opening; active = ss; queue = l .queue; durable = l .durable; assigned = l .assigned; settled = l .settled }
 
 -- Begin: an empty write set with the id given.
 abbrev pub enterBegun : ℕ → Ledger → Ledger
-enterBegun i l = withActive (l .active ++ (record { id = i; writes = [] } ∷ [])) l
+enterBegun i l = withActive (l .active ++ (record { id = i; writes = []; savepoints = [] } ∷ [])) l
 
 -- Write: address and bytes go last in that id's write set.
 abbrev pub enterWrote : ℕ → Write → Ledger → Ledger
 enterWrote i w l = withActive (map (addWrite i w) (l .active)) l
+
+-- A savepoint set (document 02, A.7): it notes how many writes stand in that id's write set.
+abbrev pub enterSavepointSet : ℕ → ℕ → Ledger → Ledger
+enterSavepointSet i name l = withActive (map (ofId i (noteSavepoint name)) (l .active)) l
+
+-- what the opening memory, the durable ones and the queue leave
+abbrev pub committedMemory : Ledger → List ℕ
+committedMemory l = layCommits (l .durable ++ committedIn (l .queue)) (l .opening)
+
+-- Gone back (document 02, A.7): the writes of the return go last in that id's write set. Its savepoints stay.
+abbrev pub enterWentBack : ℕ → ℕ → Ledger → Ledger
+enterWentBack i name l = withActive (map (ofId i (addReturn (committedMemory l) name)) (l .active)) l
 
 -- Precommit: the write set goes last in the queue, as a committed transaction with that number; it is assigned from now on.
 abbrev pub enterPrecommitted : ℕ → ℕ → Ledger → Ledger
 enterPrecommitted i n l =
     let c : Commit = record { id = i; csn = n; writes = openWrites i (l .active) } in
     record {
+      opening = l .opening;
       active = others i (l .active);
       queue = l .queue ++ (commit c ∷ []);
       durable = l .durable;
@@ -112,12 +155,12 @@ enterPrecommitted i n l =
 -- Abort: the write set goes; an abort entry goes last in the queue.
 abbrev pub enterRolledBack : ℕ → Ledger → Ledger
 enterRolledBack i l =
-    record { active = others i (l .active); queue = l .queue ++ (abort ∷ []); durable = l .durable; assigned = l .assigned; settled = l .settled }
+    record { opening = l .opening; active = others i (l .active); queue = l .queue ++ (abort ∷ []); durable = l .durable; assigned = l .assigned; settled = l .settled }
 
 -- the first entries leave the queue, the committed ones among them to the end of the durable
 abbrev pub leave : List Entry → Ledger → Ledger
 leave es l =
-    record { active = l .active; queue = drop (length es) (l .queue); durable = l .durable ++ committedIn es; assigned = l .assigned; settled = l .settled }
+    record { opening = l .opening; active = l .active; queue = drop (length es) (l .queue); durable = l .durable ++ committedIn es; assigned = l .assigned; settled = l .settled }
 
 -- Flush k: take the first k entries, or all if fewer. Those whose sizes, summed from the front, stay within the stores allowed
 -- leave the queue.
@@ -128,6 +171,7 @@ enterFlushed k allowed l = leave (fittingEntries allowed (take k (l .queue))) l
 abbrev pub enterSettled : ℕ → Ledger → Ledger
 enterSettled i l =
     record {
+      opening = l .opening;
       active = l .active;
       queue = l .queue;
       durable = l .durable;
@@ -138,16 +182,18 @@ enterSettled i l =
 -- Restart, done: open transactions and queue are emptied; an abort entry is queued for each transaction undone. The durable ones
 -- are those assigned.
 abbrev pub enterRestarted : ℕ → Ledger → Ledger
-enterRestarted undone l = record { active = []; queue = replicate undone abort; durable = l .durable; assigned = l .durable; settled = l .settled }
+enterRestarted undone l = record { opening = l .opening; active = []; queue = replicate undone abort; durable = l .durable; assigned = l .durable; settled = l .settled }
 
 -- Cut, whatever the call: open transactions and queue are emptied after its step.
 abbrev pub emptied : Ledger → Ledger
-emptied l = record { active = []; queue = []; durable = l .durable; assigned = l .assigned; settled = l .settled }
+emptied l = record { opening = l .opening; active = []; queue = []; durable = l .durable; assigned = l .assigned; settled = l .settled }
 
 abbrev pub enter : Event → Ledger → Ledger
 enter unchanged l = l
 enter (begun i) l = enterBegun i l
 enter (wrote i w) l = enterWrote i w l
+enter (savepointSet i name) l = enterSavepointSet i name l
+enter (wentBack i name) l = enterWentBack i name l
 enter (precommitted i n) l = enterPrecommitted i n l
 enter (rolledBack i) l = enterRolledBack i l
 enter (flushed k allowed) l = enterFlushed k allowed l

@@ -2,16 +2,18 @@
 use Prim.Native.Nat.{ℕ, suc, _+_, _≤_, _<_}
 use mathlib.Core.Path.{_≡_}
 use mathlib.Core.Bool.{true, false}
-use mathlib.Core.List.{List, [], _∷_, _++_, map}
+use mathlib.Core.List.{List, [], _∷_, _++_, map, reverse}
 use mathlib.Core.Option.{some}
 use lib.ListN.{length, take, drop, replicate, length-replicate}
 use Rattle.layout.specs.{redoLen, commitLen}
-use Rattle.recovery.specs.Group.{Write, Group, committed, aborted, groupsSize, lastCsn, fitting}
+use Rattle.recovery.specs.Group.{Write, Group, committed, aborted, redoSize, groupsSize, lastCsn, fitting}
 use Rattle.recovery.specs.Lists.{All}
+use Rattle.recovery.specs.Savepoint.{setName, countAt}
 use Rattle.recovery.specs.Transaction.{Tx, running, lookup, edit, remove, heldByOther, reserved}
-use Rattle.recovery.specs.Replay.{undoAll, layBytes}
+use Rattle.recovery.specs.Replay.{undoAll, layBytes, oldBytes}
 use Rattle.recovery.specs.Restart.{groupId, undone, aborts, recover}
-use Rattle.recovery.specs.Ledger.{Event, unchanged, begun, wrote, precommitted, rolledBack, flushed, settled, restarted, cut, Ledger, noLedger, enter}
+use Rattle.recovery.specs.Ledger.{Event, unchanged, begun, wrote, savepointSet, wentBack, precommitted, rolledBack, flushed, settled, restarted, cut}
+use Rattle.recovery.specs.Ledger.{Ledger, noLedger, enter}
 
 -- What a history opens from: the length of memory, the bytes that the log can take, and an image's memory and last commit
 -- number, with no transaction.
@@ -85,17 +87,22 @@ lastAssigned l = lastCsn (l .csn) (l .tail)
 
 -- Begin: gives the last id plus 1.
 abbrev pub newTx : ℕ → Tx
-newTx i = record { id = i; committing = false; csn = 0; undo = []; redo = [] }
+newTx i = record { id = i; committing = false; csn = 0; undo = []; redo = []; savepoints = [] }
 
 abbrev pub afterBegin : Live → Live
 afterBegin l = record { txs = l .txs ++ (newTx (suc (l .lastId)) ∷ []); memory = l .memory; tail = l .tail; csn = l .csn; lastId = suc (l .lastId) }
 
 -- Write of r: adds an undo record with the old bytes and a redo record to the transaction's own lists, then changes memory.
-abbrev pub oldBytes : Write → List ℕ → Write
-oldBytes w m = record { addr = w .addr; bytes = take (length (w .bytes)) (drop (w .addr) m) }
-
 abbrev pub withWrite : Write → Write → Tx → Tx
-withWrite old new t = record { id = t .id; committing = t .committing; csn = t .csn; undo = t .undo ++ (old ∷ []); redo = t .redo ++ (new ∷ []) }
+withWrite old new t =
+    record {
+      id = t .id;
+      committing = t .committing;
+      csn = t .csn;
+      undo = t .undo ++ (old ∷ []);
+      redo = t .redo ++ (new ∷ []);
+      savepoints = t .savepoints;
+    }
 
 abbrev pub afterWrite : Tx → Write → Live → Live
 afterWrite r w l =
@@ -107,10 +114,35 @@ afterWrite r w l =
       lastId = l .lastId;
     }
 
+-- A savepoint of r set (document 02, A.7): the name, with how many writes stand.
+abbrev pub withSavepoint : ℕ → Tx → Tx
+withSavepoint name t =
+    record {
+      id = t .id;
+      committing = t .committing;
+      csn = t .csn;
+      undo = t .undo;
+      redo = t .redo;
+      savepoints = setName name (length (t .redo)) (t .savepoints);
+    }
+
+abbrev pub afterSavepoint : Tx → ℕ → Live → Live
+afterSavepoint r name l =
+    record { txs = edit (r .id) (withSavepoint name) (l .txs); memory = l .memory; tail = l .tail; csn = l .csn; lastId = l .lastId }
+
+-- writes of r, one after the other; r is each time what the one before has made of it
+abbrev pub afterWrites : Tx → List Write → Live → Live
+afterWrites r [] l = l
+afterWrites r (w ∷ ws) l = afterWrites (withWrite (oldBytes w (l .memory)) w r) ws (afterWrite r w l)
+
+-- Going back, to where n writes of r stood (document 02, A.7): writes the old bytes of every later one, newest first, as ordinary writes.
+abbrev pub afterGoBack : Tx → ℕ → Live → Live
+afterGoBack r n l = afterWrites r (reverse (drop n (r .undo))) l
+
 -- Precommit of r: assigns the next commit number, appends the group to the tail, marks the transaction committing. Its redo list
--- is emptied, its undo list stays.
+-- is emptied, its undo list stays. Its savepoints end.
 abbrev pub inCommit : ℕ → Tx → Tx
-inCommit n t = record { id = t .id; committing = true; csn = n; undo = t .undo; redo = [] }
+inCommit n t = record { id = t .id; committing = true; csn = n; undo = t .undo; redo = []; savepoints = [] }
 
 abbrev pub afterPrecommit : Tx → Live → Live
 afterPrecommit r l =
@@ -147,9 +179,9 @@ afterFlush k l = record { txs = l .txs; memory = l .memory; tail = drop k (l .ta
 abbrev pub afterSettle : Tx → Live → Live
 afterSettle r l = record { txs = remove (r .id) (l .txs); memory = l .memory; tail = l .tail; csn = l .csn; lastId = l .lastId }
 
--- Checkpoint: the image is the live state, without redo records, and the whole history is before it.
+-- Checkpoint: the image is the live state, without redo records and savepoints, and the whole history is before it.
 abbrev pub withoutRedo : Tx → Tx
-withoutRedo t = record { id = t .id; committing = t .committing; csn = t .csn; undo = t .undo; redo = [] }
+withoutRedo t = record { id = t .id; committing = t .committing; csn = t .csn; undo = t .undo; redo = []; savepoints = [] }
 
 abbrev pub afterCheckpoint : Disk → Live → Disk
 afterCheckpoint d l = record { image = record { txs = map withoutRedo (l .txs); memory = l .memory; csn = l .csn }; before = historyOf d; after = [] }
@@ -177,6 +209,13 @@ module _ (o : Opening) where
         → heldByOther (r .id) w (l .txs) ≡ false → roomUsed d l + (redoLen + length (w .bytes)) ≤ o .capacity
         → Step (up d l) (wrote (r .id) w) (up d (afterWrite r w l))
     -- numbers 6 and 7
+    setsSavepoint : (d : Disk) (l : Live) (r : Tx) (name : ℕ) → Listed r (l .txs) → r .committing ≡ false
+        → Step (up d l) (savepointSet (r .id) name) (up d (afterSavepoint r name l))
+    -- Numbers 6, 7, 18 and 13, judged on the total. Nothing asks for numbers 8 and 9: the ranges are those of the transaction's own writes.
+    goesBack : (d : Disk) (l : Live) (r : Tx) (name n : ℕ) → Listed r (l .txs) → r .committing ≡ false → countAt name (r .savepoints) ≡ some n
+        → roomUsed d l + redoSize (drop n (r .undo)) ≤ o .capacity
+        → Step (up d l) (wentBack (r .id) name) (up d (afterGoBack r n l))
+    -- numbers 6 and 7
     precommits : (d : Disk) (l : Live) (r : Tx) → Listed r (l .txs) → r .committing ≡ false
         → Step (up d l) (precommitted (r .id) (suc (lastAssigned l))) (up d (afterPrecommit r l))
     rollsBack : (d : Disk) (l : Live) (r : Tx) → Listed r (l .txs) → r .committing ≡ false → Step (up d l) (rolledBack (r .id)) (up d (afterAbort r l))
@@ -198,5 +237,5 @@ module _ (o : Opening) where
 
   -- any list of calls, with the ledger that is fed them
   pub data Run : System → Ledger → Type 0 where
-    opened : Run (down (openingDisk o)) noLedger
+    opened : Run (down (openingDisk o)) (noLedger (o .memory))
     next : {s t : System} {k : Ledger} {e : Event} → Run s k → Step s e t → Run t (enter e k)

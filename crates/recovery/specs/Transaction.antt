@@ -8,14 +8,17 @@ use lib.Dec.{eqb, ltb}
 use Rattle.layout.specs.{commitLen}
 use Rattle.recovery.specs.Group.{Write, redoSize}
 use Rattle.recovery.specs.Lists.{any, filter}
+use Rattle.recovery.specs.Savepoint.{Savepoint}
 
--- id, status (running or committing), commit number (csn), undo and redo records, oldest first
+-- id, status (running or committing), commit number (csn), undo and redo records, oldest first, and savepoints; an image has neither redo records nor
+-- savepoints
 pub record Tx : Type 0 where
   pub id : ℕ
   pub committing : Bool
   pub csn : ℕ
   pub undo : List Write
   pub redo : List Write
+  pub savepoints : List Savepoint
 
 abbrev pub running : List Tx → List Tx
 running txs = filter (λ t. not (t .committing)) txs

@@ -6,25 +6,26 @@ use mathlib.Core.Path.{_≡_, refl, sym, subst}
 use lib.ListN.{length}
 use lib.Dec.{eqb, ltb}
 use Rattle.recovery.specs.Lists.{nil}
+use Rattle.recovery.specs.Ledger.{committedMemory}
 use Rattle.log.specs.declared.TxId.{TxId}
 use Rattle.store.specs.declared.State.{State}
-use Rattle.store.specs.Calls.{refusing, beginNumber, beginOf, writeNumber, writeOf, answerNumber, readAnswerOf, precommitNumber, precommitOf, abortNumber, abortOf}
+use Rattle.store.specs.Calls.{refusing, beginNumber, beginOf, writeNumber, writeOf, answerNumber, readAnswerOf, savepointNumber, savepointOf, goBackNumber, goBackOf, precommitNumber, precommitOf, abortNumber, abortOf}
 use Rattle.store.specs.Calls.{settleNumber, settleOf}
 use Rattle.store.specs.Stored.{Plan, cutShort, madeWhole, carriedOut, storedBy}
 use Rattle.store.specs.Flush.{flushPlan, flushOf}
 use Rattle.store.specs.Checkpoint.{checkpointPlan, checkpointOf}
-use Rattle.store.proofs.Passing.{begin-passed, write-passed, answer-passed, precommit-passed, abort-passed, settle-passed}
+use Rattle.store.proofs.Passing.{begin-passed, write-passed, answer-passed, savepoint-passed, go-back-passed, precommit-passed, abort-passed, settle-passed}
 use Rattle.store.proofs.Calling.{begin-done, begin-refused, write-done, write-refused, answer-done, answer-refused, precommit-done, precommit-refused}
-use Rattle.store.proofs.Calling.{abort-done, abort-refused, settle-done, settle-refused}
+use Rattle.store.proofs.Calling.{savepoint-done, savepoint-refused, go-back-done, go-back-refused, abort-done, abort-refused, settle-done, settle-refused}
 use Rattle.store.proofs.Storing.{diskNumber}
 use Rattle.store.proofs.Stepping.{SizedState, same-or-other}
 use Rattle.disk.specs.Layout.{lengthsOk}
 use Rattle.disk.specs.Examine.{examineOf}
 use Rattle.disk.specs.Restart.{restartPlan, refusedWith, ofMeaning, restartOf}
-use Rattle.history.specs.Calls.{Call, begin, write, readAnswer, precommit, abort, flush, settle, checkpoint, restart, World, Stepped, returned, changed, stored, stepOf}
-use Rattle.serial.specs.Ledger.{LedgerWithReads, feed}
+use Rattle.history.specs.Calls.{Call, begin, write, readAnswer, savepoint, goBack, precommit, abort, flush, settle, checkpoint, restart, World, Stepped, returned, changed, stored, stepOf}
+use Rattle.serial.specs.Ledger.{LedgerWithReads, withoutReads, feed}
 use Rattle.serial.specs.Demand.{fedOf}
-use Rattle.serial.proofs.Holding.{ReadsHeld, none-held, begun-held, wrote-held, answered-held, precommitted-held, aborted-held, settled-held, flushed-held}
+use Rattle.serial.proofs.Holding.{ReadsHeld, none-held, begun-held, wrote-held, answered-held, savepointed-held, went-back-held, precommitted-held, aborted-held, settled-held, flushed-held}
 
 module _ (w : World) (k : LedgerWithReads) where
   abbrev s : State
@@ -71,6 +72,21 @@ module _ (w : World) (k : LedgerWithReads) where
           either (readAnswer id a n) (returned w) (answerNumber s m t tid a n) (readAnswerOf s m t tid a n) _ (answer-done s m t tid a n)
           (answer-refused s m t tid a n _ refl)
           (λ e _. answered-held s m t z (k .active) (h (answer-passed s m t tid a n e .read .runs .fits .recovered)) tid a n e) h
+
+      module _ (name : ℕ) where
+        pub savepoint-held : HeldAfter (savepoint id name) (stepOf (savepoint id name) w)
+        unfolding stepOf
+        savepoint-held =
+            either (savepoint id name) (returned w) (savepointNumber s m t tid name) (savepointOf s m t tid name) _ (savepoint-done s m t tid name)
+            (savepoint-refused s m t tid name _ refl)
+            (λ e _. savepointed-held s m t z (k .active) (h (savepoint-passed s m t tid name e .runs .fits .recovered)) tid name e) h
+
+        pub go-back-held : HeldAfter (goBack id name) (stepOf (goBack id name) w)
+        unfolding stepOf
+        go-back-held =
+            either (goBack id name) (changed w) (goBackNumber s m t tid name) (goBackOf s m t tid name) _ (go-back-done s m t tid name)
+            (go-back-refused s m t tid name _ refl)
+            (λ e _. went-back-held s m t z (k .active) (h (go-back-passed s m t tid name e .runs .fits .recovered)) tid name (committedMemory (withoutReads k)) e) h
 
       pub precommit-held : HeldAfter (precommit id) (stepOf (precommit id) w)
       unfolding stepOf

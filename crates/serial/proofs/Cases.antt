@@ -5,7 +5,7 @@ use lib.ListN.{replicate}
 use Prim.Native.Nat.{ℕ}
 use Rattle.recovery.specs.Group.{Write}
 use Rattle.recovery.specs.Lists.{All, nil, cons}
-use Rattle.recovery.specs.Ledger.{begun, wrote, precommitted, rolledBack, flushed, restarted, cut, unchanged}
+use Rattle.recovery.specs.Ledger.{begun, wrote, savepointSet, wentBack, precommitted, rolledBack, flushed, restarted, cut, unchanged}
 use Rattle.serial.specs.Ledger.{Read, CommitWithReads, LedgerWithReads, noReads, stampsOf, Fed, event, saw, feed}
 use Rattle.serial.specs.Claim.{saidBy}
 
@@ -70,6 +70,13 @@ rows =
       stamps = 0 ∷ [];
       reads = [] ∷ [];
     }
+    -- the writes of a return are own earlier writes
+    ∷ record {
+      fed = event (restarted 0) ∷ event (begun 1) ∷ event (wrote 1 (byte10 5)) ∷ event (savepointSet 1 7) ∷ event (wrote 1 (byte10 6)) ∷ saw 1 10 (6 ∷ [])
+          ∷ event (wentBack 1 7) ∷ saw 1 10 (5 ∷ []) ∷ event (precommitted 1 1) ∷ event (flushed 1 100) ∷ [];
+      stamps = 0 ∷ [];
+      reads = (saw10 6 2 [] ∷ saw10 5 3 [] ∷ []) ∷ [];
+    }
     ∷ []
 
 -- what the order says of each read of each transaction, in commit order after `before`
@@ -83,10 +90,10 @@ bytesOf rs = map (λ r. r .bytes) rs
 -- the durable ones are those of the row, and the order says what they read
 abbrev Right : Row → Type 0
 Right r =
-    let k : LedgerWithReads = feedAll (r .fed) noReads in
+    let k : LedgerWithReads = feedAll (r .fed) (noReads (replicate 16 0)) in
     (stampsOf (k .durable) ≡ r .stamps) × (map (λ c. c .reads) (k .durable) ≡ r .reads) × (said [] (k .durable) ≡ map bytesOf (r .reads))
 
 pub read-cases : All Right rows
 unfolding rows
 read-cases =
-    cons (refl, refl, refl) (cons (refl, refl, refl) (cons (refl, refl, refl) (cons (refl, refl, refl) (cons (refl, refl, refl) (cons (refl, refl, refl) nil)))))
+    cons (refl, refl, refl) (cons (refl, refl, refl) (cons (refl, refl, refl) (cons (refl, refl, refl) (cons (refl, refl, refl) (cons (refl, refl, refl) (cons (refl, refl, refl) nil))))))

@@ -27,7 +27,7 @@ use Rattle.store.proofs.Premises.{held-view}
 use Rattle.store.proofs.Stepping.{SizedState, same-or-other}
 use Rattle.store.proofs.Apart.{unrecovered-holds}
 use Rattle.store.proofs.Views.{listed-view}
-use Rattle.history.specs.Calls.{Call, begin, write, read, readAnswer, precommit, abort, flush, settle, checkpoint, restart, Reply, told, part, World, changed, stepOf}
+use Rattle.history.specs.Calls.{Call, begin, write, read, readAnswer, savepoint, goBack, precommit, abort, flush, settle, checkpoint, restart, Reply, told, part, World, changed, stepOf}
 use Rattle.history.specs.Demand.{doneEvent, eventOf, Happening, called, powerFails, happen, happenAll}
 use Rattle.history.proofs.OnDisk.{Start, opens, OnDisk, fresh, fresh-shows}
 use Rattle.history.proofs.Shows.{LiveOn, Resting, Beside, awake, rests, Shows}
@@ -41,7 +41,7 @@ use Rattle.serial.proofs.Seeing.{reader-open}
 use Rattle.serial.proofs.Theorem.{read-theorem, SoFar, read-so-far}
 use Rattle.serial.proofs.Stamps.{Stamped, stamped-feed, Lost, lost-stays, lost-unread}
 use Rattle.serial.proofs.Holding.{ReadsHeld, unrecovered-no, none-held, wrote-unread, seen-held}
-use Rattle.serial.proofs.Calls.{HeldAfter, begin-held, write-held, answer-held, precommit-held, abort-held, settle-held, flush-held, checkpoint-held, restart-held}
+use Rattle.serial.proofs.Calls.{HeldAfter, begin-held, write-held, answer-held, savepoint-held, go-back-held, precommit-held, abort-held, settle-held, flush-held, checkpoint-held, restart-held}
 
 -- ---- what is fed
 
@@ -52,6 +52,8 @@ told-fed begin (part (b ∷ bs)) = refl
 told-fed (write id addr new) (part (b ∷ bs)) = refl
 told-fed (read id addr len) (part (b ∷ bs)) = refl
 told-fed (readAnswer id addr len) (part (b ∷ bs)) = refl
+told-fed (savepoint id name) (part (b ∷ bs)) = refl
+told-fed (goBack id name) (part (b ∷ bs)) = refl
 told-fed (precommit id) (part (b ∷ bs)) = refl
 told-fed (abort id) (part (b ∷ bs)) = refl
 told-fed (flush groups allowed) (part (b ∷ bs)) = refl
@@ -263,6 +265,8 @@ module _ (from : Start) where
       (write-held (k .world) (k .ledger) (at k r) (r .held) id a bs)
   call-reached (read id a n) k r = read-went k r id a n
   call-reached (readAnswer id a n) k r = went-unread (readAnswer id a n) k r refl (λ v. tt) (answer-held (k .world) (k .ledger) (at k r) (r .held) id a n)
+  call-reached (savepoint id name) k r = went-unread (savepoint id name) k r refl (λ v. tt) (savepoint-held (k .world) (k .ledger) (at k r) (r .held) id name)
+  call-reached (goBack id name) k r = went-unread (goBack id name) k r refl (λ v. tt) (go-back-held (k .world) (k .ledger) (at k r) (r .held) id name)
   call-reached (precommit id) k r = went-unread (precommit id) k r refl (λ v. tt) (precommit-held (k .world) (k .ledger) (at k r) (r .held) id)
   call-reached (abort id) k r = went-unread (abort id) k r refl (λ v. tt) (abort-held (k .world) (k .ledger) (at k r) (r .held) id)
   call-reached (flush q a) k r = went-unread (flush q a) k r refl (λ v. tt) (flush-held (k .world) (k .ledger) (r .held) q a)
@@ -286,9 +290,9 @@ module _ (from : Start) where
   -- whatever happens to a store whose disk shows the opening one, and whatever memory and tail hold at first
   pub reads-reached : (disk memory tail : List ℕ) → OnDisk from disk (openingDisk (opens from)) → length memory ≡ 4096 → length tail ≡ 16384
       → (hs : List Happening)
-      → ReadReached (happenReads hs (record { world = record { disk = disk; memory = memory; tail = tail; state = unrecovered }; ledger = noReads }))
+      → ReadReached (happenReads hs (record { world = record { disk = disk; memory = memory; tail = tail; state = unrecovered }; ledger = noReads (from .memory) }))
   reads-reached disk memory tail o lm lt hs =
-      reads-happen hs (record { world = record { disk = disk; memory = memory; tail = tail; state = unrecovered }; ledger = noReads })
+      reads-happen hs (record { world = record { disk = disk; memory = memory; tail = tail; state = unrecovered }; ledger = noReads (from .memory) })
       (record {
         system = down (openingDisk (opens from));
         run = opened;

@@ -3,8 +3,8 @@ use Prim.Native.Nat.{ℕ, _+_, _-_, _≤_, _<_}
 use native.Mathlib.Decide.{decLt}
 use native.Mathlib.Omega.{arith}
 use mathlib.Core.Bool.{Bool, true, false, _||_}
-use mathlib.Core.List.{List, _++_}
-use mathlib.Core.Path.{_≡_, refl, sym, ap, _∙_, subst}
+use mathlib.Core.List.{List, _++_, map}
+use mathlib.Core.Path.{_≡_, refl, sym, ap, ap₂, _∙_, subst}
 use lib.ListN.{length}
 use lib.Dec.{leb, ltb}
 use borrow.Author.Tests.{leb-true, ltb-true}
@@ -12,14 +12,17 @@ use Rattle.recovery.specs.Lists.{any}
 use Rattle.recovery.proofs.Bool.{opposed}
 use Rattle.recovery.proofs.Lists.{none-any}
 use Rattle.log.proofs.Basics.{and-left, and-right}
+use Rattle.log.specs.declared.TxId.{TxId}
 use Rattle.transaction.specs.declared.Tx.{Tx}
-use Rattle.transaction.specs.View.{Range, range, readsOf, writtenBy, usedBy}
+use Rattle.transaction.specs.declared.Extras.{Extras}
+use Rattle.transaction.specs.View.{Range, range, rangesOf, rangeOf, readsOf, writtenBy, usedBy}
 use Rattle.transaction.specs.Rules.{meets, writing, heldAgainst, hasByte}
-use Rattle.transaction.specs.Steps.{written, withRead}
+use Rattle.transaction.specs.Steps.{written, withRead, savepointed, returnWrites, goneBack}
 use Rattle.transaction.proofs.Lists.{all-at, any-weaker}
 use Rattle.transaction.proofs.Pushed.{ranges-pushed}
 use Rattle.transaction.proofs.Held.{or-any, held-other, byte-meets}
 use Rattle.transaction.proofs.StateRule.{written-undo}
+use Rattle.transaction.proofs.Returning.{Writable, all-same, all-undo}
 use Rattle.store.specs.declared.State.{State}
 use Rattle.store.specs.State.{txAt, txsOf}
 use Rattle.store.proofs.Positions.{Changed, Dropped}
@@ -88,6 +91,24 @@ module _ (t : Tx) (z : SizedTx t) where
         subst (λ (rs : List Range). any (hasByte b) (writtenBy t ++ rs) ≡ true) (sym (ranges-pushed (t .extras .reads) a n (z .reads) few))
         (any-read (hasByte b) (writtenBy t) (readsOf t) _ e);
   }
+
+pub savepoint-keeps : (t : Tx) (name : ℕ) → Keeps t (savepointed t name)
+unfolding savepointed
+savepoint-keeps t name = record { named = refl; status = refl; used = λ b e. e }
+
+-- a return adds the ranges of its writes
+pub back-keeps : (t : Tx) (m : List ℕ) (name : ℕ) → Writable t m (returnWrites t name) → Keeps t (goneBack t m name)
+unfolding goneBack
+back-keeps t m name w =
+    let ws = returnWrites t name in
+    let same = all-same t m ws in
+    record {
+      named = ap (λ (i : TxId). i .0) (same .0);
+      status = same .1;
+      used = λ b e.
+          ap₂ (λ (qs : List Range) (x : Extras). any (hasByte b) (qs ++ rangesOf (x .reads))) (all-undo t m ws w) (same .3)
+          ∙ any-written (hasByte b) (writtenBy t) (readsOf t) (map rangeOf ws) e;
+    }
 
 -- ---- slots
 

@@ -12,27 +12,31 @@ use lib.Dec.{eqb, leb, ltb}
 use borrow.Author.Tests.{eqb-true, leb-true, leb-false, ltb-true, ltb-false}
 use Rattle.recovery.specs.Group.{Write}
 use Rattle.recovery.specs.Lists.{All, nil, cons, any}
+use Rattle.recovery.specs.Ledger.{OpenTx, ofId, addWrites, noteSavepoint, addReturn}
 use Rattle.recovery.proofs.Bool.{opposed}
 use Rattle.recovery.proofs.Lists.{all-map, all-append, all-mapped}
 use Rattle.recovery.proofs.Byte.{seen, seen-out}
 use Rattle.log.specs.declared.TxId.{TxId}
+use Rattle.transaction.specs.declared.Tx.{Tx}
 use Rattle.transaction.specs.View.{usedBy}
 use Rattle.transaction.specs.Rules.{writing, heldAgainst, hasByte, covered}
 use Rattle.transaction.proofs.Lists.{every-at}
 use Rattle.store.specs.declared.State.{State}
 use Rattle.store.specs.State.{unrecovered, txAt, txsOf, slotOf}
 use Rattle.store.specs.Numbers.{txOf}
-use Rattle.store.specs.Steps.{begunState, writtenState, readState, precommittedState, droppedState}
-use Rattle.store.specs.Calls.{beginNumber, writeNumber, answerNumber, precommitNumber, abortNumber, settleNumber}
+use Rattle.store.specs.Steps.{begunState, writtenState, readState, savepointState, wentBackState, precommittedState, droppedState}
+use Rattle.store.specs.Calls.{beginNumber, writeNumber, answerNumber, savepointNumber, goBackNumber, precommitNumber, abortNumber, settleNumber}
 use Rattle.store.specs.Flush.{flushedState}
-use Rattle.store.proofs.Passing.{ReadPassed, begin-passed, write-passed, answer-passed, precommit-passed, abort-passed, settle-passed}
-use Rattle.store.proofs.Stepping.{SizedState, begun-slot, written-slot, read-slot, precommitted-slot, dropped-slot}
+use Rattle.store.proofs.Passing.{ReadPassed, begin-passed, write-passed, answer-passed, savepoint-passed, go-back-passed, precommit-passed, abort-passed, settle-passed}
+use Rattle.store.proofs.Positions.{Changed}
+use Rattle.store.proofs.Views.{writable}
+use Rattle.store.proofs.Stepping.{SizedState, begun-slot, written-slot, read-slot, savepoint-slot, back-slot, precommitted-slot, dropped-slot}
 use Rattle.serial.specs.Ledger as entries
-use Rattle.serial.specs.Ledger.{OpenWithReads, othersOf}
+use Rattle.serial.specs.Ledger.{OpenWithReads, othersOf, lifted}
 use Rattle.serial.proofs.Ordered.{HandedBack}
 use Rattle.serial.proofs.Run.{Misses}
-use Rattle.serial.proofs.Invariant.{all-others, write-id}
-use Rattle.serial.proofs.Held.{HeldBy, written-keeps, read-keeps, held-elsewhere, held-changed, held-dropped, unheld-byte}
+use Rattle.serial.proofs.Invariant.{all-others, edited-id}
+use Rattle.serial.proofs.Held.{HeldBy, Keeps, written-keeps, read-keeps, savepoint-keeps, back-keeps, held-elsewhere, held-changed, held-dropped, unheld-byte}
 
 -- the transaction holds every byte that it has read
 abbrev pub HoldsReads : State → OpenWithReads → Type 0
@@ -58,7 +62,7 @@ pub flushed-held : (s : State) (t : List ℕ) (ss : List OpenWithReads) (q : ℕ
 flushed-held s t ss q h = keep (λ id a x. record { slot = x .slot; listed = x .listed; named = x .named; running = x .running; used = x .used }) h
 
 module _ (s : State) (m t : List ℕ) (z : SizedState s) (ss : List OpenWithReads) (h : All (HoldsReads s) ss) where
-  pub begun-held : beginNumber s m t ≡ 0 → (i : ℕ) → All (HoldsReads (begunState s)) (ss ++ (record { tx = record { id = i; writes = [] }; reads = [] } ∷ []))
+  pub begun-held : beginNumber s m t ≡ 0 → (i : ℕ) → All (HoldsReads (begunState s)) (ss ++ (record { tx = record { id = i; writes = []; savepoints = [] }; reads = [] } ∷ []))
   unfolding begunState
   begun-held e i =
       all-append
@@ -73,6 +77,14 @@ module _ (s : State) (m t : List ℕ) (z : SizedState s) (ss : List OpenWithRead
     elsewhere : txAt s (slotOf s (id .0)) .id .0 ≡ id .0 → (i a : ℕ) → id .0 ≢ i → (x : HeldBy s i a) → x .slot ≡ slotOf s (id .0) → ⊥
     elsewhere named i a n x q = n (sym named ∙ ap (λ (k : ℕ). txAt s k .id .0) (sym q) ∙ x .named)
 
+    -- one that changes the transaction of the id, in the state and in the ledger; g leaves the id
+    edited : (r : State) (u : Tx) (g : OpenTx → OpenTx) → ((x : OpenTx) → g x .id ≡ x .id) → Changed (txAt s) (txAt r) j u → s .count ≤ r .count
+        → Keeps (txAt s j) u → All (HoldsReads r) (map (lifted (ofId (id .0) g)) ss)
+    edited r u g same c few kept =
+        all-mapped (lifted (ofId (id .0) g))
+        (all-map (λ x k. subst (λ (i : ℕ). All (λ q. (b : ℕ) → HandedBack q b → HeldBy r i b) (x .reads)) (sym (edited-id (id .0) g same (x .tx))) k)
+        (keep (λ i b x. held-changed s r i b j u c few kept x) h))
+
     pub wrote-held : (a : ℕ) (bs : List ℕ) → writeNumber s m t id a (length bs) ≡ 0
         → All (HoldsReads (writtenState s j m a bs)) (map (entries.notingWrite (id .0) (record { addr = a; bytes = bs })) ss)
     unfolding writtenState
@@ -82,10 +94,25 @@ module _ (s : State) (m t : List ℕ) (z : SizedState s) (ss : List OpenWithRead
         let l : length (take (length bs) (drop a m)) ≡ length bs =
         length-take-le (length bs) (drop a m) (rw length-drop (omega (arith, r .memory, p .range .within))) in
         let kept = written-keeps (txAt s j) (z .each j (r .listed)) a (take (length bs) (drop a m)) bs (p .undo) (p .redo) l in
-        let w : Write = record { addr = a; bytes = bs } in
-        all-mapped (entries.notingWrite (id .0) w)
-        (all-map (λ x k. subst (λ (i : ℕ). All (λ q. (b : ℕ) → HandedBack q b → HeldBy (writtenState s j m a bs) i b) (x .reads)) (sym (write-id (id .0) w x)) k)
-        (keep (λ i b x. held-changed s (writtenState s j m a bs) i b j _ (written-slot s z j (r .listed) (r .few) m a bs) (omega arith) kept x) h))
+        edited (writtenState s j m a bs) _ (addWrites (record { addr = a; bytes = bs } ∷ [])) (λ x. refl) (written-slot s z j (r .listed) (r .few) m a bs) (omega arith) kept
+
+    module _ (name : ℕ) where
+      pub savepointed-held : savepointNumber s m t id name ≡ 0 → All (HoldsReads (savepointState s j name)) (map (lifted (ofId (id .0) (noteSavepoint name))) ss)
+      unfolding savepointState
+      savepointed-held e =
+          let r = savepoint-passed s m t id name e .runs in
+          edited (savepointState s j name) _ (noteSavepoint name) (λ x. refl) (savepoint-slot s z j (r .listed) (r .few) name) (omega arith)
+          (savepoint-keeps (txAt s j) name)
+
+      -- whatever memory the ledger takes the old bytes from
+      pub went-back-held : (c : List ℕ) → goBackNumber s m t id name ≡ 0
+          → All (HoldsReads (wentBackState s j m name)) (map (lifted (ofId (id .0) (addReturn c name))) ss)
+      unfolding wentBackState
+      went-back-held c e =
+          let p = go-back-passed s m t id name e in
+          let r = p .runs in
+          edited (wentBackState s j m name) _ (addReturn c name) (λ x. refl) (back-slot s z j (r .listed) (r .few) m name) (omega arith)
+          (back-keeps (txAt s j) m name (writable s m t z id name p))
 
     pub answered-held : (a n : ℕ) → answerNumber s m t id a n ≡ 0 → All (HoldsReads (readState s j a n)) ss
     unfolding readState

@@ -3,17 +3,20 @@ use Prim.Native.Nat.{ℕ}
 use mathlib.Core.Path.{_≡_, refl, sym, ap, _∙_, subst}
 use mathlib.Core.Logic.{_≢_}
 use mathlib.Core.Bool.{Bool, true, false, not, cond}
-use mathlib.Core.List.{List, [], _∷_, _++_, map}
+use mathlib.Core.List.{List, [], _∷_, _++_, map, append-nil}
 use lib.Dec.{eqb}
 use borrow.Author.Tests.{eqb-true, eq-eqb}
 use Rattle.recovery.specs.Group.{Write}
 use Rattle.recovery.specs.Lists.{All, nil, cons}
+use Rattle.recovery.specs.Savepoint.{countAt}
+use Rattle.recovery.specs.Ledger.{OpenTx, committedMemory, ofId, addWrites, noteSavepoint, takenBack, addReturn}
 use Rattle.recovery.proofs.Bool.{opposed}
 use Rattle.recovery.proofs.Lists.{all-map, all-zip, all-append, all-mapped, all-filter, all-passing}
 use Rattle.recovery.proofs.Byte.{newest-append}
+use Rattle.recovery.proofs.Returns.{taken-leaves}
 use Rattle.serial.specs.Ledger.{Read, OpenWithReads, CommitWithReads, LedgerWithReads, committedOf, openTxOf, othersOf, entryFor}
-use Rattle.serial.specs.Ledger.{notingWrite, noteBegun, noteWrote, notePrecommitted, noteRolledBack, noteFlushed, noteSettled, noteRestarted, noteCut}
-use Rattle.serial.proofs.Ordered.{Leaves, Sees, sees-write, sees-commit, InOrder, order-left, order-more}
+use Rattle.serial.specs.Ledger.{withoutReads, lifted, notingWrite, withActive, noteBegun, noteWrote, noteSavepointSet, noteWentBack, notePrecommitted, noteRolledBack, noteFlushed, noteSettled, noteRestarted, noteCut}
+use Rattle.serial.proofs.Ordered.{Leaves, Sees, sees-writes, sees-commit, InOrder, order-left, order-more}
 use Rattle.serial.proofs.Run.{Misses}
 use Rattle.serial.proofs.Assigned.{assignedIn, assigned-precommitted, assigned-rolledBack, assigned-flushed, assigned-restarted}
 
@@ -44,7 +47,7 @@ abbrev isOther : ℕ → OpenWithReads → Bool
 isOther i s = not (eqb i (s .tx .id))
 
 -- what holds of each open one, and of one without writes and reads, holds of the one found
-all-open : {p : OpenWithReads → Type 0} (i : ℕ) {ss : List OpenWithReads} → p (record { tx = record { id = i; writes = [] }; reads = [] })
+all-open : {p : OpenWithReads → Type 0} (i : ℕ) {ss : List OpenWithReads} → p (record { tx = record { id = i; writes = []; savepoints = [] }; reads = [] })
     → All p ss → p (openTxOf i ss)
 all-open i h nil = h
 all-open {p} i h (cons {x = s} {xs = ss} q qs) = go (eqb i (s .tx .id)) (all-open i h qs)
@@ -70,32 +73,38 @@ leave-none : (rs : List Read) → All (Leaves []) rs
 leave-none [] = nil
 leave-none (r ∷ rs) = cons (λ a h. refl) (leave-none rs)
 
--- ---- a write
+-- ---- a change of one open transaction that adds writes
 
-module _ (i : ℕ) (w : Write) where
-  pub write-id : (s : OpenWithReads) → notingWrite i w s .tx .id ≡ s .tx .id
-  write-id s = go (eqb i (s .tx .id))
-    where
-      go : (b : Bool) → cond b (record { id = s .tx .id; writes = s .tx .writes ++ (w ∷ []) }) (s .tx) .id ≡ s .tx .id
-      go true = refl
-      go false = refl
+all-given : {p : OpenWithReads → Type 0} (ss : List OpenWithReads) → ((s : OpenWithReads) → p s) → All p ss
+all-given [] f = nil
+all-given (s ∷ ss) f = cons (f s) (all-given ss f)
 
-  write-sees : (m : List ℕ) (before : List CommitWithReads) (s : OpenWithReads) → OpenSees m before s → OpenSees m before (notingWrite i w s)
-  write-sees m before s h = go (eqb i (s .tx .id))
+pub edited-id : (i : ℕ) (g : OpenTx → OpenTx) → ((t : OpenTx) → g t .id ≡ t .id) → (t : OpenTx) → ofId i g t .id ≡ t .id
+edited-id i g same t = go (eqb i (t .id))
+  where
+    go : (b : Bool) → cond b (g t) t .id ≡ t .id
+    go true = same t
+    go false = refl
+
+-- g adds these writes to the open transaction of the id
+module _ (i : ℕ) (g : OpenTx → OpenTx) (adds : OpenTx → List Write) (same : (t : OpenTx) → g t .id ≡ t .id)
+    (more : (t : OpenTx) → g t .writes ≡ t .writes ++ adds t) where
+  edited-sees : (m : List ℕ) (before : List CommitWithReads) (s : OpenWithReads) → OpenSees m before s → OpenSees m before (lifted (ofId i g) s)
+  edited-sees m before s h = go (eqb i (s .tx .id))
     where
-      go : (b : Bool) → All (Sees m before (cond b (record { id = s .tx .id; writes = s .tx .writes ++ (w ∷ []) }) (s .tx) .writes)) (s .reads)
-      go true = all-map (λ r x. sees-write w x) h
+      go : (b : Bool) → All (Sees m before (cond b (g (s .tx)) (s .tx) .writes)) (s .reads)
+      go true = rw (more (s .tx)) (all-map (λ r x. sees-writes (adds (s .tx)) x) h)
       go false = h
 
-  write-apart : (s t : OpenWithReads) → (s .tx .id ≢ i → All (Misses w) (s .reads)) → ReadsLeft s t → ReadsLeft (notingWrite i w s) (notingWrite i w t)
-  write-apart s t misses leaves n = go (eqb i (t .tx .id)) refl (λ e. n (write-id t ∙ e ∙ sym (write-id s)))
+  edited-apart : (s t : OpenWithReads) → (t .tx .id ≢ s .tx .id → i ≡ t .tx .id → All (Leaves (adds (t .tx))) (s .reads)) → ReadsLeft s t
+      → ReadsLeft (lifted (ofId i g) s) (lifted (ofId i g) t)
+  edited-apart s t new old n = go (eqb i (t .tx .id)) refl (λ e. n (edited-id i g same (t .tx) ∙ e ∙ sym (edited-id i g same (s .tx))))
     where
-      go : (b : Bool) → eqb i (t .tx .id) ≡ b → t .tx .id ≢ s .tx .id
-          → All (Leaves (cond b (record { id = t .tx .id; writes = t .tx .writes ++ (w ∷ []) }) (t .tx) .writes)) (s .reads)
+      go : (b : Bool) → eqb i (t .tx .id) ≡ b → t .tx .id ≢ s .tx .id → All (Leaves (cond b (g (t .tx)) (t .tx) .writes)) (s .reads)
       go true e d =
-          all-map (λ r p a c. newest-append a (t .tx .writes) (w ∷ []) ∙ rw (p .1 a c) (p .0 a c))
-          (all-zip (leaves d) (misses (λ q. d (sym (eqb-true i (t .tx .id) e) ∙ sym q))))
-      go false e d = leaves d
+          rw (more (t .tx))
+          (all-map (λ r p a c. newest-append a (t .tx .writes) (adds (t .tx)) ∙ rw (p .1 a c) (p .0 a c)) (all-zip (old d) (new d (eqb-true i (t .tx .id) e))))
+      go false e d = old d
 
 -- ---- the rules
 
@@ -122,20 +131,42 @@ module _ (m : List ℕ) (k : LedgerWithReads) (v : Reading m k) where
   }
     where
       fresh : OpenWithReads
-      fresh = record { tx = record { id = i; writes = [] }; reads = [] }
+      fresh = record { tx = record { id = i; writes = []; savepoints = [] }; reads = [] }
 
-      nothing : (ts : List OpenWithReads) → All (ReadsLeft (record { tx = record { id = i; writes = [] }; reads = [] })) ts
+      nothing : (ts : List OpenWithReads) → All (ReadsLeft (record { tx = record { id = i; writes = []; savepoints = [] }; reads = [] })) ts
       nothing [] = nil
       nothing (t ∷ ts) = cons (λ n. nil) (nothing ts)
 
-  pub wrote-reading : (i : ℕ) (w : Write) → All (λ s. s .tx .id ≢ i → All (Misses w) (s .reads)) (k .active) → Reading m (noteWrote i w k)
-  wrote-reading i w unread = record {
+  edited-reading : (i : ℕ) (g : OpenTx → OpenTx) (adds : OpenTx → List Write) → ((t : OpenTx) → g t .id ≡ t .id)
+      → ((t : OpenTx) → g t .writes ≡ t .writes ++ adds t)
+      → All (λ s. All (λ t. t .tx .id ≢ s .tx .id → i ≡ t .tx .id → All (Leaves (adds (t .tx))) (s .reads)) (k .active)) (k .active)
+      → Reading m (withActive (map (lifted (ofId i g)) (k .active)) k)
+  edited-reading i g adds same more leaves = record {
     order = v .order;
     assigned = v .assigned;
-    active = all-mapped (notingWrite i w) (all-map (λ s h. write-sees i w m all s h) (v .active));
-    apart = all-mapped (notingWrite i w)
-        (all-map (λ s p. all-mapped (notingWrite i w) (all-map (λ t h. write-apart i w s t (p .0) h) (p .1))) (all-zip unread (v .apart)));
+    active = all-mapped (lifted (ofId i g)) (all-map (λ s h. edited-sees i g adds same more m all s h) (v .active));
+    apart = all-mapped (lifted (ofId i g))
+        (all-map (λ s p. all-mapped (lifted (ofId i g)) (all-map (λ t q. edited-apart i g adds same more s t (q .0) (q .1)) (all-zip (p .0) (p .1))))
+        (all-zip leaves (v .apart)));
   }
+
+  pub wrote-reading : (i : ℕ) (w : Write) → All (λ s. s .tx .id ≢ i → All (Misses w) (s .reads)) (k .active) → Reading m (noteWrote i w k)
+  wrote-reading i w unread =
+      edited-reading i (addWrites (w ∷ [])) (λ t. w ∷ []) (λ t. refl) (λ t. refl)
+      (all-map (λ s h. all-given (k .active) (λ t n e. all-map (λ r x. x) (h (λ q. n (sym e ∙ sym q))))) unread)
+
+  pub savepointSet-reading : (i name : ℕ) → Reading m (noteSavepointSet i name k)
+  savepointSet-reading i name =
+      edited-reading i (noteSavepoint name) (λ t. []) (λ t. refl) (λ t. sym (append-nil (t .writes)))
+      (all-given (k .active) (λ s. all-given (k .active) (λ t n e. leave-none (s .reads))))
+
+  -- a return writes where its transaction has written
+  pub wentBack-reading : (i name : ℕ) → Reading m (noteWentBack i name k)
+  wentBack-reading i name =
+      let c : List ℕ = committedMemory (withoutReads k) in
+      edited-reading i (addReturn c name) (λ t. takenBack c (countAt name (t .savepoints)) (t .writes)) (λ t. refl) (λ t. refl)
+      (all-map (λ s h. all-map
+      (λ t apart n e. all-map (λ r leaves a x. taken-leaves a c (countAt name (t .tx .savepoints)) (t .tx .writes) (leaves a x)) (apart n)) h) (v .apart))
 
   pub precommitted-reading : (i n : ℕ) → Reading m (notePrecommitted i n k)
   precommitted-reading i n = record {

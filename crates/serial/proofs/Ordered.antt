@@ -32,12 +32,12 @@ pub record Sees (m : List ℕ) (before : List CommitWithReads) (writes : List Wr
       → getD (r .bytes) j 0 ≡ byteAfter m (writesIn (commitsIn before) ++ take (r .own) writes) (r .addr + j)
   pub assigned : (between : List ℕ) × (stampsOf before ≡ r .assigned ++ between)
 
--- one more write of its own
-pub sees-write : {m : List ℕ} {before : List CommitWithReads} {ws : List Write} {r : Read} (w : Write) → Sees m before ws r → Sees m before (ws ++ (w ∷ [])) r
-sees-write {m} {before} {ws} {r} w s = record {
+-- more writes of its own
+pub sees-writes : {m : List ℕ} {before : List CommitWithReads} {ws : List Write} {r : Read} (vs : List Write) → Sees m before ws r → Sees m before (ws ++ vs) r
+sees-writes {m} {before} {ws} {r} vs s = record {
   within = s .within;
-  stood = omega (arith, s .stood, length-append ws (w ∷ []));
-  bytes = λ j h. s .bytes j h ∙ ap (λ (l : List Write). byteAfter m (writesIn (commitsIn before) ++ l) (r .addr + j)) (sym (take-append-le (r .own) ws (w ∷ []) (s .stood)));
+  stood = omega (arith, s .stood, length-append ws vs);
+  bytes = λ j h. s .bytes j h ∙ ap (λ (l : List Write). byteAfter m (writesIn (commitsIn before) ++ l) (r .addr + j)) (sym (take-append-le (r .own) ws vs (s .stood)));
   assigned = s .assigned;
 }
 

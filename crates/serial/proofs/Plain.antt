@@ -7,18 +7,19 @@ use lib.ListN.{length, take, drop, replicate}
 use lib.Dec.{eqb, leb}
 use Rattle.recovery.specs.Group.{Write}
 use Rattle.recovery.specs.Ledger as ledger
-use Rattle.recovery.specs.Ledger.{OpenTx, Commit, Entry, Ledger, noLedger, entrySize, fittingEntries, committedIn, openWrites, others, addWrite, enter}
-use Rattle.recovery.specs.Ledger.{Event, unchanged, begun, wrote, precommitted, rolledBack, flushed, settled, restarted, cut, emptied}
+use Rattle.recovery.specs.Ledger.{OpenTx, Commit, Entry, Ledger, noLedger, entrySize, fittingEntries, committedIn, openWrites, others, committedMemory, ofId}
+use Rattle.recovery.specs.Ledger.{addWrite, noteSavepoint, addReturn, enter}
+use Rattle.recovery.specs.Ledger.{Event, unchanged, begun, wrote, savepointSet, wentBack, precommitted, rolledBack, flushed, settled, restarted, cut, emptied}
 use Rattle.recovery.proofs.Lists.{take-map}
 use Rattle.serial.specs.Ledger.{OpenWithReads, CommitWithReads, EntryWithReads, commit, abort, LedgerWithReads, noReads, opensIn, commitsIn, plainEntry}
-use Rattle.serial.specs.Ledger.{entriesIn, withoutReads, committedOf, openTxOf, othersOf, notingWrite, readBy, addRead, notingRead, noteBegun, noteWrote, noteRead, notePrecommitted}
+use Rattle.serial.specs.Ledger.{entriesIn, withoutReads, committedOf, openTxOf, othersOf, lifted, readBy, addRead, notingRead, noteBegun, noteWrote, noteRead, notePrecommitted}
 use Rattle.serial.specs.Ledger.{noteRolledBack, leaving, noteFlushed, noteRestarted, note, Fed, event, saw, toldOf, feed}
 
 -- ---- open transactions by id
 
-noting-write-open : (i : ℕ) (w : Write) (ss : List OpenWithReads) → opensIn (map (notingWrite i w) ss) ≡ map (addWrite i w) (opensIn ss)
-noting-write-open i w [] = refl
-noting-write-open i w (s ∷ ss) = ap (λ (l : List OpenTx). addWrite i w (s .tx) ∷ l) (noting-write-open i w ss)
+lifted-open : (f : OpenTx → OpenTx) (ss : List OpenWithReads) → opensIn (map (lifted f) ss) ≡ map f (opensIn ss)
+lifted-open f [] = refl
+lifted-open f (s ∷ ss) = ap (λ (l : List OpenTx). f (s .tx) ∷ l) (lifted-open f ss)
 
 -- a read leaves a transaction's id and writes
 pub read-tx : (i addr : ℕ) (bytes assigned : List ℕ) (s : OpenWithReads) → notingRead i addr bytes assigned s .tx ≡ s .tx
@@ -103,7 +104,9 @@ module _ (k : LedgerWithReads) where
 pub note-plain : (e : Event) (k : LedgerWithReads) → withoutReads (note e k) ≡ enter e (withoutReads k)
 note-plain unchanged k = refl
 note-plain (begun i) k = rw map-append
-note-plain (wrote i w) k = rw (noting-write-open i w (k .active))
+note-plain (wrote i w) k = rw (lifted-open (addWrite i w) (k .active))
+note-plain (savepointSet i name) k = rw (lifted-open (ofId i (noteSavepoint name)) (k .active))
+note-plain (wentBack i name) k = rw (lifted-open (ofId i (addReturn (committedMemory (withoutReads k)) name)) (k .active))
 note-plain (precommitted i n) k = precommitted-plain k i n
 note-plain (rolledBack i) k = rolledBack-plain k i
 note-plain (flushed q allowed) k = flushed-plain k q allowed

@@ -9,7 +9,7 @@ use lib.ListN.{length, take, drop}
 use Rattle.recovery.specs.Group.{Write}
 use Rattle.recovery.specs.Lists.{All}
 use Rattle.recovery.specs.Transaction.{Tx, heldByOther}
-use Rattle.recovery.specs.Ledger.{Event, unchanged, begun, wrote, precommitted, rolledBack, flushed, settled, restarted, cut, Ledger, enter}
+use Rattle.recovery.specs.Ledger.{Event, unchanged, begun, wrote, savepointSet, wentBack, precommitted, rolledBack, flushed, settled, restarted, cut, Ledger, enter}
 use Rattle.recovery.specs.Machine as machine
 use Rattle.recovery.specs.Machine.{Opening, Disk, Live, System, down, up, openingDisk, Listed, Step, stays}
 use Rattle.recovery.proofs.Byte.{seen}
@@ -21,11 +21,13 @@ use Rattle.serial.proofs.Ordered.{HandedBack}
 abbrev pub Misses : Write → Read → Type 0
 Misses w r = (a : ℕ) → HandedBack r a → seen a w ≡ none
 
--- Number 9, as readers hold (document 02, A.2): a write has no byte that another open transaction has read.
+-- Number 9, as readers hold (document 02, A.2): a write has no byte that another open transaction has read. Going back is never refused by it.
 abbrev pub Unread : Event → List OpenWithReads → Type 0
 Unread unchanged ss = Unit {0}
 Unread (begun i) ss = Unit {0}
 Unread (wrote i w) ss = All (λ s. s .tx .id ≢ i → All (Misses w) (s .reads)) ss
+Unread (savepointSet i name) ss = Unit {0}
+Unread (wentBack i name) ss = Unit {0}
 Unread (precommitted i n) ss = Unit {0}
 Unread (rolledBack i) ss = Unit {0}
 Unread (flushed q allowed) ss = Unit {0}
@@ -44,7 +46,7 @@ module _ (o : Opening) where
 
   -- any list of calls, with the ledger with reads that is fed them
   pub data ReadRun : System → LedgerWithReads → Type 0 where
-    opened : ReadRun (down (openingDisk o)) noReads
+    opened : ReadRun (down (openingDisk o)) (noReads (o .memory))
     next : {s t : System} {k : LedgerWithReads} {f : Fed} → ReadRun s k → ReadStep s k f t → ReadRun t (feed f k)
 
   -- a step without the read

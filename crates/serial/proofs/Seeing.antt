@@ -19,6 +19,7 @@ use Rattle.recovery.specs.Machine.{Opening, Disk, historyOf, Live, Listed}
 use Rattle.recovery.specs.Claim.{commits}
 use Rattle.recovery.proofs.Lists.{all-map, all-zip, all-append, all-right, all-here, all-more, all-mapped}
 use Rattle.recovery.proofs.Transactions.{Found, find, found-running, found-apart}
+use Rattle.recovery.proofs.Records.{seen-inside}
 use Rattle.recovery.proofs.Byte.{act, act-else, newest, newest-append}
 use Rattle.recovery.proofs.Ledger as ledger
 use Rattle.recovery.proofs.Ledger.{opens, commits-append}
@@ -29,7 +30,7 @@ use Rattle.serial.specs.Claim.{OnlyOpen}
 use Rattle.serial.proofs.Plain.{read-tx}
 use Rattle.serial.proofs.Laying.{writesIn, byteAfter, replay-newest}
 use Rattle.serial.proofs.Ordered.{Leaves, Sees}
-use Rattle.serial.proofs.LiveRead.{seen-inside, read-byte, others-left}
+use Rattle.serial.proofs.LiveRead.{read-byte, others-left}
 use Rattle.serial.proofs.Assigned.{assignedIn}
 use Rattle.serial.proofs.Invariant.{OpenSees, ReadsLeft, Reading}
 

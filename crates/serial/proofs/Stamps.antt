@@ -6,7 +6,7 @@ use mathlib.Core.Path.{_≡_, refl, sym, ap, _∙_, subst}
 use mathlib.Core.Logic.{_≢_}
 use mathlib.Core.List.{List, [], _∷_, _++_, append-nil}
 use Rattle.recovery.specs.Lists.{All, nil, cons}
-use Rattle.recovery.specs.Ledger.{Event, unchanged, begun, wrote, precommitted, rolledBack, flushed, settled, restarted, cut}
+use Rattle.recovery.specs.Ledger.{Event, unchanged, begun, wrote, savepointSet, wentBack, precommitted, rolledBack, flushed, settled, restarted, cut}
 use Rattle.recovery.proofs.Lists.{all-map, all-append, all-left, all-mapped}
 use Rattle.recovery.proofs.Distinct.{Distinct, empty, distinct-left, distinct-more}
 use Rattle.serial.specs.Ledger.{CommitWithReads, LedgerWithReads, noReads, stampsOf, committedOf, entryFor, noteFlushed, note, Fed, event, saw, feed}
@@ -20,6 +20,8 @@ durable-leads : (e : Event) (k : LedgerWithReads) → (rest : List CommitWithRea
 durable-leads unchanged k = (committedOf (k .queue), refl)
 durable-leads (begun i) k = (committedOf (k .queue), refl)
 durable-leads (wrote i w) k = (committedOf (k .queue), refl)
+durable-leads (savepointSet i name) k = (committedOf (k .queue), refl)
+durable-leads (wentBack i name) k = (committedOf (k .queue), refl)
 durable-leads (precommitted i n) k = (committedOf (k .queue), refl)
 durable-leads (rolledBack i) k = (committedOf (k .queue), refl)
 durable-leads (flushed q allowed) k = (committedOf (noteFlushed q allowed k .queue), sym (assigned-flushed q allowed k))
@@ -31,6 +33,8 @@ stamps-grow : (e : Event) (k : LedgerWithReads) → k .stamps ≤ note e k .stam
 stamps-grow unchanged k = omega arith
 stamps-grow (begun i) k = omega arith
 stamps-grow (wrote i w) k = omega arith
+stamps-grow (savepointSet i name) k = omega arith
+stamps-grow (wentBack i name) k = omega arith
 stamps-grow (precommitted i n) k = omega arith
 stamps-grow (rolledBack i) k = omega arith
 stamps-grow (flushed q allowed) k = omega arith
@@ -50,6 +54,8 @@ note-turns : (e : Event) (k : LedgerWithReads) → Turns k (note e k)
 note-turns unchanged k = same k k refl refl
 note-turns (begun i) k = same k (note (begun i) k) refl refl
 note-turns (wrote i w) k = same k (note (wrote i w) k) refl refl
+note-turns (savepointSet i name) k = same k (note (savepointSet i name) k) refl refl
+note-turns (wentBack i name) k = same k (note (wentBack i name) k) refl refl
 note-turns (precommitted i n) k = one (entryFor i n k) (assigned-precommitted i n k) refl refl
 note-turns (rolledBack i) k = same k (note (rolledBack i) k) (sym (assigned-rolledBack i k)) refl
 note-turns (flushed q allowed) k = same k (note (flushed q allowed) k) (sym (assigned-flushed q allowed k)) refl
@@ -70,8 +76,8 @@ pub record Stamped (k : LedgerWithReads) : Type 0 where
   pub once : Distinct (λ c. c .stamp) (assignedIn k)
   pub given : All (λ c. c .stamp < k .stamps) (assignedIn k)
 
-pub stamped-none : Stamped noReads
-stamped-none = record { once = empty; given = nil }
+pub stamped-none : (m : List ℕ) → Stamped (noReads m)
+stamped-none m = record { once = empty; given = nil }
 
 pub stamped-feed : (f : Fed) (k : LedgerWithReads) → Stamped k → Stamped (feed f k)
 stamped-feed f k v = go (turns f k)

@@ -4,7 +4,7 @@ use mathlib.Core.List.{[], append-nil}
 use lib.ListN.{length}
 use Rattle.recovery.specs.Lists.{All, nil, cons}
 use Rattle.recovery.specs.Ledger.{Event}
-use Rattle.recovery.specs.Machine.{Opening, System, down, up, diskOf, undoneBy, Step, stays, begins, writes, precommits, rollsBack, flushes, flushIsCut, settles, checkpoints}
+use Rattle.recovery.specs.Machine.{Opening, System, down, up, diskOf, undoneBy, Step, stays, begins, writes, setsSavepoint, goesBack, precommits, rollsBack, flushes, flushIsCut, settles, checkpoints}
 use Rattle.recovery.specs.Machine.{checkpointIsCut, restarts, restartIsCut}
 use Rattle.recovery.proofs.Lists.{all-map}
 use Rattle.recovery.proofs.Invariant.{Inv}
@@ -14,8 +14,8 @@ use Rattle.serial.specs.Claim.{AsOrdered, Serial}
 use Rattle.serial.proofs.Ordered.{sees-ordered, InOrder, order-serial}
 use Rattle.serial.proofs.Run.{Unread, ReadStep, steps, reads, ReadRun, opened, next, plain-run}
 use Rattle.serial.proofs.Assigned.{assignedIn}
-use Rattle.serial.proofs.Invariant.{Reading, AtRest, durable-order, cut-resting, begun-reading, wrote-reading, precommitted-reading}
-use Rattle.serial.proofs.Invariant.{rolledBack-reading, flushed-reading, settled-reading, restarted-reading}
+use Rattle.serial.proofs.Invariant.{Reading, AtRest, durable-order, cut-resting, begun-reading, wrote-reading, savepointSet-reading}
+use Rattle.serial.proofs.Invariant.{wentBack-reading, precommitted-reading, rolledBack-reading, flushed-reading, settled-reading, restarted-reading}
 use Rattle.serial.proofs.Seeing.{read-reading}
 
 module _ (o : Opening) where
@@ -33,6 +33,8 @@ module _ (o : Opening) where
   keeps s t e k (stays s′) c v = v
   keeps s t e k (begins d l room) c v = begun-reading (o .memory) k v _
   keeps s t e k (writes d l r w listed run within free room) c v = wrote-reading (o .memory) k v (r .id) w c
+  keeps s t e k (setsSavepoint d l r name listed run) c v = savepointSet-reading (o .memory) k v (r .id) name
+  keeps s t e k (goesBack d l r name n listed run set room) c v = wentBack-reading (o .memory) k v (r .id) name
   keeps s t e k (precommits d l r listed run) c v = precommitted-reading (o .memory) k v (r .id) _
   keeps s t e k (rollsBack d l r listed run) c v = rolledBack-reading (o .memory) k v (r .id)
   keeps s t e k (flushes d l q allowed enough) c v = flushed-reading (o .memory) k v q allowed

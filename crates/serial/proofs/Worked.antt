@@ -12,7 +12,7 @@ use Rattle.log.specs.Group.{readBody, readGroup}
 use Rattle.log.specs.Log.{readLog}
 use Rattle.log.proofs.Basics.{clash}
 use Rattle.transaction.specs.Flat.{emptyRecords, emptyTx}
-use Rattle.transaction.specs.Rules.{headOk, stateOk, heldAgainst}
+use Rattle.transaction.specs.Rules.{headOk, savepointsOk, stateOk, heldAgainst}
 use Rattle.transaction.specs.Steps.{pushed, freshTx, written, withRead, precommitted}
 use Rattle.image.specs.Pack.{emptyImage}
 use Rattle.restart.specs.Forward.{past, forwardOf}
@@ -71,7 +71,7 @@ repliesIn none = none
 repliesIn (some x) = some (x .replies)
 
 computed : repliesIn (quickRun calls start) ≡ some replies
-unfolding calls replies undoOrder readRecord readRedo readCommit readAbort run all readBody readGroup readLog emptyRecords emptyTx headOk stateOk heldAgainst pushed freshTx
+unfolding calls replies undoOrder readRecord readRedo readCommit readAbort run all readBody readGroup readLog emptyRecords emptyTx headOk savepointsOk stateOk heldAgainst pushed freshTx
     written withRead precommitted emptyImage past forwardOf isRunning isLost runningOf lostOf recoverOf unrecovered unfit begunState writtenState readState
     precommittedState loadOf openOf stepsOf examineOf recoveredState restartOf carriedOut
 computed = refl

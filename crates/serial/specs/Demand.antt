@@ -4,7 +4,7 @@ use mathlib.Core.List.{List, [], _∷_}
 use mathlib.Core.Path.{_≡_}
 use lib.ListN.{length, replicate}
 use Rattle.recovery.specs.Ledger.{unchanged}
-use Rattle.history.specs.Calls.{Call, begin, write, read, readAnswer, precommit, abort, flush, settle, checkpoint, restart}
+use Rattle.history.specs.Calls.{Call, begin, write, read, readAnswer, savepoint, goBack, precommit, abort, flush, settle, checkpoint, restart}
 use Rattle.history.specs.Calls.{Reply, told, part, World, stepOf}
 use Rattle.history.specs.Demand.{eventOf, Happening, called, powerFails, Watched, happen, opening}
 use Rattle.serial.specs.Ledger.{LedgerWithReads, noReads, withoutReads, Fed, event, saw, feed}
@@ -18,6 +18,8 @@ sawBy begin bytes = event unchanged
 sawBy (write id addr new) bytes = event unchanged
 sawBy (read id addr len) bytes = saw id addr bytes
 sawBy (readAnswer id addr len) bytes = event unchanged
+sawBy (savepoint id name) bytes = event unchanged
+sawBy (goBack id name) bytes = event unchanged
 sawBy (precommit id) bytes = event unchanged
 sawBy (abort id) bytes = event unchanged
 sawBy (flush groups allowed) bytes = event unchanged
@@ -53,7 +55,7 @@ happenReads (h ∷ hs) k = happenReads hs (happenRead h k)
 
 -- an all-zero disk, as demand 3 opens; no read yet
 abbrev pub openingReads : List ℕ → List ℕ → WatchedReads
-openingReads memory tail = record { world = opening memory tail .world; ledger = noReads }
+openingReads memory tail = record { world = opening memory tail .world; ledger = noReads (replicate 4096 0) }
 
 -- ---- the whole statement
 

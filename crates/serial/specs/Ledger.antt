@@ -10,8 +10,8 @@ use lib.Dec.{eqb}
 use Rattle.recovery.specs.Group.{Write}
 use Rattle.recovery.specs.Lists.{filter}
 use Rattle.recovery.specs.Ledger as ledger
-use Rattle.recovery.specs.Ledger.{OpenTx, Commit, Entry, Ledger, addWrite, fittingEntries, enterSettled}
-use Rattle.recovery.specs.Ledger.{Event, unchanged, begun, wrote, precommitted, rolledBack, flushed, settled, restarted, cut}
+use Rattle.recovery.specs.Ledger.{OpenTx, Commit, Entry, Ledger, committedMemory, ofId, addWrite, noteSavepoint, addReturn, fittingEntries, enterSettled}
+use Rattle.recovery.specs.Ledger.{Event, unchanged, begun, wrote, savepointSet, wentBack, precommitted, rolledBack, flushed, settled, restarted, cut}
 
 -- A read: its address and the bytes handed back, how many own writes stood, and which transactions were assigned then, by their stamps.
 pub record Read : Type 0 where
@@ -37,6 +37,7 @@ pub data EntryWithReads : Type 0 where
 
 -- as the ledger; stamps: how many were given
 pub record LedgerWithReads : Type 0 where
+  pub opening : List ℕ
   pub active : List OpenWithReads
   pub queue : List EntryWithReads
   pub durable : List CommitWithReads
@@ -45,8 +46,8 @@ pub record LedgerWithReads : Type 0 where
   pub stamps : ℕ
 
 -- all empty at first
-abbrev pub noReads : LedgerWithReads
-noReads = record { active = []; queue = []; durable = []; assigned = []; settled = []; stamps = 0 }
+abbrev pub noReads : List ℕ → LedgerWithReads
+noReads opening = record { opening = opening; active = []; queue = []; durable = []; assigned = []; settled = []; stamps = 0 }
 
 -- ---- without the reads
 
@@ -67,6 +68,7 @@ entriesIn es = map plainEntry es
 abbrev pub withoutReads : LedgerWithReads → Ledger
 withoutReads k =
     record {
+      opening = k .opening;
       active = opensIn (k .active);
       queue = entriesIn (k .queue);
       durable = commitsIn (k .durable);
@@ -87,15 +89,19 @@ committedOf (abort ∷ es) = committedOf es
 
 -- by id: the open transaction with its reads, the others
 abbrev pub openTxOf : ℕ → List OpenWithReads → OpenWithReads
-openTxOf i [] = record { tx = record { id = i; writes = [] }; reads = [] }
+openTxOf i [] = record { tx = record { id = i; writes = []; savepoints = [] }; reads = [] }
 openTxOf i (s ∷ ss) = cond (eqb i (s .tx .id)) s (openTxOf i ss)
 
 abbrev pub othersOf : ℕ → List OpenWithReads → List OpenWithReads
 othersOf i ss = filter (λ s. not (eqb i (s .tx .id))) ss
 
+-- what the ledger changes of an open transaction, with its reads as they were
+abbrev pub lifted : (OpenTx → OpenTx) → OpenWithReads → OpenWithReads
+lifted f s = record { tx = f (s .tx); reads = s .reads }
+
 -- a write goes where the ledger puts it
 abbrev pub notingWrite : ℕ → Write → OpenWithReads → OpenWithReads
-notingWrite i w s = record { tx = addWrite i w (s .tx); reads = s .reads }
+notingWrite i w s = lifted (addWrite i w) s
 
 -- a read goes last among that id's reads, with the count of that id's writes so far
 abbrev pub readBy : ℕ → List ℕ → List ℕ → OpenWithReads → Read
@@ -110,15 +116,22 @@ notingRead i addr bytes assigned s = cond (eqb i (s .tx .id)) (addRead (readBy a
 -- ---- its rules
 
 abbrev pub withActive : List OpenWithReads → LedgerWithReads → LedgerWithReads
-withActive ss k = record { active = ss; queue = k .queue; durable = k .durable; assigned = k .assigned; settled = k .settled; stamps = k .stamps }
+withActive ss k = record { opening = k .opening; active = ss; queue = k .queue; durable = k .durable; assigned = k .assigned; settled = k .settled; stamps = k .stamps }
 
 -- Begin: an open transaction without writes and reads.
 abbrev pub noteBegun : ℕ → LedgerWithReads → LedgerWithReads
-noteBegun i k = withActive (k .active ++ (record { tx = record { id = i; writes = [] }; reads = [] } ∷ [])) k
+noteBegun i k = withActive (k .active ++ (record { tx = record { id = i; writes = []; savepoints = [] }; reads = [] } ∷ [])) k
 
 -- Write: it goes last among that id's writes.
 abbrev pub noteWrote : ℕ → Write → LedgerWithReads → LedgerWithReads
 noteWrote i w k = withActive (map (notingWrite i w) (k .active)) k
+
+-- A savepoint set, and gone back: as in the ledger, for which going back lays what is durable and queued.
+abbrev pub noteSavepointSet : ℕ → ℕ → LedgerWithReads → LedgerWithReads
+noteSavepointSet i name k = withActive (map (lifted (ofId i (noteSavepoint name))) (k .active)) k
+
+abbrev pub noteWentBack : ℕ → ℕ → LedgerWithReads → LedgerWithReads
+noteWentBack i name k = withActive (map (lifted (ofId i (addReturn (committedMemory (withoutReads k)) name))) (k .active)) k
 
 -- A read that handed back these bytes.
 abbrev pub noteRead : ℕ → ℕ → List ℕ → LedgerWithReads → LedgerWithReads
@@ -134,6 +147,7 @@ entryFor i n k =
 abbrev pub notePrecommitted : ℕ → ℕ → LedgerWithReads → LedgerWithReads
 notePrecommitted i n k =
     record {
+      opening = k .opening;
       active = othersOf i (k .active);
       queue = k .queue ++ (commit (entryFor i n k) ∷ []);
       durable = k .durable;
@@ -146,6 +160,7 @@ notePrecommitted i n k =
 abbrev pub noteRolledBack : ℕ → LedgerWithReads → LedgerWithReads
 noteRolledBack i k =
     record {
+      opening = k .opening;
       active = othersOf i (k .active);
       queue = k .queue ++ (abort ∷ []);
       durable = k .durable;
@@ -158,6 +173,7 @@ noteRolledBack i k =
 abbrev pub leaving : ℕ → LedgerWithReads → LedgerWithReads
 leaving n k =
     record {
+      opening = k .opening;
       active = k .active;
       queue = drop n (k .queue);
       durable = k .durable ++ committedOf (take n (k .queue));
@@ -174,6 +190,7 @@ noteFlushed q allowed k = leaving (length (fittingEntries allowed (take q (entri
 abbrev pub noteSettled : ℕ → LedgerWithReads → LedgerWithReads
 noteSettled i k =
     record {
+      opening = k .opening;
       active = k .active;
       queue = k .queue;
       durable = k .durable;
@@ -185,17 +202,19 @@ noteSettled i k =
 -- Restart, done: the lost ones go with their reads; the durable ones are those assigned. Stamps go on.
 abbrev pub noteRestarted : ℕ → LedgerWithReads → LedgerWithReads
 noteRestarted undone k =
-    record { active = []; queue = replicate undone abort; durable = k .durable; assigned = k .durable; settled = k .settled; stamps = k .stamps }
+    record { opening = k .opening; active = []; queue = replicate undone abort; durable = k .durable; assigned = k .durable; settled = k .settled; stamps = k .stamps }
 
 -- Cut, whatever the call: open transactions and queue are emptied after its step.
 abbrev pub noteCut : LedgerWithReads → LedgerWithReads
-noteCut k = record { active = []; queue = []; durable = k .durable; assigned = k .assigned; settled = k .settled; stamps = k .stamps }
+noteCut k = record { opening = k .opening; active = []; queue = []; durable = k .durable; assigned = k .assigned; settled = k .settled; stamps = k .stamps }
 
 -- what the ledger is fed
 abbrev pub note : Event → LedgerWithReads → LedgerWithReads
 note unchanged k = k
 note (begun i) k = noteBegun i k
 note (wrote i w) k = noteWrote i w k
+note (savepointSet i name) k = noteSavepointSet i name k
+note (wentBack i name) k = noteWentBack i name k
 note (precommitted i n) k = notePrecommitted i n k
 note (rolledBack i) k = noteRolledBack i k
 note (flushed q allowed) k = noteFlushed q allowed k

@@ -3,31 +3,35 @@ use Prim.Native.Nat.{ℕ, zero, suc, _+_, _-_, _≤_, _<_}
 use native.Mathlib.Decide.{decLt}
 use native.Mathlib.Omega.{arith}
 use mathlib.Core.Bool.{Bool, true, false, cond, _&&_, _||_}
-use mathlib.Core.List.{List, [], _∷_, _++_}
+use mathlib.Core.List.{List, [], _∷_, _++_, reverseAux, reverse}
 use mathlib.Core.Path.{_≡_, refl, sym, ap, _∙_, subst}
 use lib.ListN.{length, take, drop, length-drop, length-replicate}
 use lib.Seq.{length-take-le}
 use lib.Dec.{eqb, ltb}
 use borrow.Author.Tests.{eqb-true, eqb-false}
 use Rattle.recovery.specs.Lists.{any}
-use Rattle.recovery.proofs.Bool.{or-left, or-right}
+use Rattle.recovery.proofs.Bool.{or-left, or-right, or-both}
 use Rattle.log.specs.declared.TxId.{TxId}
 use Rattle.log.specs.declared.Csn.{Csn}
+use Rattle.recovery.specs.Group.{Write}
+use Rattle.transaction.specs.declared.Extras.{Extras}
 use Rattle.transaction.specs.declared.Tx.{Tx}
 use Rattle.transaction.specs.Lists.{upFrom}
 use Rattle.transaction.specs.Flat.{emptyRecords, emptyTx}
-use Rattle.transaction.specs.View.{Range, range, readsOf, writtenBy}
-use Rattle.transaction.specs.Rules.{meets, reading, writing, heldAgainst}
-use Rattle.transaction.specs.Steps.{freshTx, written, withRead, precommitted}
-use Rattle.transaction.proofs.Pushed.{SizedRanges, ranges-pushed}
+use Rattle.transaction.specs.View.{Range, range, rangesOf, readsOf, writtenBy}
+use Rattle.transaction.specs.Rules.{meets, reading, writing, heldAgainst, stoodAt}
+use Rattle.transaction.specs.Steps.{freshTx, written, withRead, savepointed, returnWrites, goneBack, precommitted}
+use Rattle.transaction.proofs.Pushed.{Sized, SizedRanges, ranges-pushed}
 use Rattle.transaction.proofs.Held.{or-any, held-other}
 use Rattle.transaction.proofs.StateRule.{written-undo}
+use Rattle.transaction.proofs.Returning.{Writable, all-same, all-undo, return-ranges}
 use Rattle.store.specs.declared.State.{State}
 use Rattle.store.specs.State.{unrecovered, txAt, txsOf, slotOf}
 use Rattle.store.specs.Numbers.{txOf}
 use Rattle.store.specs.Answer.{Told}
-use Rattle.store.specs.Steps.{begunState, writtenState, readState, precommittedState, droppedState}
+use Rattle.store.specs.Steps.{begunState, writtenState, readState, savepointState, wentBackState, precommittedState, droppedState}
 use Rattle.store.specs.Calls.{Outcome, decided, beginNumber, beginOf, writeNumber, writeOf, answerNumber, readAnswerOf, precommitNumber, precommitOf}
+use Rattle.store.specs.Calls.{savepointNumber, savepointOf, goBackNumber, goBackOf}
 use Rattle.store.specs.Calls.{abortNumber, abortOf, settleNumber, settleOf}
 use Rattle.store.specs.Stored.{DiskOutcome, Plan, cutShort, madeWhole, carriedOut, storedBy}
 use Rattle.store.specs.Flush.{flushPlan, flushOf}
@@ -35,9 +39,11 @@ use Rattle.store.specs.Checkpoint.{checkpointPlan, checkpointOf}
 use Rattle.store.specs.Apart.{meet, Apart, ReadsApart}
 use Rattle.store.proofs.Fits.{Fit}
 use Rattle.store.proofs.Storing.{diskNumber}
-use Rattle.store.proofs.Passing.{begin-passed, write-passed, answer-passed, precommit-passed, abort-passed, settle-passed}
+use Rattle.store.proofs.Passing.{begin-passed, write-passed, answer-passed, savepoint-passed, go-back-passed, precommit-passed, abort-passed, settle-passed}
+use Rattle.store.proofs.Views.{writable}
 use Rattle.store.proofs.Positions.{Changed, Dropped}
 use Rattle.store.proofs.Stepping.{SizedTx, SizedState, same-or-other, begun-slot, begun-sized, written-slot, written-sized, read-slot, read-sized}
+use Rattle.store.proofs.Stepping.{savepoint-slot, savepoint-sized, back-slot, back-sized}
 use Rattle.store.proofs.Stepping.{precommitted-slot, precommitted-sized, dropped-slot, dropped-sized}
 use Rattle.store.proofs.Changing.{apart, was}
 
@@ -191,6 +197,51 @@ module _ (t : Tx) (a : ℕ) (old new : List ℕ) (z : SizedTx t) (cu : t .undo .
       ap (λ (ws : List Range). any (λ r. any (meet r) ws) (readsOf u)) (written-undo t a old new (z .undos) (z .redos) cu cr l)
       ∙ more-written (readsOf u) (writtenBy t) a (length new) (h p q) (free p)
 
+savepoint-count : (s : State) (j name : ℕ) → savepointState s j name .count ≡ s .count
+unfolding savepointState
+savepoint-count s j name = refl
+
+back-count : (s : State) (j : ℕ) (m : List ℕ) (name : ℕ) → wentBackState s j m name .count ≡ s .count
+unfolding wentBackState
+back-count s j m name = refl
+
+savepoint-apart : (t : Tx) (name : ℕ) (u : Tx) → Apart t u → Apart u t → Apart (savepointed t name) u × Apart u (savepointed t name)
+unfolding savepointed
+savepoint-apart t name u h k = (h, k)
+
+-- ranges that were written, some of them again
+any-drop : {A : Type 0} (p : A → Bool) (n : ℕ) (xs : List A) → any p xs ≡ false → any p (drop n xs) ≡ false
+any-drop p zero xs e = e
+any-drop p (suc n) [] e = refl
+any-drop p (suc n) (x ∷ xs) e = any-drop p n xs (or-right (p x) (any p xs) e)
+
+any-back : {A : Type 0} (p : A → Bool) (xs ys : List A) → any p xs ≡ false → any p ys ≡ false → any p (reverseAux xs ys) ≡ false
+any-back p [] ys e d = d
+any-back p (x ∷ xs) ys e d = any-back p xs (x ∷ ys) (or-right (p x) (any p xs) e) (or-both (p x) (any p ys) (or-left (p x) (any p xs) e) d)
+
+again-written : (rs ws : List Range) (n : ℕ) → any (λ r. any (meet r) ws) rs ≡ false → any (λ r. any (meet r) (ws ++ reverse (drop n ws))) rs ≡ false
+again-written [] ws n e = refl
+again-written (r ∷ rs) ws n e =
+    let old = or-left (any (meet r) ws) (any (λ q. any (meet q) ws) rs) e in
+    let here : any (meet r) (ws ++ reverse (drop n ws)) ≡ false =
+    or-any (meet r) ws (reverse (drop n ws)) ∙ or-both (any (meet r) ws) _ old (any-back (meet r) (drop n ws) [] (any-drop (meet r) n ws old) refl) in
+    rw here (again-written rs ws n (or-right (any (meet r) ws) (any (λ q. any (meet q) ws) rs) e))
+
+module _ (t : Tx) (m : List ℕ) (name : ℕ) (z : Sized (t .undo)) (w : Writable t m (returnWrites t name)) where
+  abbrev ws : List Write
+  ws = returnWrites t name
+
+  back-writes : (u : Tx) → Apart u t → Apart u (goneBack t m name)
+  unfolding goneBack
+  back-writes u h p q =
+      ap (λ (qs : List Range). any (λ r. any (meet r) qs) (readsOf u)) (all-undo t m ws w ∙ ap (λ (qs : List Range). writtenBy t ++ qs) (return-ranges t name z (w .undo)))
+      ∙ again-written (readsOf u) (writtenBy t) (stoodAt name t) (h p (sym (all-same t m ws .1) ∙ q))
+
+  back-reads : (u : Tx) → Apart t u → Apart (goneBack t m name) u
+  unfolding goneBack
+  back-reads u h p q =
+      ap (λ (e : Extras). any (λ r. any (meet r) (writtenBy u)) (rangesOf (e .reads))) (all-same t m ws .3) ∙ h (sym (all-same t m ws .1) ∙ p) q
+
 -- ---- the calls in memory
 
 module _ (s : State) (m t : List ℕ) (h : Holding s) where
@@ -259,6 +310,43 @@ module _ (s : State) (m t : List ℕ) (h : Holding s) where
     pub answer-holds : (a n : ℕ) → Holding (readAnswerOf s m t id a n .state)
     unfolding readAnswerOf
     answer-holds a n = decided-holds (λ (o : Told). Holding (o .state)) (answerNumber s m t id a n) _ _ (held a n) h
+
+    module _ (name : ℕ) where
+      set : savepointNumber s m t id name ≡ 0 → Holding (savepointState s j name)
+      set e =
+          let r = savepoint-passed s m t id name e .runs in
+          let x = txAt s j in
+          record {
+            sizes = savepoint-sized s z j (r .listed) (r .few) name;
+            apart =
+                changed-apart s (savepointState s j name) j _ (savepoint-slot s z j (r .listed) (r .few) name) (λ i b k. rw (savepoint-count s j name) at b) (h .apart)
+                (λ i b k. savepoint-apart x name (txAt s i) (h .apart j i (r .listed) b (λ q. k (sym q))) (h .apart i j b (r .listed) k));
+          }
+
+      pub savepoint-holds : Holding (savepointOf s m t id name .state)
+      unfolding savepointOf
+      savepoint-holds = decided-holds (λ (o : Told). Holding (o .state)) (savepointNumber s m t id name) _ _ set h
+
+      went : goBackNumber s m t id name ≡ 0 → Holding (wentBackState s j m name)
+      went e =
+          let p = go-back-passed s m t id name e in
+          let r = p .runs in
+          let x = txAt s j in
+          let w = writable s m t z id name p in
+          let y = z .each j (r .listed) .undos in
+          record {
+            sizes = back-sized s z j (r .listed) (r .few) m name w;
+            apart =
+                changed-apart s (wentBackState s j m name) j _ (back-slot s z j (r .listed) (r .few) m name) (λ i b k. rw (back-count s j m name) at b) (h .apart)
+                (λ i b k. (
+                  back-reads x m name y w (txAt s i) (h .apart j i (r .listed) b (λ q. k (sym q))),
+                  back-writes x m name y w (txAt s i) (h .apart i j b (r .listed) k),
+                ));
+          }
+
+      pub go-back-holds : Holding (goBackOf s m t id name .result .state)
+      unfolding goBackOf
+      go-back-holds = decided-holds (λ (o : Outcome). Holding (o .result .state)) (goBackNumber s m t id name) _ _ went h
 
     precommits : precommitNumber s m t id ≡ 0 → Holding (precommittedState s j)
     unfolding precommittedState

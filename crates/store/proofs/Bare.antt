@@ -74,6 +74,7 @@ bare-tx t =
       undo = record { count = refl; ranges = refl };
       redo = λ q. record { count = refl; ranges = refl };
       reads = record { count = refl; ranges = refl };
+      savepoints = record { count = refl; savepoints = refl };
     }
 
 module _ (s : State) (e : StateExtents) (h : HasExtents s e) where

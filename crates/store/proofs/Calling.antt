@@ -7,10 +7,11 @@ use lib.ListN.{length, take, drop}
 use lib.Seq.{sets}
 use borrow.Author.Tests.{ne-eqb}
 use Rattle.recovery.specs.Group.{committed, aborted}
-use Rattle.recovery.specs.Replay.{undoAll, layBytes}
+use Rattle.recovery.specs.Replay.{redoAll, undoAll, layBytes}
 use Rattle.log.specs.declared.TxId.{TxId}
 use Rattle.transaction.specs.View.{usedBy, writesOf}
 use Rattle.transaction.specs.Rules.{covered}
+use Rattle.transaction.specs.Steps.{returnWrites}
 use Rattle.store.specs.declared.State.{State}
 use Rattle.store.specs.declared.choose.Choice.{Choice}
 use Rattle.store.specs.declared.admit.Admission.{Admission}
@@ -19,9 +20,9 @@ use Rattle.store.specs.Answer.{done, tells}
 use Rattle.store.specs.Rules.{tailLength, roomUsed}
 use Rattle.store.specs.Numbers.{Check, numberBy, txOf}
 use Rattle.store.specs.Admission.{admission, choice}
-use Rattle.store.specs.Steps.{begunState, writtenState, readState, precommittedState, droppedState}
+use Rattle.store.specs.Steps.{begunState, writtenState, readState, savepointState, wentBackState, precommittedState, droppedState}
 use Rattle.store.specs.Calls.{refusing, beginNumber, beginOf, writeNumber, writeOf, readNumber, readOf, answerNumber, readAnswerOf, appended, precommitNumber}
-use Rattle.store.specs.Calls.{precommitOf, abortNumber, abortOf, settleNumber, settleOf}
+use Rattle.store.specs.Calls.{savepointNumber, savepointOf, goBackNumber, goBackOf, precommitOf, abortNumber, abortOf, settleNumber, settleOf}
 use Rattle.store.proofs.Admitting.{admitted, number-after}
 use Rattle.store.proofs.Choosing.{after-none, choice-own, choice-chosen}
 
@@ -66,6 +67,29 @@ module _ (s : State) (m t : List ℕ) where
     pub answer-done : (a k : ℕ) → answerNumber s m t id a k ≡ 0 → readAnswerOf s m t id a k ≡ tells done 0 0 (readState s (slotOf s (id .0)) a k)
     unfolding readAnswerOf
     answer-done a k e = rw e
+
+    pub savepoint-refused : (name n : ℕ) → savepointNumber s m t id name ≡ n → (n ≡ 0 → ⊥) → savepointOf s m t id name ≡ refusing n s
+    unfolding savepointOf
+    savepoint-refused name n e h = rw (e, ne-eqb n 0 h)
+
+    pub savepoint-done : (name : ℕ) → savepointNumber s m t id name ≡ 0 → savepointOf s m t id name ≡ tells done 0 0 (savepointState s (slotOf s (id .0)) name)
+    unfolding savepointOf
+    savepoint-done name e = rw e
+
+    pub go-back-refused : (name n : ℕ) → goBackNumber s m t id name ≡ n → (n ≡ 0 → ⊥)
+        → goBackOf s m t id name ≡ record { result = refusing n s; memory = m; tail = t }
+    unfolding goBackOf
+    go-back-refused name n e h = rw (e, ne-eqb n 0 h)
+
+    pub go-back-done : (name : ℕ) → goBackNumber s m t id name ≡ 0
+        → goBackOf s m t id name
+        ≡ record {
+          result = tells done 0 0 (wentBackState s (slotOf s (id .0)) m name);
+          memory = redoAll layBytes (returnWrites (txOf s (id .0)) name) m;
+          tail = t;
+        }
+    unfolding goBackOf
+    go-back-done name e = rw e
 
     pub precommit-refused : (n : ℕ) → precommitNumber s m t id ≡ n → (n ≡ 0 → ⊥)
         → precommitOf s m t id ≡ record { result = refusing n s; memory = m; tail = t }

@@ -11,16 +11,17 @@ use Rattle.store.specs.State.{slotOf}
 use Rattle.store.specs.Rules.{unfit}
 use Rattle.store.specs.Answer.{Told}
 use Rattle.store.specs.Calls.{Outcome, appended, beginNumber, beginOf, writeNumber, writeOf, answerNumber, readAnswerOf, precommitNumber, precommitOf}
+use Rattle.store.specs.Calls.{savepointNumber, savepointOf, goBackNumber, goBackOf}
 use Rattle.store.specs.Calls.{abortNumber, abortOf, settleNumber, settleOf}
 use Rattle.store.proofs.Fits.{unfit-no}
-use Rattle.store.proofs.Passing.{begin-passed, write-passed, answer-passed, precommit-passed, abort-passed, settle-passed}
-use Rattle.store.proofs.Calling.{begin-done, write-done, answer-done, precommit-done, abort-done, settle-done}
-use Rattle.store.proofs.Views.{commitOf}
-use Rattle.store.proofs.Stepping.{SizedState, begun-sized, written-sized, read-sized, precommitted-sized, dropped-sized}
-use Rattle.store.specs.Steps.{begunState, writtenState, readState, precommittedState, droppedState}
+use Rattle.store.proofs.Passing.{begin-passed, write-passed, answer-passed, savepoint-passed, go-back-passed, precommit-passed, abort-passed, settle-passed}
+use Rattle.store.proofs.Calling.{begin-done, write-done, answer-done, savepoint-done, go-back-done, precommit-done, abort-done, settle-done}
+use Rattle.store.proofs.Views.{commitOf, writable}
+use Rattle.store.proofs.Stepping.{SizedState, begun-sized, written-sized, read-sized, savepoint-sized, back-sized, precommitted-sized, dropped-sized}
+use Rattle.store.specs.Steps.{begunState, writtenState, readState, savepointState, wentBackState, precommittedState, droppedState}
 use Rattle.store.proofs.BegunFits.{begun-fits}
 use Rattle.store.proofs.WrittenFits.{written-fits}
-use Rattle.store.proofs.ReadFits.{read-fits}
+use Rattle.store.proofs.EditedFits.{read-fits, savepoint-fits, back-fits}
 use Rattle.store.proofs.PrecommittedFits.{precommitted-fits}
 use Rattle.store.proofs.DroppedFits.{settled-fits, aborted-fits}
 
@@ -54,6 +55,27 @@ module _ (s : State) (m t : List ℕ) (z : SizedState s) where
         let r = p .read .runs in
         subst (λ (o : Told). Kept (o .state) t) (sym (answer-done s m t id a n e))
         (record { fits = unfit-no (readState s at a n) t (read-fits s m t (id .0) a n z p); sizes = read-sized s z at (r .listed) (r .few) a n })
+
+    pub savepoint-keeps : (name : ℕ) → savepointNumber s m t id name ≡ 0 → Kept (savepointOf s m t id name .state) t
+    savepoint-keeps name e =
+        let p = savepoint-passed s m t id name e in
+        let r = p .runs in
+        subst (λ (o : Told). Kept (o .state) t) (sym (savepoint-done s m t id name e))
+        (record {
+          fits = unfit-no (savepointState s at name) t (savepoint-fits s m t (id .0) name z p);
+          sizes = savepoint-sized s z at (r .listed) (r .few) name;
+        })
+
+    pub go-back-keeps : (name : ℕ) → goBackNumber s m t id name ≡ 0 → Kept (goBackOf s m t id name .result .state) (goBackOf s m t id name .tail)
+    go-back-keeps name e =
+        let p = go-back-passed s m t id name e in
+        let r = p .runs in
+        let w = writable s m t z id name p in
+        subst (λ (o : Outcome). Kept (o .result .state) (o .tail)) (sym (go-back-done s m t id name e))
+        (record {
+          fits = unfit-no (wentBackState s at m name) t (back-fits s m t (id .0) name z p w);
+          sizes = back-sized s z at (r .listed) (r .few) m name w;
+        })
 
     pub precommit-keeps : precommitNumber s m t id ≡ 0 → Kept (precommitOf s m t id .result .state) (precommitOf s m t id .tail)
     precommit-keeps e =

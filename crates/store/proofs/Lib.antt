@@ -18,7 +18,7 @@ pub mod Views
 pub mod Changing
 pub mod BegunFits
 pub mod WrittenFits
-pub mod ReadFits
+pub mod EditedFits
 pub mod PrecommittedFits
 pub mod DroppedFits
 pub mod Keeping

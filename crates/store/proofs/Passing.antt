@@ -6,30 +6,30 @@ use mathlib.Core.List.{List, [], _∷_, _++_}
 use mathlib.Core.Path.{_≡_, refl, sym, ap, _∙_, subst}
 use lib.ListN.{length}
 use lib.Dec.{eqb, ltb}
-use borrow.Author.Tests.{eq-eqb, eqb-false, ltb-false}
+use borrow.Author.Tests.{eq-eqb, eqb-false, ltb-false, not-false}
 use Rattle.recovery.specs.Lists.{any}
 use Rattle.recovery.proofs.Bool.{or-left, or-right}
 use Rattle.log.specs.declared.TxId.{TxId}
 use Rattle.transaction.specs.declared.ranges.Ranges.{Ranges}
 use Rattle.transaction.specs.Lists.{sumOf}
-use Rattle.transaction.specs.View.{Range, rangeAt, rangesOf}
-use Rattle.transaction.specs.Rules.{recordsOk, reading, writing, heldAgainst, rangesSize, roomOf}
+use Rattle.transaction.specs.View.{Range, rangeAt, rangesOf, savepointsOf}
+use Rattle.transaction.specs.Rules.{recordsOk, reading, writing, heldAgainst, rangesSize, roomOf, savepointsOk, nameRefused, isSet, laterRanges}
 use Rattle.transaction.proofs.Lists.{length-up}
 use Rattle.transaction.proofs.RangeLaws.{counted}
-use Rattle.transaction.proofs.StateRule.{few-reads}
+use Rattle.transaction.proofs.StateRule.{few-reads, running-savepoints}
 use Rattle.image.proofs.Rules.{image-count, undo-at}
 use Rattle.store.specs.declared.State.{State}
 use Rattle.store.specs.State.{txsOf, slotOf, imageOf}
 use Rattle.store.specs.Rules.{tailLength, roomUsed}
-use Rattle.store.specs.Numbers.{Check, firstNumber, numberBy, txOf, check8, check9, check10, check12, check13, check15, check16, beginChecks, rangeChecks, abortChecks, settleChecks}
-use Rattle.store.specs.Calls.{beginNumber, writeNumber, readNumber, answerNumber, precommitNumber, abortNumber, settleNumber}
+use Rattle.store.specs.Numbers.{Check, firstNumber, numberBy, txOf, check8, check9, check10, check12, check13, check15, check16, check18, check19, returnCheck10, returnCheck13, beginChecks, rangeChecks, abortChecks, settleChecks}
+use Rattle.store.specs.Calls.{beginNumber, writeNumber, readNumber, answerNumber, savepointNumber, goBackNumber, precommitNumber, abortNumber, settleNumber}
 use Rattle.store.proofs.Checks.{passed}
 use Rattle.store.proofs.Fits.{Fit, rule-at, status-at, redo-at, room-at}
 use Rattle.store.proofs.Admitting.{unrefused}
 use Rattle.store.proofs.Choosing.{listed-by-6, Ranged, ranged-by-8}
 use Rattle.store.proofs.Stepping.{same-or-other}
 
-same-count : (u r : Ranges) → rangesOf u ≡ rangesOf r → u .count ≡ r .count
+pub same-count : (u r : Ranges) → rangesOf u ≡ rangesOf r → u .count ≡ r .count
 same-count u r e = sym (length-up (rangeAt u) (u .count) 0) ∙ ap length e ∙ length-up (rangeAt r) (r .count) 0
 
 -- 1, 2, 11, 12 and 13
@@ -72,6 +72,20 @@ pub record WritePassed (s : State) (m t : List ℕ) (id a n : ℕ) : Type 0 wher
   pub undo : txOf s id .undo .ranges .count < 16
   pub redo : txOf s id .redo .ranges .count < 16
   pub room : roomUsed s t + (7 + n) ≤ 16384
+
+-- these and 19
+pub record SavepointPassed (s : State) (m t : List ℕ) (id name : ℕ) : Type 0 where
+  pub runs : RunningPassed s m t id
+  pub saved : savepointsOk (txOf s id .undo .ranges .count) (savepointsOf (txOf s id)) ≡ true
+  pub given : nameRefused name (savepointsOf (txOf s id)) ≡ false
+
+-- these, 18, and 10 and 13 on the totals
+pub record GoBackPassed (s : State) (m t : List ℕ) (id name : ℕ) : Type 0 where
+  pub runs : RunningPassed s m t id
+  pub saved : savepointsOk (txOf s id .undo .ranges .count) (savepointsOf (txOf s id)) ≡ true
+  pub set : isSet name (savepointsOf (txOf s id)) ≡ true
+  pub records : txOf s id .undo .ranges .count + length (laterRanges name (txOf s id)) ≤ 16
+  pub room : roomUsed s t + rangesSize (laterRanges name (txOf s id)) ≤ 16384
 
 -- these and 12
 pub record PrecommitPassed (s : State) (m t : List ℕ) (id : ℕ) : Type 0 where
@@ -138,6 +152,31 @@ module _ (s : State) (m t : List ℕ) where
         let cs = check12 s ∷ [] in
         let p = running-passed cs e in
         record { runs = p .0; unspent = eqb-false _ _ (passed cs [] refl (p .1) .0 .0) }
+
+    pub savepoint-passed : (name : ℕ) → savepointNumber s m t id name ≡ 0 → SavepointPassed s m t (id .0) name
+    savepoint-passed name e =
+        let cs = check19 s (id .0) name ∷ [] in
+        let p = running-passed cs e in
+        let r = p .0 in
+        record {
+          runs = r;
+          saved = running-savepoints (txOf s (id .0)) (rule-at s t (r .fits) (slotOf s (id .0)) (r .listed)) (r .status);
+          given = passed cs [] refl (p .1) .0 .0;
+        }
+
+    pub go-back-passed : (name : ℕ) → goBackNumber s m t id name ≡ 0 → GoBackPassed s m t (id .0) name
+    go-back-passed name e =
+        let cs = check18 s (id .0) name ∷ returnCheck10 s (id .0) name ∷ returnCheck13 s (roomUsed s t) (id .0) name ∷ [] in
+        let p = running-passed cs e in
+        let r = p .0 in
+        let q = passed cs [] refl (p .1) .0 in
+        record {
+          runs = r;
+          saved = running-savepoints (txOf s (id .0)) (rule-at s t (r .fits) (slotOf s (id .0)) (r .listed)) (r .status);
+          set = not-false _ (q .0);
+          records = ltb-false _ _ (q .1 .0);
+          room = ltb-false _ _ (q .1 .1 .0);
+        }
 
     module _ (a n : ℕ) where
       -- then 8, whatever the call checks besides

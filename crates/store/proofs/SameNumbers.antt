@@ -1,16 +1,19 @@
 -- States that are alike in what judges a call are refused alike by every call in memory: check by check, then with numbers 1 and 2.
 use Prim.Native.Nat.{ℕ, _+_, _-_, _/_, _<_}
-use mathlib.Core.Bool.{Bool, true, false, cond, _||_}
+use mathlib.Core.Bool.{Bool, true, false, cond, not, _||_}
 use mathlib.Core.List.{List, [], _∷_}
 use mathlib.Core.Path.{_≡_, refl, sym, ap, ap₂, _∙_, subst}
+use lib.ListN.{length, drop}
 use lib.Dec.{eqb, ltb}
 use Rattle.recovery.specs.Lists.{any}
-use Rattle.transaction.specs.Rules.{reading, writing, heldAgainst}
+use Rattle.recovery.specs.Savepoint.{Savepoint, countAt}
+use Rattle.transaction.specs.View.{Range, writtenBy, savepointsOf}
+use Rattle.transaction.specs.Rules.{reading, writing, heldAgainst, rangesSize, isSet, nameRefused, orZero}
 use Rattle.store.specs.declared.State.{State}
 use Rattle.store.specs.State.{txAt, txsOf, hasId, slotOf}
 use Rattle.store.specs.Rules.{roomUsed}
-use Rattle.store.specs.Numbers.{Check, firstNumber, numberBy, txOf, check6, check7, check8, check9, check10, check12, check13, check14, check15, check16}
-use Rattle.store.specs.Numbers.{beginChecks, readChecks, answerChecks, writeChecks, precommitChecks, abortChecks, settleChecks}
+use Rattle.store.specs.Numbers.{Check, firstNumber, numberBy, txOf, check6, check7, check8, check9, check10, check12, check13, check14, check15, check16, check18, check19, returnCheck10, returnCheck13}
+use Rattle.store.specs.Numbers.{beginChecks, readChecks, answerChecks, writeChecks, savepointChecks, goBackChecks, precommitChecks, abortChecks, settleChecks}
 use Rattle.store.proofs.Slots.{slot-within}
 use Rattle.store.proofs.Sameness.{AlikeTx, Alike, room-alike, number-alike, ids, slots, helds}
 
@@ -55,6 +58,30 @@ module _ (s r : State) (h : Alike s r) where
         (λ e.
         ap (λ (k : ℕ). cond (eqb k 1 || ltb (s .ondisk .0) (txOf s id .csn .0)) 14 0) (named id e .status)
         ∙ ap₂ (λ (d c : ℕ). cond (eqb (txOf r id .status) 1 || ltb d c) 14 0) (h .ondisk) (named id e .csn))
+
+    module _ (name : ℕ) where
+      pub savepoint-first : firstNumber (savepointChecks s id name) ≡ firstNumber (savepointChecks r id name)
+      savepoint-first =
+          listed-alike id (check7 s id ∷ check19 s id name ∷ []) (check7 r id ∷ check19 r id name ∷ [])
+          (λ e. ap₂ (λ (k : ℕ) (ps : List Savepoint). cond (eqb k 2) 7 (cond (nameRefused name ps) 19 0)) (named id e .status) (named id e .savepoints .savepoints))
+
+      -- what follows number 7: savepoints, count and ranges of the undo records, room
+      abbrev returned : List Savepoint → ℕ → List Range → ℕ → ℕ
+      returned ps c rs room =
+          cond (not (isSet name ps)) 18
+          (cond (ltb 16 (c + length (drop (orZero (countAt name ps)) rs))) 10 (cond (ltb 16384 (room + rangesSize (drop (orZero (countAt name ps)) rs))) 13 0))
+
+      pub go-back-first : (x y : ℕ) → x ≡ y → firstNumber (goBackChecks s x id name) ≡ firstNumber (goBackChecks r y id name)
+      go-back-first x y q =
+          listed-alike id (check7 s id ∷ check18 s id name ∷ returnCheck10 s id name ∷ returnCheck13 s x id name ∷ [])
+          (check7 r id ∷ check18 r id name ∷ returnCheck10 r id name ∷ returnCheck13 r y id name ∷ [])
+          (λ e.
+          let t = txOf s id in
+          let u = txOf r id in
+          let h = named id e in
+          ap₂ (λ (k : ℕ) (ps : List Savepoint). cond (eqb k 2) 7 (returned ps (t .undo .ranges .count) (writtenBy t) x)) (h .status) (h .savepoints .savepoints)
+          ∙ ap₂ (λ (c : ℕ) (rs : List Range). cond (eqb (u .status) 2) 7 (returned (savepointsOf u) c rs x)) (h .undo .count) (h .undo .ranges)
+          ∙ ap (λ (m : ℕ). cond (eqb (u .status) 2) 7 (returned (savepointsOf u) (u .undo .ranges .count) (writtenBy u) m)) q)
 
     module _ (a n : ℕ) where
       -- what follows numbers 7 and 8, and what follows 9
@@ -112,3 +139,11 @@ module _ (s r : State) (h : Alike s r) where
     write-alike a n =
         number-alike s r h lent t (writeChecks s (roomUsed s t) id a n) (writeChecks r (roomUsed r t) id a n)
         (write-first id a n (roomUsed s t) (roomUsed r t) (room-alike s r h t))
+
+    pub savepoint-alike : (name : ℕ) → numberBy s lent t (savepointChecks s id name) ≡ numberBy r lent t (savepointChecks r id name)
+    savepoint-alike name = number-alike s r h lent t (savepointChecks s id name) (savepointChecks r id name) (savepoint-first id name)
+
+    pub go-back-alike : (name : ℕ) → numberBy s lent t (goBackChecks s (roomUsed s t) id name) ≡ numberBy r lent t (goBackChecks r (roomUsed r t) id name)
+    go-back-alike name =
+        number-alike s r h lent t (goBackChecks s (roomUsed s t) id name) (goBackChecks r (roomUsed r t) id name)
+        (go-back-first id name (roomUsed s t) (roomUsed r t) (room-alike s r h t))

@@ -2,32 +2,36 @@
 use Prim.Native.Nat.{ℕ, _+_, _≤_, _<_}
 use mathlib.Core.Bool.{Bool, true, false, cond}
 use mathlib.Core.List.{List, []}
-use mathlib.Core.Path.{_≡_, refl, ap, ap₂, subst}
+use mathlib.Core.Path.{_≡_, refl, sym, ap, ap₂, _∙_, subst}
 use lib.ListN.{length, take, drop}
 use lib.Seq.{sets}
 use lib.Dec.{eqb}
 use borrow.Author.Tests.{eqb-true}
 use Rattle.recovery.specs.Group.{Write, Group, committed, aborted}
-use Rattle.recovery.specs.Replay.{undoAll, layBytes}
+use Rattle.recovery.specs.Replay.{redoAll, undoAll, layBytes}
 use Rattle.log.specs.declared.TxId.{TxId}
 use Rattle.log.specs.Group.{encodeGroup}
 use Rattle.transaction.specs.View.{Range, usedBy}
 use Rattle.transaction.specs.Rules.{covered}
+use Rattle.transaction.specs.Steps.{returnWrites}
+use Rattle.transaction.proofs.SavepointLaws.{place-fits}
+use Rattle.transaction.proofs.Returning.{Writable}
 use Rattle.store.specs.declared.State.{State}
 use Rattle.store.specs.State.{txAt, slotOf}
 use Rattle.store.specs.Numbers.{txOf}
 use Rattle.store.specs.Answer.{done, Told, tells}
 use Rattle.store.specs.Rules.{tailLength}
-use Rattle.store.specs.Steps.{begunState, writtenState, readState, precommittedState, droppedState}
+use Rattle.store.specs.Steps.{begunState, writtenState, readState, savepointState, wentBackState, precommittedState, droppedState}
 use Rattle.store.specs.Calls.{Outcome, decided, refusing, beginNumber, beginOf, writeNumber, writeOf, readNumber, readOf}
+use Rattle.store.specs.Calls.{savepointNumber, savepointOf, goBackNumber, goBackOf}
 use Rattle.store.specs.Calls.{answerNumber, readAnswerOf, appended, precommitNumber, precommitOf, abortNumber, abortOf, settleNumber, settleOf}
 use Rattle.store.specs.Same.{SameTx, ShowsSame, SameTold, SameOutcome}
-use Rattle.store.proofs.Passing.{begin-passed, write-passed, read-passed, answer-passed, precommit-passed, abort-passed, settle-passed}
-use Rattle.store.proofs.Views.{commitOf}
+use Rattle.store.proofs.Passing.{begin-passed, write-passed, read-passed, answer-passed, savepoint-passed, go-back-passed, precommit-passed, abort-passed, settle-passed}
+use Rattle.store.proofs.Views.{commitOf, writable}
 use Rattle.store.proofs.Stepping.{SizedState}
 use Rattle.store.proofs.Sameness.{shown-tx, shown, used-same, slots}
-use Rattle.store.proofs.SameNumbers.{begin-alike, write-alike, read-alike, answer-alike, precommit-alike, abort-alike, settle-alike}
-use Rattle.store.proofs.SameSteps.{begin-shows, write-shows, read-shows, precommit-shows, drop-shows}
+use Rattle.store.proofs.SameNumbers.{begin-alike, write-alike, read-alike, answer-alike, savepoint-alike, go-back-alike, precommit-alike, abort-alike, settle-alike}
+use Rattle.store.proofs.SameSteps.{begin-shows, write-shows, read-shows, returns-same, savepoint-shows, back-shows, precommit-shows, drop-shows}
 
 -- ---- from the number to the outcome
 
@@ -137,6 +141,49 @@ module _ (s r : State) (h : ShowsSame s r) where
         read-answer-same =
             told-same (answerNumber s m t id a n) (answerNumber r m t id a n) (answer-alike s r (shown s r h) (length m) t (id .0) a n)
             (λ e. done-same refl (held e))
+
+      -- ---- savepoints
+
+      module _ (name : ℕ) where
+        set : savepointNumber s m t id name ≡ 0 → ShowsSame (savepointState s j name) (savepointState r k name)
+        set e =
+            let p = savepoint-passed s m t id name e in
+            let u = p .runs in
+            let x = txOf s (id .0) in
+            at-slot (savepointState s j name) (λ i. savepointState r i name)
+            (savepoint-shows s r h z y j (u .listed) (u .few) name (place-fits (x .extras .savepoints) (x .undo .ranges .count) name (p .saved) (p .given)))
+
+        pub savepoint-same : SameTold (savepointOf s m t id name) (savepointOf r m t id name)
+        unfolding savepointOf
+        savepoint-same =
+            told-same (savepointNumber s m t id name) (savepointNumber r m t id name) (savepoint-alike s r (shown s r h) (length m) t (id .0) name)
+            (λ e. done-same refl (set e))
+
+        alike : goBackNumber s m t id name ≡ goBackNumber r m t id name
+        alike = go-back-alike s r (shown s r h) (length m) t (id .0) name
+
+        went : goBackNumber s m t id name ≡ 0 → ShowsSame (wentBackState s j m name) (wentBackState r k m name)
+        went e =
+            let u = go-back-passed s m t id name e .runs in
+            let same = slots s r (shown s r h) (id .0) in
+            at-slot (wentBackState s j m name) (λ i. wentBackState r i m name)
+            (back-shows s r h z y j (u .listed) (u .few) m name (writable s m t z id name (go-back-passed s m t id name e))
+            (subst (λ (i : ℕ). Writable (txAt r i) m (returnWrites (txAt r i) name)) (sym same)
+            (writable r m t y id name (go-back-passed r m t id name (sym alike ∙ e)))))
+
+        pub go-back-same : SameOutcome (goBackOf s m t id name) (goBackOf r m t id name)
+        unfolding goBackOf
+        go-back-same =
+            outcome-same m t (goBackNumber s m t id name) (goBackNumber r m t id name) alike
+            (λ e.
+            let u = go-back-passed s m t id name e .runs in
+            record {
+              result = done-same refl (went e);
+              memory =
+                  ap (λ (ws : List Write). redoAll layBytes ws m)
+                  (returns-same (txOf s (id .0)) (txOf r (id .0)) (named s r h (id .0) (u .listed)) name);
+              tail = refl;
+            })
 
       -- ---- precommit
 

@@ -24,7 +24,7 @@ use Rattle.store.specs.Same.{SameRecords, SameTx, ShowsSame, SameDiskOut
 use Rattle.store.proofs.Storing.{diskNumber}
 use Rattle.store.proofs.Stepping.{SizedState}
 use Rattle.store.proofs.Sameness.{shown, number-alike}
-use Rattle.store.proofs.SameOutcomes.{decided-same, refusing-same, begin-same, write-same, read-part-same, read-answer-same}
+use Rattle.store.proofs.SameOutcomes.{decided-same, refusing-same, begin-same, write-same, read-part-same, read-answer-same, savepoint-same, go-back-same}
 use Rattle.store.proofs.SameOutcomes.{precommit-same, abort-same, settle-same}
 
 -- ---- a plan carried out
@@ -49,6 +49,7 @@ shows-self s =
             undo = self-records (txAt s i .undo);
             redo = λ e. self-records (txAt s i .redo);
             reads = record { count = refl; ranges = refl };
+            savepoints = record { count = refl; savepoints = refl };
           };
     }
 
@@ -179,6 +180,8 @@ answered-alike s r h z y =
       write = write-same s r h z y;
       read = read-part-same s r h;
       readAnswer = read-answer-same s r h z y;
+      savepoint = savepoint-same s r h z y;
+      goBack = go-back-same s r h z y;
       precommit = precommit-same s r h z y;
       abort = abort-same s r h z y;
       settle = settle-same s r h z y;

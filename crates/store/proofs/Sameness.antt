@@ -22,7 +22,7 @@ use Rattle.store.specs.Rules.{keepsImageRules, tailLength, tailOk, roomU
 use Rattle.store.specs.declared.admit.Admission.{Admission}
 use Rattle.store.specs.Numbers.{Check, check, firstNumber, numberBy}
 use Rattle.store.specs.Admission.{notAdmitted, refusal, admission, diskAdmission, choice}
-use Rattle.store.specs.Same.{SameRanges, SameTx, ShowsSame}
+use Rattle.store.specs.Same.{SameRanges, SameSavepoints, SameTx, ShowsSame}
 
 pub record AlikeTx (t u : Tx) : Type 0 where
   pub id : t .id .0 ≡ u .id .0
@@ -31,6 +31,7 @@ pub record AlikeTx (t u : Tx) : Type 0 where
   pub undo : SameRanges (t .undo .ranges) (u .undo .ranges)
   pub redo : t .status ≡ 1 → SameRanges (t .redo .ranges) (u .redo .ranges)
   pub reads : SameRanges (t .extras .reads) (u .extras .reads)
+  pub savepoints : SameSavepoints (t .extras .savepoints) (u .extras .savepoints)
 
 pub record Alike (s r : State) : Type 0 where
   pub recovered : s .recovered ≡ r .recovered
@@ -50,6 +51,7 @@ shown-tx t u h =
       undo = record { count = h .undo .count; ranges = h .undo .ranges };
       redo = λ e. record { count = h .redo e .count; ranges = h .redo e .ranges };
       reads = h .reads;
+      savepoints = h .savepoints;
     }
 
 pub shown : (s r : State) → ShowsSame s r → Alike s r
@@ -83,6 +85,7 @@ module _ (t u : Tx) (h : AlikeTx t u) where
 
   rule-same : stateOk t ≡ stateOk u
   rule-same = state-same t u (h .status) (h .undo .ranges) (λ e. h .redo e .ranges) (h .reads .count) (h .reads .ranges)
+      (h .savepoints .count) (h .savepoints .savepoints)
 
   pub used-same : usedBy t ≡ usedBy u
   used-same = ap₂ (λ (rs qs : List Range). rs ++ qs) (h .undo .ranges) (h .reads .ranges)

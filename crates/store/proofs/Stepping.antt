@@ -11,17 +11,21 @@ use lib.Dec.{eqb}
 use borrow.Author.Tests.{eqb-true, eqb-false}
 use Rattle.transaction.specs.declared.Tx.{Tx}
 use Rattle.transaction.specs.Flat.{emptyTx, noTx}
-use Rattle.transaction.specs.Steps.{freshTx, written, withRead, precommitted}
+use Rattle.transaction.specs.Steps.{freshTx, written, withRead, savepointed, returnWrites, goneBack, precommitted}
 use Rattle.transaction.proofs.Pushed.{Sized, SizedRanges, empty-sized, push-sized, none-sized, range-sized}
+use Rattle.transaction.specs.declared.Extras.{Extras}
+use Rattle.transaction.proofs.SavepointLaws.{SizedSavepoints, unset-sized, name-sized}
+use Rattle.transaction.proofs.Returning.{Writable, all-same, all-sized}
 use Rattle.store.specs.declared.State.{State}
 use Rattle.store.specs.State.{txAt}
-use Rattle.store.specs.Steps.{begunState, writtenState, readState, precommittedState, without, droppedState}
+use Rattle.store.specs.Steps.{begunState, writtenState, readState, savepointState, wentBackState, precommittedState, without, droppedState}
 use Rattle.store.proofs.Positions.{Changed, Dropped}
 
 pub record SizedTx (t : Tx) : Type 0 where
   pub undos : Sized (t .undo)
   pub redos : Sized (t .redo)
   pub reads : SizedRanges (t .extras .reads)
+  pub savepoints : SizedSavepoints (t .extras .savepoints)
 
 pub record SizedState (s : State) : Type 0 where
   pub slots : length (s .txs) ≡ 8
@@ -63,7 +67,7 @@ module _ (s : State) (z : SizedState s) where
   unfolding begunState freshTx
   begun-sized h =
       set-sized s (begunState s) (s .count) (freshTx (record { 0 = s .lastid .0 + 1 })) refl (omega (arith, z .slots)) z
-      (record { undos = empty-sized; redos = empty-sized; reads = none-sized }) (λ i l n. omega (arith, l, n))
+      (record { undos = empty-sized; redos = empty-sized; reads = none-sized; savepoints = unset-sized }) (λ i l n. omega (arith, l, n))
 
   module _ (j : ℕ) (h : j < s .count) (few : s .count ≤ 8) where
     pub written-slot : (m : List ℕ) (a : ℕ) (bs : List ℕ)
@@ -81,6 +85,7 @@ module _ (s : State) (z : SizedState s) where
           redos = push-sized (t .redo) a bs
               (z .each j h .redos);
           reads = z .each j h .reads;
+          savepoints = z .each j h .savepoints;
         }) (λ i l n. l)
 
     pub read-slot : (a n : ℕ) → Changed (txAt s) (txAt (readState s j a n)) j (withRead (txAt s j) a n)
@@ -92,7 +97,44 @@ module _ (s : State) (z : SizedState s) where
     read-sized a n =
         let y = z .each j h in
         set-sized s (readState s j a n) j (withRead (txAt s j) a n) refl (omega (arith, z .slots)) z
-        (record { undos = y .undos; redos = y .redos; reads = range-sized (txAt s j .extras .reads) a n (y .reads) }) (λ i l k. l)
+        (record { undos = y .undos; redos = y .redos; reads = range-sized (txAt s j .extras .reads) a n (y .reads); savepoints = y .savepoints }) (λ i l k. l)
+
+    pub savepoint-slot : (name : ℕ) → Changed (txAt s) (txAt (savepointState s j name)) j (savepointed (txAt s j) name)
+    unfolding savepointState
+    savepoint-slot name = set-slot s (savepointState s j name) j (savepointed (txAt s j) name) refl (omega (arith, z .slots))
+
+    pub savepoint-sized : (name : ℕ) → SizedState (savepointState s j name)
+    unfolding savepointState savepointed
+    savepoint-sized name =
+        let y = z .each j h in
+        let t = txAt s j in
+        set-sized s (savepointState s j name) j (savepointed t name) refl (omega (arith, z .slots)) z
+        (record {
+          undos = y .undos;
+          redos = y .redos;
+          reads = y .reads;
+          savepoints = name-sized (t .extras .savepoints) name (t .undo .ranges .count) (y .savepoints);
+        }) (λ i l k. l)
+
+    pub back-slot : (m : List ℕ) (name : ℕ) → Changed (txAt s) (txAt (wentBackState s j m name)) j (goneBack (txAt s j) m name)
+    unfolding wentBackState
+    back-slot m name = set-slot s (wentBackState s j m name) j (goneBack (txAt s j) m name) refl (omega (arith, z .slots))
+
+    pub back-sized : (m : List ℕ) (name : ℕ) → Writable (txAt s j) m (returnWrites (txAt s j) name) → SizedState (wentBackState s j m name)
+    unfolding wentBackState goneBack
+    back-sized m name w =
+        let y = z .each j h in
+        let t = txAt s j in
+        let ws = returnWrites t name in
+        let all = all-sized t m ws w in
+        let x = sym (all-same t m ws .3) in
+        set-sized s (wentBackState s j m name) j (goneBack t m name) refl (omega (arith, z .slots)) z
+        (record {
+          undos = all .0;
+          redos = all .1;
+          reads = subst (λ (e : Extras). SizedRanges (e .reads)) x (y .reads);
+          savepoints = subst (λ (e : Extras). SizedSavepoints (e .savepoints)) x (y .savepoints);
+        }) (λ i l k. l)
 
     pub precommitted-slot : Changed (txAt s) (txAt (precommittedState s j)) j (precommitted (txAt s j) (record { 0 = s .assigned .0 + 1 }))
     unfolding precommittedState
@@ -102,7 +144,7 @@ module _ (s : State) (z : SizedState s) where
     unfolding precommittedState precommitted
     precommitted-sized =
         set-sized s (precommittedState s j) j (precommitted (txAt s j) (record { 0 = s .assigned .0 + 1 })) refl (omega (arith, z .slots)) z
-        (record { undos = z .each j h .undos; redos = empty-sized; reads = none-sized }) (λ i l n. l)
+        (record { undos = z .each j h .undos; redos = empty-sized; reads = none-sized; savepoints = unset-sized }) (λ i l n. l)
 
 -- ---- one slot taken out
 

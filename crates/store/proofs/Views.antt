@@ -11,10 +11,12 @@ use lib.ListN.{length, take, drop, length-take}
 use lib.Seq.{sets}
 use lib.Dec.{eqb}
 use borrow.Author.Tests.{eqb-true, eq-eqb, ne-eqb, le-leb}
-use Rattle.recovery.specs.Group.{Write, Group, committed, aborted, groupSize, lastCsn}
+use Rattle.recovery.specs.Group.{Write, Group, committed, aborted, redoSize, groupSize, lastCsn}
 use Rattle.recovery.specs.Transaction.{Tx as Transaction, lookup, edit, remove}
-use Rattle.recovery.specs.Machine.{Live, newTx, withWrite, inCommit, afterBegin, afterWrite, afterPrecommit, afterAbort, afterSettle}
-use Rattle.recovery.specs.Replay.{undoAll, layBytes}
+use Rattle.recovery.specs.Machine.{Live, newTx, withWrite, withSavepoint, inCommit, afterBegin, afterWrite, afterSavepoint, afterGoBack, afterPrecommit, afterAbort, afterSettle}
+use Rattle.recovery.specs.Replay.{redoAll, undoAll, layBytes, oldsOf}
+use Rattle.recovery.specs.Savepoint.{countAt}
+use Rattle.recovery.proofs.Returns.{withRecords, writes-live}
 use Rattle.log.specs.declared.TxId.{TxId}
 use Rattle.log.specs.Flat.{writesFrom}
 use Rattle.log.specs.Group.{wellFormedBody, wellFormedGroup}
@@ -24,30 +26,32 @@ use Rattle.transaction.specs.declared.records.Records.{Records}
 use Rattle.transaction.specs.declared.Tx.{Tx}
 use Rattle.transaction.specs.Lists.{upFrom}
 use Rattle.transaction.specs.Flat.{emptyRecords}
-use Rattle.transaction.specs.View.{rangesOf, writesOf, viewOf}
-use Rattle.transaction.specs.Rules.{recordsOk, rangesSize}
-use Rattle.transaction.specs.Steps.{freshTx, written, withRead, precommitted}
+use Rattle.transaction.specs.View.{rangesOf, savepointsOf, writesOf, viewOf}
+use Rattle.transaction.specs.Rules.{recordsOk, rangesSize, stoodAt, laterRanges}
+use Rattle.transaction.specs.Steps.{freshTx, written, withRead, savepointed, returnWrites, goneBack, precommitted}
 use Rattle.transaction.proofs.Lists.{up-snoc, up-same}
 use Rattle.transaction.proofs.RangeLaws.{counted, ranged}
 use Rattle.transaction.proofs.Writes.{bytes-length, sized}
-use Rattle.transaction.proofs.Pushed.{Sized, pushed-writes}
+use Rattle.transaction.proofs.Pushed.{Sized}
+use Rattle.transaction.proofs.SavepointLaws.{place-fits, set-count}
+use Rattle.transaction.proofs.Returning.{Writable, written-view, savepoint-view, all-view, return-writable, later-size}
 use Rattle.image.proofs.Rules.{ruled-at}
 use Rattle.store.specs.declared.State.{State}
 use Rattle.store.specs.Answer.{done, Told, tells}
 use Rattle.store.specs.State.{txAt, slotOf, imageOf}
 use Rattle.store.specs.Rules.{tailLength, allZero}
 use Rattle.store.specs.Numbers.{txOf}
-use Rattle.store.specs.Steps.{begunState, writtenState, readState, precommittedState, droppedState}
-use Rattle.store.specs.Calls.{Outcome, beginNumber, beginOf, writeNumber, writeOf, answerNumber, readAnswerOf}
+use Rattle.store.specs.Steps.{begunState, writtenState, readState, savepointState, wentBackState, precommittedState, droppedState}
+use Rattle.store.specs.Calls.{Outcome, beginNumber, beginOf, writeNumber, writeOf, answerNumber, readAnswerOf, savepointNumber, savepointOf, goBackNumber, goBackOf}
 use Rattle.store.specs.Calls.{appended, precommitNumber, precommitOf, abortNumber, abortOf, settleNumber, settleOf}
 use Rattle.store.specs.View.{viewAt, live}
 use Rattle.store.proofs.Slots.{slot}
 use Rattle.store.proofs.Fits.{Fit}
-use Rattle.store.proofs.Passing.{RunningPassed, begin-passed, write-passed, answer-passed, precommit-passed, abort-passed, settle-passed}
-use Rattle.store.proofs.Calling.{begin-done, write-done, answer-done, precommit-done, abort-done, settle-done}
+use Rattle.store.proofs.Passing.{RunningPassed, GoBackPassed, same-count, begin-passed, write-passed, answer-passed, savepoint-passed, go-back-passed, precommit-passed, abort-passed, settle-passed}
+use Rattle.store.proofs.Calling.{begin-done, write-done, answer-done, savepoint-done, go-back-done, precommit-done, abort-done, settle-done}
 use Rattle.store.proofs.Positions.{Changed, Dropped, First, found, edited, removed}
 use Rattle.store.proofs.Appending.{appended-log}
-use Rattle.store.proofs.Stepping.{SizedTx, SizedState, same-or-other, begun-slot, written-slot, read-slot, precommitted-slot, dropped-slot}
+use Rattle.store.proofs.Stepping.{SizedTx, SizedState, same-or-other, begun-slot, written-slot, read-slot, savepoint-slot, back-slot, precommitted-slot, dropped-slot}
 
 -- ---- one transaction
 
@@ -62,15 +66,6 @@ read-view t a n = refl
 precommitted-view : (t : Tx) (n : ℕ) → viewOf (precommitted t (record { 0 = n })) ≡ inCommit n (viewOf t)
 unfolding precommitted emptyRecords
 precommitted-view t n = refl
-
-written-view : (t : Tx) (a : ℕ) (old new : List ℕ) → SizedTx t → recordsOk (rangesOf (t .undo .ranges)) ≡ true → recordsOk (rangesOf (t .redo .ranges)) ≡ true
-    → t .undo .ranges .count < 16 → t .redo .ranges .count < 16 → length old ≤ 32 → length new ≤ 32
-    → viewOf (written t a old new) ≡ withWrite (record { addr = a; bytes = old }) (record { addr = a; bytes = new }) (viewOf t)
-unfolding written
-written-view t a old new z u r cu cr lo ln =
-    ap₂ (λ (us rs : List Write). record { id = t .id .0; committing = eqb (t .status) 2; csn = t .csn .0; undo = us; redo = rs })
-    (pushed-writes (t .undo) a old (z .undos) cu lo (λ j h. ranged (t .undo .ranges) u j h .1))
-    (pushed-writes (t .redo) a new (z .redos) cr ln (λ j h. ranged (t .redo .ranges) r j h .1))
 
 view-changed : (s r : State) (j : ℕ) (u : Tx) → Changed (txAt s) (txAt r) j u → Changed (viewAt s) (viewAt r) j (viewOf u)
 view-changed s r j u c = record { here = ap viewOf (c .here); other = λ x n. ap viewOf (c .other x n) }
@@ -148,6 +143,28 @@ read-numbers : (s : State) (m t : List ℕ) (j a n : ℕ) → live (readState s 
 unfolding readState
 read-numbers s m t j a n = refl
 
+savepoint-numbers : (s : State) (m t : List ℕ) (j name : ℕ) → live (savepointState s j name) m t ≡ with-txs s m t (upFrom (viewAt (savepointState s j name)) (s .count) 0)
+unfolding savepointState
+savepoint-numbers s m t j name = refl
+
+back-numbers : (s : State) (m m' t : List ℕ) (j name : ℕ)
+    → live (wentBackState s j m name) m' t ≡ with-txs s m' t (upFrom (viewAt (wentBackState s j m name)) (s .count) 0)
+unfolding wentBackState
+back-numbers s m m' t j name = refl
+
+back-view : (t : Tx) (m : List ℕ) (name : ℕ) → Writable t m (returnWrites t name)
+    → viewOf (goneBack t m name) ≡ withRecords (oldsOf m (returnWrites t name)) (returnWrites t name) (viewOf t)
+unfolding goneBack
+back-view t m name w = all-view t m (returnWrites t name) w
+
+-- what the writes of a return ask
+pub writable : (s : State) (m t : List ℕ) → SizedState s → (id : TxId) (name : ℕ) → GoBackPassed s m t (id .0) name
+    → Writable (txOf s (id .0)) m (returnWrites (txOf s (id .0)) name)
+writable s m t z id name p =
+    let r = p .runs in
+    let y = z .each (slotOf s (id .0)) (r .listed) in
+    return-writable (txOf s (id .0)) name (y .undos) (r .undo) (y .redos) (r .same) (p .records) m (r .memory)
+
 precommitted-numbers : (s : State) (m t : List ℕ) (j : ℕ)
     → live (precommittedState s j) m t ≡ with-txs s m t (upFrom (viewAt (precommittedState s j)) (s .count) 0)
 unfolding precommittedState
@@ -201,7 +218,8 @@ module _ (s : State) (m t : List ℕ) (z : SizedState s) where
         let r = p .runs in
         let old = take (length bs) (drop a m) in
         let l : length old ≤ 32 = rw length-take (omega (arith, p .range .short)) in
-        let v = written-view (txAt s j) a old bs (z .each j (r .listed)) (r .undo) (r .redo) (p .undo) (p .redo) l (p .range .short) in
+        let y = z .each j (r .listed) in
+        let v = written-view (txAt s j) a old bs (y .undos) (y .redos) (r .undo) (r .redo) (p .undo) (p .redo) l (p .range .short) in
         let c = view-changed s (writtenState s j m a bs) j _ (written-slot s z j (r .listed) (r .few) m a bs) in
         let g = withWrite (record { addr = a; bytes = old }) (record { addr = a; bytes = bs }) in
         let d : Changed (viewAt s) (viewAt (writtenState s j m a bs)) j (g (viewAt s j)) = record { here = c .here ∙ v; other = c .other } in
@@ -222,6 +240,54 @@ module _ (s : State) (m t : List ℕ) (z : SizedState s) where
         ∙ ap (with-txs s m t)
         (up-same (viewAt u) (viewAt s) (s .count) 0
         (λ i p q. same-or-other i j (λ x. ap (viewAt u) x ∙ c .here ∙ read-view (txAt s j) a n ∙ ap (viewAt s) (sym x)) (c .other i)))
+
+    -- A savepoint set: the name, with how many writes stand.
+    pub savepoint-live : (name : ℕ) → savepointNumber s m t id name ≡ 0 → live (savepointOf s m t id name .state) m t ≡ afterSavepoint tx name (live s m t)
+    savepoint-live name e =
+        let p = savepoint-passed s m t id name e in
+        let r = p .runs in
+        let x = txAt s j in
+        let v =
+        savepoint-view x name (z .each j (r .listed) .savepoints) (place-fits (x .extras .savepoints) (x .undo .ranges .count) name (p .saved) (p .given))
+        (same-count (x .undo .ranges) (x .redo .ranges) (r .same)) in
+        let c = view-changed s (savepointState s j name) j _ (savepoint-slot s z j (r .listed) (r .few) name) in
+        let d : Changed (viewAt s) (viewAt (savepointState s j name)) j (withSavepoint name (viewAt s j)) = record { here = c .here ∙ v; other = c .other } in
+        ap (λ (o : Told). live (o .state) m t) (savepoint-done s m t id name e)
+        ∙ savepoint-numbers s m t j name
+        ∙ ap (with-txs s m t)
+        (edited (viewAt s) (viewAt (savepointState s j name)) (id .0) j (withSavepoint name) (s .count) 0 (first s (id .0) (r .listed)) d (omega (arith, r .listed))
+        ∙ ap (λ (i : ℕ). edit i (withSavepoint name) (upFrom (viewAt s) (s .count) 0)) (sym (r .named)))
+
+    -- Gone back: the old bytes of every later write, newest first, as writes.
+    pub go-back-live : (name : ℕ) → goBackNumber s m t id name ≡ 0
+        → live (goBackOf s m t id name .result .state) (goBackOf s m t id name .memory) (goBackOf s m t id name .tail)
+        ≡ afterGoBack tx (stoodAt name (txOf s (id .0))) (live s m t)
+    go-back-live name e =
+        let p = go-back-passed s m t id name e in
+        let r = p .runs in
+        let x = txAt s j in
+        let ws = returnWrites x name in
+        let g = withRecords (oldsOf m ws) ws in
+        let m' = redoAll layBytes ws m in
+        let v = back-view x m name (writable s m t z id name p) in
+        let c = view-changed s (wentBackState s j m name) j _ (back-slot s z j (r .listed) (r .few) m name) in
+        let d : Changed (viewAt s) (viewAt (wentBackState s j m name)) j (g (viewAt s j)) = record { here = c .here ∙ v; other = c .other } in
+        ap (λ (o : Outcome). live (o .result .state) (o .memory) (o .tail)) (go-back-done s m t id name e)
+        ∙ back-numbers s m m' t j name
+        ∙ ap (with-txs s m' t)
+        (edited (viewAt s) (viewAt (wentBackState s j m name)) (id .0) j g (s .count) 0 (first s (id .0) (r .listed)) d (omega (arith, r .listed))
+        ∙ ap (λ (i : ℕ). edit i g (upFrom (viewAt s) (s .count) 0)) (sym (r .named)))
+        ∙ sym (writes-live ws tx (live s m t))
+
+    -- numbers 18 and 13 of going back, in recovery's words
+    pub set-view : (name : ℕ) → goBackNumber s m t id name ≡ 0 → countAt name (tx .savepoints) ≡ some (stoodAt name (txOf s (id .0)))
+    set-view name e = set-count name (savepointsOf (txOf s (id .0))) (go-back-passed s m t id name e .set)
+
+    pub later-view : (name : ℕ) → goBackNumber s m t id name ≡ 0
+        → redoSize (drop (stoodAt name (txOf s (id .0))) (tx .undo)) ≡ rangesSize (laterRanges name (txOf s (id .0)))
+    later-view name e =
+        let r = go-back-passed s m t id name e .runs in
+        later-size (txOf s (id .0)) name (z .each j (r .listed) .undos) (r .undo)
 
     -- Precommit turns the redo list into the group at the tail's end, and marks the transaction committing.
     pub precommit-live : precommitNumber s m t id ≡ 0

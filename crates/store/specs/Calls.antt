@@ -6,17 +6,18 @@ use lib.ListN.{length, take, drop}
 use lib.Seq.{sets}
 use lib.Dec.{eqb}
 use Rattle.recovery.specs.Group.{Group, committed, aborted}
-use Rattle.recovery.specs.Replay.{undoAll, layBytes}
+use Rattle.recovery.specs.Replay.{redoAll, undoAll, layBytes}
 use Rattle.log.specs.declared.TxId.{TxId}
 use Rattle.log.specs.Group.{encodeGroup}
 use Rattle.transaction.specs.View.{usedBy, writesOf}
 use Rattle.transaction.specs.Rules.{covered}
+use Rattle.transaction.specs.Steps.{returnWrites}
 use Rattle.store.specs.declared.State.{State}
 use Rattle.store.specs.State.{slotOf}
 use Rattle.store.specs.Answer.{done, refused, Told, tells}
 use Rattle.store.specs.Rules.{tailLength, roomUsed}
-use Rattle.store.specs.Numbers.{txOf, numberBy, beginChecks, readChecks, answerChecks, writeChecks, precommitChecks, abortChecks, settleChecks}
-use Rattle.store.specs.Steps.{begunState, writtenState, readState, precommittedState, droppedState}
+use Rattle.store.specs.Numbers.{txOf, numberBy, beginChecks, readChecks, answerChecks, writeChecks, savepointChecks, goBackChecks, precommitChecks, abortChecks, settleChecks}
+use Rattle.store.specs.Steps.{begunState, writtenState, readState, savepointState, wentBackState, precommittedState, droppedState}
 
 pub record Outcome : Type 0 where
   pub result : Told
@@ -70,6 +71,30 @@ unfoldable pub readAnswerOf : State → List ℕ → List ℕ → TxId → ℕ �
 readAnswerOf s m t id a n =
     let k = answerNumber s m t id a n in
     decided k (tells done 0 0 (readState s (slotOf s (id .0)) a n)) (refusing k s)
+
+-- ---- savepoints (document 02, A.7): set, and gone back to
+
+abbrev pub savepointNumber : State → List ℕ → List ℕ → TxId → ℕ → ℕ
+savepointNumber s m t id name = numberBy s (length m) t (savepointChecks s (id .0) name)
+
+unfoldable pub savepointOf : State → List ℕ → List ℕ → TxId → ℕ → Told
+savepointOf s m t id name =
+    let n = savepointNumber s m t id name in
+    decided n (tells done 0 0 (savepointState s (slotOf s (id .0)) name)) (refusing n s)
+
+abbrev pub goBackNumber : State → List ℕ → List ℕ → TxId → ℕ → ℕ
+goBackNumber s m t id name = numberBy s (length m) t (goBackChecks s (roomUsed s t) (id .0) name)
+
+unfoldable pub goBackOf : State → List ℕ → List ℕ → TxId → ℕ → Outcome
+goBackOf s m t id name =
+    let n = goBackNumber s m t id name in
+    decided n
+    (record {
+      result = tells done 0 0 (wentBackState s (slotOf s (id .0)) m name);
+      memory = redoAll layBytes (returnWrites (txOf s (id .0)) name) m;
+      tail = t;
+    })
+    (record { result = refusing n s; memory = m; tail = t })
 
 -- ---- precommit
 

@@ -7,7 +7,8 @@ use lib.Dec.{eqb, ltb}
 use Rattle.layout.specs.{memoryLen, pageLen, tailLen, logLen, maxTxs, maxRecords, maxWrite, redoLen, commitLen, statusRunning, statusCommitting}
 use Rattle.recovery.specs.Lists.{any}
 use Rattle.transaction.specs.declared.Tx.{Tx}
-use Rattle.transaction.specs.Rules.{reading, writing, heldAgainst}
+use Rattle.transaction.specs.View.{savepointsOf}
+use Rattle.transaction.specs.Rules.{reading, writing, heldAgainst, rangesSize, isSet, nameRefused, laterRanges}
 use Rattle.store.specs.declared.State.{State}
 use Rattle.store.specs.State.{txAt, txsOf, hasId, slotOf}
 use Rattle.store.specs.Rules.{unfit}
@@ -83,6 +84,27 @@ check13 room n = check 13 (ltb logLen (room + (redoLen + n)))
 
 abbrev pub writeChecks : State → ℕ → ℕ → ℕ → ℕ → List Check
 writeChecks s room id a n = rangeChecks s id a n ++ (check16 a n ∷ check9 s writing id a n ∷ check10 s id ∷ check13 room n ∷ [])
+
+-- "19, setting a fifth name or the name 0; .. checked after 7" (document 02, A.7)
+abbrev pub check19 : State → ℕ → ℕ → Check
+check19 s id name = check 19 (nameRefused name (savepointsOf (txOf s id)))
+
+abbrev pub savepointChecks : State → ℕ → ℕ → List Check
+savepointChecks s id name = check6 s id ∷ check7 s id ∷ check19 s id name ∷ []
+
+-- "18, going back to a name not set, .. checked after 7"
+abbrev pub check18 : State → ℕ → ℕ → Check
+check18 s id name = check 18 (not (isSet name (savepointsOf (txOf s id))))
+
+-- the writes of a return "count towards 10 and 13", "all or none": judged on the totals
+abbrev pub returnCheck10 : State → ℕ → ℕ → Check
+returnCheck10 s id name = check 10 (ltb maxRecords (txOf s id .undo .ranges .count + length (laterRanges name (txOf s id))))
+
+abbrev pub returnCheck13 : State → ℕ → ℕ → ℕ → Check
+returnCheck13 s room id name = check 13 (ltb logLen (room + rangesSize (laterRanges name (txOf s id))))
+
+abbrev pub goBackChecks : State → ℕ → ℕ → ℕ → List Check
+goBackChecks s room id name = check6 s id ∷ check7 s id ∷ check18 s id name ∷ returnCheck10 s id name ∷ returnCheck13 s room id name ∷ []
 
 -- "12. .. Precommit: last commit number 4,294,967,295."
 abbrev pub check12 : State → Check

@@ -10,11 +10,12 @@ use Rattle.log.specs.declared.TxId.{TxId}
 use Rattle.transaction.specs.declared.ranges.Ranges.{Ranges}
 use Rattle.transaction.specs.declared.records.Records.{Records}
 use Rattle.transaction.specs.declared.Tx.{Tx}
-use Rattle.transaction.specs.View.{rangesOf, writesOf}
+use Rattle.transaction.specs.declared.savepoints.Savepoints.{Savepoints}
+use Rattle.transaction.specs.View.{rangesOf, savepointsIn, writesOf}
 use Rattle.store.specs.declared.State.{State}
 use Rattle.store.specs.State.{txAt}
 use Rattle.store.specs.Answer.{Told}
-use Rattle.store.specs.Calls.{Outcome, beginOf, writeOf, readOf, readAnswerOf, precommitOf, abortOf, settleOf}
+use Rattle.store.specs.Calls.{Outcome, beginOf, writeOf, readOf, readAnswerOf, savepointOf, goBackOf, precommitOf, abortOf, settleOf}
 use Rattle.store.specs.Stored.{DiskOutcome}
 use Rattle.store.specs.Flush.{flushOf}
 use Rattle.store.specs.Checkpoint.{checkpointOf}
@@ -30,6 +31,11 @@ pub record SameRecords (r q : Records) : Type 0 where
   pub ranges : rangesOf (r .ranges) ≡ rangesOf (q .ranges)
   pub writes : writesOf r ≡ writesOf q
 
+-- as many savepoints, and the same, in order
+pub record SameSavepoints (p q : Savepoints) : Type 0 where
+  pub count : p .count ≡ q .count
+  pub savepoints : savepointsIn p ≡ savepointsIn q
+
 pub record SameTx (t u : Tx) : Type 0 where
   pub id : t .id .0 ≡ u .id .0
   pub status : t .status ≡ u .status
@@ -37,6 +43,7 @@ pub record SameTx (t u : Tx) : Type 0 where
   pub undo : SameRecords (t .undo) (u .undo)
   pub redo : t .status ≡ statusRunning → SameRecords (t .redo) (u .redo)
   pub reads : SameRanges (t .extras .reads) (u .extras .reads)
+  pub savepoints : SameSavepoints (t .extras .savepoints) (u .extras .savepoints)
 
 pub record ShowsSame (s r : State) : Type 0 where
   pub recovered : s .recovered ≡ r .recovered
@@ -72,6 +79,8 @@ pub record AnsweredAlike (s r : State) : Type 0 where
   pub write : (m t : List ℕ) (id : TxId) (a : ℕ) (bs : List ℕ) → SameOutcome (writeOf s m t id a bs) (writeOf r m t id a bs)
   pub read : (m t : List ℕ) (id : TxId) (a n : ℕ) → readOf s m t id a n ≡ readOf r m t id a n
   pub readAnswer : (m t : List ℕ) (id : TxId) (a n : ℕ) → SameTold (readAnswerOf s m t id a n) (readAnswerOf r m t id a n)
+  pub savepoint : (m t : List ℕ) (id : TxId) (name : ℕ) → SameTold (savepointOf s m t id name) (savepointOf r m t id name)
+  pub goBack : (m t : List ℕ) (id : TxId) (name : ℕ) → SameOutcome (goBackOf s m t id name) (goBackOf r m t id name)
   pub precommit : (m t : List ℕ) (id : TxId) → SameOutcome (precommitOf s m t id) (precommitOf r m t id)
   pub abort : (m t : List ℕ) (id : TxId) → SameOutcome (abortOf s m t id) (abortOf r m t id)
   pub settle : (m t : List ℕ) (id : TxId) → SameTold (settleOf s m t id) (settleOf r m t id)

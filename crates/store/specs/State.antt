@@ -1,13 +1,14 @@
 -- The state between calls.
-use Prim.Native.Nat.{ℕ, suc}
-use mathlib.Core.Bool.{Bool, false, cond}
-use mathlib.Core.List.{List, [], _∷_}
+use Prim.Native.Nat.{ℕ}
+use mathlib.Core.Bool.{Bool, false}
+use mathlib.Core.List.{List}
 use lib.ListN.{replicate}
 use lib.Dec.{eqb}
 use Rattle.layout.specs.{maxTxs}
 use Rattle.log.specs.declared.TxId.{TxId}
 use Rattle.log.specs.declared.Csn.{Csn}
 use Rattle.transaction.specs.declared.Tx.{Tx}
+use Rattle.transaction.specs.Lists.{firstIn}
 use Rattle.transaction.specs.Flat.{emptyTx}
 use Rattle.transaction.specs.View.{Outline}
 use Rattle.image.specs.declared.Image.{Image}
@@ -52,8 +53,7 @@ hasId id t = eqb id (t .id .0)
 
 -- the slot of the first transaction of this id, of those from slot i on; past the last if it isn't there
 abbrev pub slotIn : ℕ → ℕ → List Tx → ℕ
-slotIn id i [] = i
-slotIn id i (t ∷ ts) = cond (hasId id t) i (slotIn id (suc i) ts)
+slotIn id i ts = firstIn (hasId id) i ts
 
 abbrev pub slotOf : State → ℕ → ℕ
 slotOf s id = slotIn id 0 (txsOf s)

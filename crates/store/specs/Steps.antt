@@ -4,7 +4,7 @@ use mathlib.Core.List.{List, _∷_, _++_}
 use lib.ListN.{length, take, drop, set}
 use Rattle.transaction.specs.declared.Tx.{Tx}
 use Rattle.transaction.specs.Flat.{emptyTx}
-use Rattle.transaction.specs.Steps.{freshTx, written, withRead, precommitted}
+use Rattle.transaction.specs.Steps.{freshTx, written, withRead, savepointed, goneBack, precommitted}
 use Rattle.store.specs.declared.State.{State}
 use Rattle.store.specs.State.{txAt, withTxs}
 
@@ -21,6 +21,14 @@ writtenState s slot m a bs =
 -- Read's sister: "adds a range to the state" (document 02, A.2)
 unfoldable pub readState : State → ℕ → ℕ → ℕ → State
 readState s slot a n = withTxs s (s .assigned) (s .lastid) (s .count) (set (s .txs) slot (withRead (txAt s slot) a n))
+
+-- Setting a savepoint (document 02, A.7)
+unfoldable pub savepointState : State → ℕ → ℕ → State
+savepointState s slot name = withTxs s (s .assigned) (s .lastid) (s .count) (set (s .txs) slot (savepointed (txAt s slot) name))
+
+-- Going back: "writes the old bytes of every later write, newest first, as ordinary writes"
+unfoldable pub wentBackState : State → ℕ → List ℕ → ℕ → State
+wentBackState s slot m name = withTxs s (s .assigned) (s .lastid) (s .count) (set (s .txs) slot (goneBack (txAt s slot) m name))
 
 -- Precommit: "assigns the next commit number, .. marks the transaction committing"
 unfoldable pub precommittedState : State → ℕ → State

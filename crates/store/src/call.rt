@@ -7,7 +7,7 @@ use log::Csn;
 use log::TxId;
 ghost use mathlib.Core.Path.{_≡_};
 ghost use Rattle.store.specs.Answer.{ofBegun, ofPrecommitted, ofReturned};
-ghost use Rattle.store.specs.Calls.{beginOf, writeOf, readOf, readAnswerOf, precommitOf, abortOf, settleOf};
+ghost use Rattle.store.specs.Calls.{beginOf, writeOf, readOf, readAnswerOf, savepointOf, goBackOf, precommitOf, abortOf, settleOf};
 
 pub struct Begun {
     pub state: State,
@@ -120,6 +120,47 @@ impl State {
             };
         }
         let s = self.read_step(chosen.slot, addr, len);
+        Returned {
+            answer: Answer::Done,
+            state: s,
+        }
+    }
+
+    // A savepoint where the transaction's writes stand; one of that name moves.
+    pub fn savepoint(mut self, memory: &[u8], tail: &[u8], id: TxId, name: u8) -> Returned
+        ensures { λ r. ⌜ ofReturned r ≡ savepointOf self (now (memory .entry)) (now (tail .entry)) id name ⌝ }
+    {
+        let seen = self.extents();
+        let admitted = seen.admit(memory.len(), tail);
+        let chosen = seen.choose_savepoint(admitted, id, name);
+        if chosen.number != 0 {
+            return Returned {
+                answer: Answer::Refused(chosen.number),
+                state: self,
+            };
+        }
+        let s = self.savepoint_step(chosen.slot, name);
+        Returned {
+            answer: Answer::Done,
+            state: s,
+        }
+    }
+
+    // Writes the old bytes of every write since a savepoint, the newest first.
+    pub fn go_back(mut self, memory: &mut [u8], tail: &[u8], id: TxId, name: u8) -> Returned
+        ensures { λ r. ⌜ ofReturned r ≡ goBackOf self (now (memory .entry)) (now (tail .entry)) id name .result ⌝ }
+        ensures { λ _. ⌜ now (memory .exit) ≡ goBackOf self (now (memory .entry)) (now (tail .entry)) id name .memory ⌝ }
+    {
+        let seen = self.extents();
+        let admitted = seen.admit(memory.len(), tail);
+        let chosen = seen.choose_go_back(admitted, id, name);
+        if chosen.number != 0 {
+            return Returned {
+                answer: Answer::Refused(chosen.number),
+                state: self,
+            };
+        }
+        let s = self.go_back_step(memory, chosen.slot, name);
         Returned {
             answer: Answer::Done,
             state: s,

@@ -6,6 +6,7 @@ use crate::extents::StateExtents;
 use layout::COMMIT_LEN;
 use layout::COMMITTING;
 use layout::LOG_LEN;
+use layout::MAX_RECORDS;
 use layout::PAGE_LEN;
 use layout::REDO_LEN;
 use layout::RUNNING;
@@ -23,7 +24,7 @@ ghost use Rattle.transaction.specs.Rules.{stateOk, heldAgainst, covered};
 ghost use Rattle.store.specs.State.{txAt, txsOf, slotOf};
 ghost use Rattle.store.specs.Extents.{bareState};
 ghost use Rattle.store.specs.Rules.{keepsImageRules};
-ghost use Rattle.store.specs.Numbers.{check8, check16, beginChecks, readChecks, answerChecks, writeChecks, precommitChecks, abortChecks, settleChecks};
+ghost use Rattle.store.specs.Numbers.{check8, check16, beginChecks, readChecks, answerChecks, writeChecks, savepointChecks, goBackChecks, precommitChecks, abortChecks, settleChecks};
 ghost use Rattle.store.specs.Admission.{numberAfter, listedChecks, refusal, choice, after, Seen};
 
 // What bytes are wanted for, to number 9.
@@ -248,6 +249,48 @@ impl StateExtents {
             return refuse(13);
         }
         paged
+    }
+
+    // Numbers 6, 7 and 19.
+    pub(crate) fn choose_savepoint(self, admitted: Admission, id: TxId, name: u8) -> Choice
+        requires { ⌜ Seen admitted (bareState self) ⌝ }
+        ensures { λ r. ⌜ r ≡ choice (bareState self) admitted (id .0) (savepointChecks (bareState self) (id .0) name) ⌝ }
+    {
+        let running = self.choose_running(admitted, id);
+        if running.number != 0 {
+            return running;
+        }
+        let slot = running.slot;
+        let t = self.txs[slot];
+        if t.refuses_name(name) {
+            return refuse(19);
+        }
+        running
+    }
+
+    // Numbers 6, 7 and 18, then 10 and 13 on the totals.
+    pub(crate) fn choose_go_back(self, admitted: Admission, id: TxId, name: u8) -> Choice
+        requires { ⌜ Seen admitted (bareState self) ⌝ }
+        ensures { λ r. ⌜ r ≡ choice (bareState self) admitted (id .0) (goBackChecks (bareState self) (admitted .room) (id .0) name) ⌝ }
+    {
+        let running = self.choose_running(admitted, id);
+        if running.number != 0 {
+            return running;
+        }
+        let slot = running.slot;
+        let t = self.txs[slot];
+        if !t.has_savepoint(name) {
+            return refuse(18);
+        }
+        let total = t.undo.count as usize + t.later_count(name);
+        let used = running.room + t.later_size(name);
+        if MAX_RECORDS < total {
+            return refuse(10);
+        }
+        if LOG_LEN < used {
+            return refuse(13);
+        }
+        running
     }
 
     // Numbers 6, 7 and 12.

@@ -3,21 +3,21 @@ use crate::State;
 use log::Csn;
 use log::TxId;
 use log::record::put_abort;
-use log::stores::copy;
 use transaction::Tx;
 ghost use mathlib.Core.Path.{_≡_};
 ghost use mathlib.Core.Bool.{true};
 ghost use Prim.Native.Nat.{_+_, _≤_, _<_};
 ghost use lib.ListN.{length};
 ghost use lib.Seq.{sets};
-ghost use Rattle.layout.specs.{memoryLen, maxTxs, maxRecords, maxWrite, commitLen, abortLen};
+ghost use Rattle.layout.specs.{memoryLen, maxTxs, maxRecords, maxWrite, maxSavepoints, commitLen, abortLen};
 ghost use Rattle.recovery.specs.Group.{committed, aborted};
-ghost use Rattle.recovery.specs.Replay.{undoAll, layBytes};
+ghost use Rattle.recovery.specs.Replay.{redoAll, undoAll, layBytes};
 ghost use Rattle.log.specs.Group.{encodeGroup};
-ghost use Rattle.transaction.specs.View.{rangesOf, writesOf};
-ghost use Rattle.transaction.specs.Rules.{recordsOk, rangesSize};
+ghost use Rattle.transaction.specs.View.{rangesOf, savepointsOf, writesOf};
+ghost use Rattle.transaction.specs.Rules.{recordsOk, savepointsOk, rangesSize, placeOf, laterRanges};
+ghost use Rattle.transaction.specs.Steps.{returnWrites};
 ghost use Rattle.store.specs.State.{txAt};
-ghost use Rattle.store.specs.Steps.{begunState, writtenState, readState, precommittedState, droppedState};
+ghost use Rattle.store.specs.Steps.{begunState, writtenState, readState, savepointState, wentBackState, precommittedState, droppedState};
 
 impl State {
     pub(crate) fn begin_step(mut self) -> Self
@@ -45,11 +45,9 @@ impl State {
         ensures { λ r. ⌜ r ≡ writtenState self slot (now (memory .entry)) addr (now (bytes .entry)) ⌝ }
         ensures { λ _. ⌜ now (memory .exit) ≡ sets (now (memory .entry)) addr (now (bytes .entry)) ⌝ }
     {
-        let n = bytes.len();
         let t = self.txs[slot];
-        let u = t.write(addr as u16, &memory[addr..addr + n], bytes);
+        let u = t.lay(memory, addr, bytes);
         self.txs[slot] = u;
-        copy(memory, addr, bytes);
         self
     }
 
@@ -59,6 +57,30 @@ impl State {
     {
         let t = self.txs[slot];
         let u = t.read(addr as u16, len as u8);
+        self.txs[slot] = u;
+        self
+    }
+
+    pub(crate) fn savepoint_step(mut self, slot: usize, name: u8) -> Self
+        requires { ⌜ (slot < maxTxs) × (txAt self slot .extras .savepoints .count ≤ maxSavepoints) × (placeOf (txAt self slot .extras .savepoints) name < maxSavepoints) ⌝ }
+        ensures { λ r. ⌜ r ≡ savepointState self slot name ⌝ }
+    {
+        let t = self.txs[slot];
+        let u = t.savepoint(name);
+        self.txs[slot] = u;
+        self
+    }
+
+    pub(crate) fn go_back_step(mut self, memory: &mut [u8], slot: usize, name: u8) -> Self
+        requires { ⌜ (slot < maxTxs) × (recordsOk (rangesOf (txAt self slot .undo .ranges)) ≡ true)
+            × (txAt self slot .redo .ranges .count ≡ txAt self slot .undo .ranges .count) × (length (now memory) ≡ memoryLen) ⌝ }
+        requires { ⌜ (savepointsOk (txAt self slot .undo .ranges .count) (savepointsOf (txAt self slot)) ≡ true)
+            × (txAt self slot .undo .ranges .count + length (laterRanges name (txAt self slot)) ≤ maxRecords) ⌝ }
+        ensures { λ r. ⌜ r ≡ wentBackState self slot (now (memory .entry)) name ⌝ }
+        ensures { λ _. ⌜ now (memory .exit) ≡ redoAll layBytes (returnWrites (txAt self slot) name) (now (memory .entry)) ⌝ }
+    {
+        let t = self.txs[slot];
+        let u = t.go_back(memory, name);
         self.txs[slot] = u;
         self
     }

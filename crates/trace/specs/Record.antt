@@ -11,8 +11,8 @@ use Rattle.trace.specs.declared.record.Record.{Record}
 unfoldable pub recordOf : List ℕ → Record
 recordOf b =
     cond (eqb (length b) 64)
-    (record { call = getD b 0 0; id = record { 0 = be16 b 2 }; addr = be32 b 4; len = be32 b 8; groups = be32 b 12; allowed = be32 b 16 })
-    (record { call = 0; id = record { 0 = 0 }; addr = 0; len = 0; groups = 0; allowed = 0 })
+    (record { call = getD b 0 0; name = getD b 1 0; id = record { 0 = be16 b 2 }; addr = be32 b 4; len = be32 b 8; groups = be32 b 12; allowed = be32 b 16 })
+    (record { call = 0; name = 0; id = record { 0 = 0 }; addr = 0; len = 0; groups = 0; allowed = 0 })
 
 -- the data: as many bytes from 24 on as byte 1 says, at most 40
 unfoldable pub dataOf : List ℕ → List ℕ

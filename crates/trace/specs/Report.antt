@@ -1,8 +1,9 @@
 -- What a line tells of a call.
 use Prim.Native.Nat.{ℕ}
-use mathlib.Core.Bool.{Bool}
+use mathlib.Core.Bool.{Bool, true, false}
 use mathlib.Core.List.{List}
 use lib.ListN.{length}
+use Rattle.transaction.specs.declared.Tx.{Tx}
 use Rattle.transaction.specs.Lists.{sumOf}
 use Rattle.store.specs.declared.Answer.{Answer}
 use Rattle.store.specs.declared.State.{State}
@@ -24,9 +25,14 @@ storedOf answer value stores state = restartedOf answer value stores Untold stat
 abbrev pub readOf : List ℕ → State → Report
 readOf part state = record { verdict = Part (length part); value = adlerOf part; stores = 0; stop = Untold; state = state }
 
--- how many ranges the transactions listed have read together; an unrecovered state lists none
-abbrev pub rangesRead : State → ℕ
-rangesRead s = sumOf (λ t. t .extras .reads .count) (txsOf s)
+-- how many savepoints a transaction has, or how many ranges it has read
+abbrev pub countIn : Bool → Tx → ℕ
+countIn true t = t .extras .savepoints .count
+countIn false t = t .extras .reads .count
+
+-- of the transactions listed together; an unrecovered state lists none
+abbrev pub countedIn : Bool → State → ℕ
+countedIn savepoints s = sumOf (countIn savepoints) (txsOf s)
 
 -- of equal in meaning
 abbrev pub comparedOf : Bool → State → Report

@@ -9,7 +9,7 @@ use transaction::Tx;
 ghost use mathlib.Core.Path.{_≡_};
 ghost use Prim.Native.Nat.{_≤_};
 ghost use Rattle.trace.specs.Adler.{adlerOf};
-ghost use Rattle.trace.specs.Report.{storedOf, restartedOf, readOf, rangesRead, comparedOf};
+ghost use Rattle.trace.specs.Report.{storedOf, restartedOf, readOf, countIn, countedIn, comparedOf};
 
 // A line's second field: a call's answer, the length of read's part, or whether two disks are equal in meaning.
 pub enum Verdict {
@@ -157,17 +157,25 @@ fn print_verdict(verdict: Verdict) {
     }
 }
 
-// How many ranges a transaction has read.
-fn reads_of(t: Tx) -> usize
-    ensures { λ r. ⌜ r ≡ t .extras .reads .count ⌝ }
+// What is counted of a transaction: its savepoints, or the ranges that it has read.
+const SAVEPOINTS: bool = true;
+
+const READS: bool = false;
+
+// How many savepoints a transaction has, or how many ranges it has read.
+fn count_of(t: Tx, savepoints: bool) -> usize
+    ensures { λ r. ⌜ r ≡ countIn savepoints t ⌝ }
     ensures { λ r. ⌜ r ≤ 255 ⌝ }
 {
+    if savepoints {
+        return t.extras.savepoints.count as usize;
+    }
     t.extras.reads.count as usize
 }
 
-// How many ranges the transactions listed have read together.
-fn ranges_read(s: State) -> usize
-    ensures { λ r. ⌜ r ≡ rangesRead s ⌝ }
+// The same of the transactions listed, together.
+fn counted(s: State, savepoints: bool) -> usize
+    ensures { λ r. ⌜ r ≡ countedIn savepoints s ⌝ }
 {
     let n = s.count as usize;
     let mut sum: usize = 0;
@@ -175,14 +183,14 @@ fn ranges_read(s: State) -> usize
     while i < n {
         if i < MAX_TXS {
             let t = s.txs[i];
-            sum = sum + reads_of(t);
+            sum = sum + count_of(t, savepoints);
         }
         i += 1;
     }
     sum
 }
 
-// Recovered, log end, number on disk, number assigned, last id, transactions listed, ranges that they have read.
+// Recovered, log end, number on disk, number assigned, last id, transactions listed, ranges that they have read, savepoints.
 fn print_state(s: State) {
     if s.recovered {
         text(b" 1");
@@ -194,7 +202,8 @@ fn print_state(s: State) {
     comma_number(s.assigned.0 as usize);
     comma_number(s.lastid.0 as usize);
     comma_number(s.count as usize);
-    comma_number(ranges_read(s));
+    comma_number(counted(s, READS));
+    comma_number(counted(s, SAVEPOINTS));
 }
 
 // Restart's ninth field.

@@ -87,7 +87,7 @@ fn stream_call(
     Report::compared(equal(&*disk, &*kept), s)
 }
 
-// The first groups, into a memory of the stream's own. The line's memory is that one; value and stores are the end and the number reached.
+// The first groups; value and stores are the end and the number reached.
 fn groups_call(r: Record, s: State, disk: &[u8], seen: &mut [u8]) -> Report {
     let x = first_groups(disk, seen, r.groups);
     let answer = x.answer;
@@ -157,6 +157,21 @@ fn memory_call(r: Record, data: &[u8], s: State, memory: &mut [u8], tail: &mut [
     Report::stored(answer, 0, 0, state)
 }
 
+// A savepoint is set, or gone back to.
+fn savepoint_call(r: Record, s: State, memory: &mut [u8], tail: &[u8]) -> Report {
+    let id = r.id;
+    if r.call == 17 {
+        let x = s.savepoint(&*memory, tail, id, r.name);
+        let answer = x.answer;
+        let state = x.state;
+        return Report::stored(answer, 0, 0, state);
+    }
+    let x = s.go_back(memory, tail, id, r.name);
+    let answer = x.answer;
+    let state = x.state;
+    Report::stored(answer, 0, 0, state)
+}
+
 // One record: the call, its line, and the state that it leaves.
 fn step(
     bytes: &[u8],
@@ -176,6 +191,11 @@ fn step(
         }
         1..=6 | 8 => {
             let out = memory_call(r, data_of(bytes), s, memory, tail);
+            print_line(call, out, &*disk, &*memory, &*tail);
+            out.state
+        }
+        17 | 18 => {
+            let out = savepoint_call(r, s, memory, &*tail);
             print_line(call, out, &*disk, &*memory, &*tail);
             out.state
         }

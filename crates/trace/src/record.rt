@@ -7,6 +7,7 @@ ghost use Rattle.trace.specs.Record.{recordOf, dataOf};
 
 pub struct Record {
     pub call: u8,
+    pub name: u8,
     pub id: TxId,
     pub addr: usize,
     pub len: usize,
@@ -21,6 +22,7 @@ pub(crate) fn read_record(b: &[u8]) -> Record
     if b.len() != 64 {
         return Record {
             call: 0,
+            name: 0,
             id: TxId(0),
             addr: 0,
             len: 0,
@@ -30,6 +32,7 @@ pub(crate) fn read_record(b: &[u8]) -> Record
     }
     Record {
         call: b[0],
+        name: b[1],
         id: TxId(be16(b, 2)),
         addr: be32(b, 4) as usize,
         len: be32(b, 8) as usize,

@@ -5,7 +5,7 @@ use native.Mathlib.Omega.{arith}
 use mathlib.Core.Bool.{Bool, true, false, _&&_, _||_}
 use mathlib.Core.List.{List, [], _∷_, _++_}
 use mathlib.Core.Path.{_≡_, refl, sym, ap, ap₂, _∙_, subst}
-use lib.ListN.{length}
+use lib.ListN.{length, drop}
 use lib.Dec.{eqb}
 use borrow.Author.Tests.{eqb-true, eqb-false}
 use Rattle.recovery.specs.Lists.{All, nil, cons, any}
@@ -23,6 +23,15 @@ module _ {A : Type 0} (f : ℕ → A) where
   up-snoc (suc k) i =
       let e : suc i + k ≡ i + suc k = omega arith in
       ap (λ (xs : List A). f i ∷ xs) (up-snoc k (suc i)) ∙ ap (λ (j : ℕ). f i ∷ (upFrom f k (suc i) ++ (f j ∷ []))) e
+
+  -- from a place on
+  pub drop-up : (n k i : ℕ) → drop n (upFrom f k i) ≡ upFrom f (k - n) (i + n)
+  drop-up zero k i = let a : k ≡ k - 0 = omega arith in let b : i ≡ i + 0 = omega arith in ap₂ (upFrom f) a b
+  drop-up (suc n) zero i = let a : 0 ≡ 0 - suc n = omega arith in ap (λ (j : ℕ). upFrom f j (i + suc n)) a
+  drop-up (suc n) (suc k) i =
+      let a : k - n ≡ suc k - suc n = omega arith in
+      let b : suc i + n ≡ i + suc n = omega arith in
+      drop-up n k (suc i) ∙ ap₂ (upFrom f) a b
 
   pub up-same : (g : ℕ → A) (k i : ℕ) → ((j : ℕ) → i ≤ j → j < i + k → f j ≡ g j) → upFrom f k i ≡ upFrom g k i
   up-same g zero i h = refl

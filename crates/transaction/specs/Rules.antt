@@ -1,15 +1,19 @@
--- The rules of one transaction: those of an image, for numbers 2 and 4, and those of a state alone, for number 2. Held bytes, cover and log room.
+-- The rules of one transaction: those of an image, for numbers 2 and 4, and those of a state alone, for number 2. Held bytes, cover, log room and
+-- savepoints.
 use Prim.Native.Nat.{ℕ, _+_}
 use mathlib.Core.Bool.{Bool, true, false, cond, not, _&&_, _||_}
 use mathlib.Core.List.{List, [], _∷_}
-use lib.ListN.{length}
+use mathlib.Core.Option.{Option, none, some}
+use lib.ListN.{length, drop}
 use lib.Dec.{eqb, leb, ltb}
-use Rattle.layout.specs.{redoLen, commitLen, maxRecords, statusRunning, statusCommitting}
+use Rattle.layout.specs.{redoLen, commitLen, maxRecords, maxSavepoints, statusRunning, statusCommitting}
 use Rattle.recovery.specs.Lists.{any}
+use Rattle.recovery.specs.Savepoint.{Savepoint, countAt}
 use Rattle.log.specs.Record.{inRange}
+use Rattle.transaction.specs.declared.savepoints.Savepoints.{Savepoints}
 use Rattle.transaction.specs.declared.Tx.{Tx}
-use Rattle.transaction.specs.Lists.{upFrom, every, sumOf}
-use Rattle.transaction.specs.View.{Range, range, rangesOf, readsOf, writtenBy, usedBy, Outline, outline}
+use Rattle.transaction.specs.Lists.{upFrom, every, firstIn, sumOf}
+use Rattle.transaction.specs.View.{Range, range, rangesOf, readsOf, savepointsIn, savepointsOf, writtenBy, usedBy, Outline, outline}
 
 -- ---- the image's part
 
@@ -47,9 +51,27 @@ sameRanges (r ∷ rs) (q ∷ qs) = sameRange r q && sameRanges rs qs
 abbrev pub redoOk : Tx → Bool
 redoOk t = not (eqb (t .status) statusRunning) || sameRanges (rangesOf (t .undo .ranges)) (rangesOf (t .redo .ranges))
 
+-- a savepoint has this name; the name is set
+abbrev pub hasName : ℕ → Savepoint → Bool
+hasName name p = eqb name (p .name)
+
+abbrev pub isSet : ℕ → List Savepoint → Bool
+isSet name ps = any (hasName name) ps
+
+-- of a transaction with so many writes not "name 0 or twice, or a count above the writes" (document 02, A.7)
+abbrev pub namesOk : ℕ → List Savepoint → Bool
+namesOk writes [] = true
+namesOk writes (p ∷ ps) = not (eqb (p .name) 0) && (leb (p .count) writes && (not (isSet (p .name) ps) && namesOk writes ps))
+
+-- "Up to four marks"
+unfoldable pub savepointsOk : ℕ → List Savepoint → Bool
+savepointsOk writes ps = leb (length ps) maxSavepoints && namesOk writes ps
+
 -- Document 02, A.2: at most 16 read ranges, none "outside 8's limits"; of what requests add to a transaction not "any of it on a committing one"
 abbrev pub extrasOk : Tx → Bool
-extrasOk t = cond (eqb (t .status) statusRunning) (recordsOk (readsOf t)) (eqb (t .extras .reads .count) 0)
+extrasOk t =
+    cond (eqb (t .status) statusRunning) (recordsOk (readsOf t) && savepointsOk (t .undo .ranges .count) (savepointsOf t))
+    (eqb (t .extras .reads .count) 0 && eqb (t .extras .savepoints .count) 0)
 
 -- what number 2 asks of a transaction beyond the image rules, a conjunct for each thing asked
 unfoldable pub stateOk : Tx → Bool
@@ -108,3 +130,25 @@ rangesSize rs = sumOf rangeSize rs
 -- "for each running transaction its redo bytes + 8"
 abbrev pub roomOf : Tx → ℕ
 roomOf t = cond (eqb (t .status) statusRunning) (rangesSize (rangesOf (t .redo .ranges)) + commitLen) 0
+
+-- ---- savepoints (document 02, A.7: marks)
+
+-- the place where a name is set, or, if it is not, the next one
+abbrev pub placeOf : Savepoints → ℕ → ℕ
+placeOf p name = firstIn (hasName name) 0 (savepointsIn p)
+
+-- "setting a fifth name or the name 0"
+unfoldable pub nameRefused : ℕ → List Savepoint → Bool
+nameRefused name ps = eqb name 0 || (not (isSet name ps) && eqb (length ps) maxSavepoints)
+
+-- how many writes stood when the name was set; 0 if it is not
+abbrev pub orZero : Option ℕ → ℕ
+orZero none = 0
+orZero (some n) = n
+
+abbrev pub stoodAt : ℕ → Tx → ℕ
+stoodAt name t = orZero (countAt name (savepointsOf t))
+
+-- the ranges of "every later write"
+abbrev pub laterRanges : ℕ → Tx → List Range
+laterRanges name t = drop (stoodAt name t) (writtenBy t)

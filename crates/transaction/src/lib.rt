@@ -1,34 +1,41 @@
 // One transaction: its undo and redo records, the rules that it has to keep, and what a call does to it.
 pub mod ranges;
 pub mod records;
+pub mod savepoints;
 
 use crate::ranges::Ranges;
 use crate::records::Records;
+use crate::savepoints::Savepoints;
 use layout::COMMIT_LEN;
 use layout::COMMITTING;
+use layout::MAX_SAVEPOINTS;
+use layout::MAX_WRITE;
 use layout::RUNNING;
 use log::Csn;
 use log::TxId;
 use log::group::put_group;
+use log::stores::copy;
 ghost use mathlib.Core.Path.{_≡_};
 ghost use mathlib.Core.Bool.{true};
 ghost use mathlib.Core.List.{[]};
 ghost use Prim.Native.Nat.{_+_, _≤_, _<_};
-ghost use lib.ListN.{length};
+ghost use lib.ListN.{length, take, drop};
 ghost use lib.Seq.{sets};
-ghost use Rattle.layout.specs.{memoryLen, commitLen, maxRecords, maxWrite, statusRunning};
+ghost use Rattle.layout.specs.{memoryLen, commitLen, maxRecords, maxWrite, maxSavepoints, statusRunning};
 ghost use Rattle.recovery.specs.Group.{committed};
+ghost use Rattle.recovery.specs.Replay.{redoAll, layBytes};
 ghost use Rattle.log.specs.Group.{encodeGroup};
 ghost use Rattle.transaction.specs.Flat.{emptyExtras, emptyTx};
-ghost use Rattle.transaction.specs.View.{rangesOf, usedBy, writesOf, outline, outlineOf, extentsOf, bareTx};
-ghost use Rattle.transaction.specs.Rules.{recordsOk, headOk, outlineOk, alike, stateOk, heldAgainst, covered, reach, rangesSize, roomOf};
-ghost use Rattle.transaction.specs.Steps.{freshTx, written, withRead, precommitted};
+ghost use Rattle.transaction.specs.View.{rangesOf, savepointsOf, usedBy, writesOf, outline, outlineOf, extentsOf, bareTx};
+ghost use Rattle.transaction.specs.Rules.{recordsOk, headOk, outlineOk, alike, savepointsOk, stateOk, heldAgainst, covered, reach, rangesSize, roomOf, isSet, placeOf, nameRefused, stoodAt, laterRanges};
+ghost use Rattle.transaction.specs.Steps.{freshTx, written, withRead, savepointed, returnWrites, goneBack, precommitted};
 
 // What a running transaction keeps besides its records: off the image, emptied by precommit, its rule a conjunct of `stateOk`. The ranges that it
-// has read, oldest first.
+// has read, oldest first; its savepoints.
 #[repr(C)]
 pub struct Extras {
     pub reads: Ranges,
+    pub savepoints: Savepoints,
 }
 
 impl Extras {
@@ -36,7 +43,11 @@ impl Extras {
         ensures { λ r. ⌜ r ≡ emptyExtras ⌝ }
     {
         let none = Ranges::empty();
-        Extras { reads: none }
+        let unset = Savepoints::empty();
+        Extras {
+            reads: none,
+            savepoints: unset,
+        }
     }
 }
 
@@ -114,14 +125,21 @@ impl TxExtents {
         ensures { λ r. ⌜ r ≡ stateOk (bareTx self) ⌝ }
     {
         let reads = self.extras.reads;
+        let saved = self.extras.savepoints;
         if self.status != RUNNING {
-            return reads.count == 0;
+            if reads.count != 0 {
+                return false;
+            }
+            return saved.count == 0;
         }
         let undo = self.undo;
         if !undo.same_ranges(self.redo) {
             return false;
         }
-        reads.ok()
+        if !reads.ok() {
+            return false;
+        }
+        saved.ok(undo.count)
     }
 
     // The log room that it has reserved.
@@ -133,7 +151,7 @@ impl TxExtents {
             return 0;
         }
         let redo = self.redo;
-        redo.size() + COMMIT_LEN
+        redo.size(0) + COMMIT_LEN
     }
 
     // Whether it holds one of the len bytes from addr on against the transaction of this id, which wants to read or write them.
@@ -184,6 +202,51 @@ impl TxExtents {
             at = to;
         }
         true
+    }
+
+    // Number 19: the name 0, or a fifth one.
+    pub fn refuses_name(self, name: u8) -> bool
+        requires { ⌜ self .extras .savepoints .count ≤ maxSavepoints ⌝ }
+        ensures { λ r. ⌜ r ≡ nameRefused name (savepointsOf (bareTx self)) ⌝ }
+    {
+        if name == 0 {
+            return true;
+        }
+        let saved = self.extras.savepoints;
+        if saved.is_set(name) {
+            return false;
+        }
+        saved.count as usize == MAX_SAVEPOINTS
+    }
+
+    // Number 18, if not.
+    pub fn has_savepoint(self, name: u8) -> bool
+        requires { ⌜ self .extras .savepoints .count ≤ maxSavepoints ⌝ }
+        ensures { λ r. ⌜ r ≡ isSet name (savepointsOf (bareTx self)) ⌝ }
+    {
+        let saved = self.extras.savepoints;
+        saved.is_set(name)
+    }
+
+    // How many writes it has made since a savepoint.
+    pub fn later_count(self, name: u8) -> usize
+        requires { ⌜ savepointsOk (self .undo .count) (savepointsOf (bareTx self)) ≡ true ⌝ }
+        ensures { λ r. ⌜ r ≡ length (laterRanges name (bareTx self)) ⌝ }
+    {
+        let saved = self.extras.savepoints;
+        let n = saved.stood(name);
+        self.undo.count as usize - n
+    }
+
+    // The bytes that redo records of these writes take in the log.
+    pub fn later_size(self, name: u8) -> usize
+        requires { ⌜ (recordsOk (rangesOf (self .undo)) ≡ true) × (savepointsOk (self .undo .count) (savepointsOf (bareTx self)) ≡ true) ⌝ }
+        ensures { λ r. ⌜ r ≡ rangesSize (laterRanges name (bareTx self)) ⌝ }
+    {
+        let saved = self.extras.savepoints;
+        let n = saved.stood(name);
+        let undo = self.undo;
+        undo.size(n)
     }
 }
 
@@ -255,10 +318,68 @@ impl Tx {
         ensures { λ r. ⌜ r ≡ withRead self addr len ⌝ }
     {
         let reads = self.extras.reads;
+        let saved = self.extras.savepoints;
         let more = reads.push(addr, len);
-        let extras = Extras { reads: more };
+        let extras = Extras {
+            reads: more,
+            savepoints: saved,
+        };
         self.extras = extras;
         self
+    }
+
+    // A savepoint where its writes stand.
+    pub fn savepoint(mut self, name: u8) -> Self
+        requires { ⌜ (self .extras .savepoints .count ≤ maxSavepoints) × (placeOf (self .extras .savepoints) name < maxSavepoints) ⌝ }
+        ensures { λ r. ⌜ r ≡ savepointed self name ⌝ }
+    {
+        let reads = self.extras.reads;
+        let saved = self.extras.savepoints;
+        let moved = saved.set(name, self.undo.ranges.count);
+        let extras = Extras {
+            reads: reads,
+            savepoints: moved,
+        };
+        self.extras = extras;
+        self
+    }
+
+    // A write with what stands in memory as its old bytes; then memory has the new ones.
+    pub fn lay(self, memory: &mut [u8], addr: usize, bytes: &[u8]) -> Self
+        requires { ⌜ (length (now memory) ≡ memoryLen) × (length (now bytes) ≤ maxWrite) × (addr + length (now bytes) ≤ memoryLen) ⌝ }
+        requires { ⌜ (self .undo .ranges .count < maxRecords) × (self .redo .ranges .count < maxRecords) ⌝ }
+        ensures { λ r. ⌜ r ≡ written self addr (take (length (now (bytes .entry))) (drop addr (now (memory .entry)))) (now (bytes .entry)) ⌝ }
+        ensures { λ _. ⌜ now (memory .exit) ≡ sets (now (memory .entry)) addr (now (bytes .entry)) ⌝ }
+    {
+        let n = bytes.len();
+        let u = self.write(addr as u16, &memory[addr..addr + n], bytes);
+        copy(memory, addr, bytes);
+        u
+    }
+
+    // The old bytes of every write since a savepoint, the newest first, as writes.
+    pub fn go_back(self, memory: &mut [u8], name: u8) -> Self
+        requires { ⌜ (recordsOk (rangesOf (self .undo .ranges)) ≡ true) × (self .redo .ranges .count ≡ self .undo .ranges .count) × (length (now memory) ≡ memoryLen) ⌝ }
+        requires { ⌜ (savepointsOk (self .undo .ranges .count) (savepointsOf self) ≡ true) × (self .undo .ranges .count + length (laterRanges name self) ≤ maxRecords) ⌝ }
+        ensures { λ r. ⌜ r ≡ goneBack self (now (memory .entry)) name ⌝ }
+        ensures { λ _. ⌜ now (memory .exit) ≡ redoAll layBytes (returnWrites self name) (now (memory .entry)) ⌝ }
+    {
+        let saved = self.extras.savepoints;
+        let kept = saved.stood(name);
+        let bytes = self.undo.bytes;
+        let ranges = self.undo.ranges;
+        let later = ranges.count as usize - kept;
+        let mut i: usize = 0;
+        let mut t = self;
+        while i < later {
+            i += 1;
+            let k = kept + (later - i);
+            let at = ranges.addr[k] as usize;
+            let l = ranges.len[k] as usize;
+            let from = k * MAX_WRITE;
+            t = t.lay(memory, at, &bytes[from..from + l]);
+        }
+        t
     }
 
     // Committing, with its redo records and extras gone.

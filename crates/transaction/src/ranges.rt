@@ -5,6 +5,7 @@ use log::record::in_range;
 ghost use mathlib.Core.Path.{_≡_};
 ghost use mathlib.Core.Bool.{true};
 ghost use Prim.Native.Nat.{_≤_, _<_};
+ghost use lib.ListN.{drop};
 ghost use Rattle.layout.specs.{memoryLen, maxRecords, maxWrite};
 ghost use Rattle.recovery.specs.Lists.{any};
 ghost use Rattle.transaction.specs.Flat.{emptyRanges};
@@ -112,14 +113,14 @@ impl Ranges {
         at
     }
 
-    // The bytes that redo records of these ranges take in the log.
-    pub(crate) fn size(self) -> usize
-        requires { ⌜ recordsOk (rangesOf self) ≡ true ⌝ }
-        ensures { λ r. ⌜ r ≡ rangesSize (rangesOf self) ⌝ }
+    // The bytes that redo records of these ranges take in the log, from a place on.
+    pub(crate) fn size(self, from: usize) -> usize
+        requires { ⌜ (recordsOk (rangesOf self) ≡ true) × (from ≤ self .count) ⌝ }
+        ensures { λ r. ⌜ r ≡ rangesSize (drop from (rangesOf self)) ⌝ }
     {
         let n = self.count as usize;
         let mut sum: usize = 0;
-        let mut i: usize = 0;
+        let mut i = from;
         while i < n {
             sum = sum + (REDO_LEN + self.len[i] as usize);
             i += 1;

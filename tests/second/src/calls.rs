@@ -55,13 +55,7 @@ impl State {
         if self.room_used(groups.end) + new.redo_size() > LOG_LEN {
             return Err(13);
         }
-        let old = memory[address..address + bytes.len()].to_vec();
-        self.txs[index].undo.push(Write {
-            address,
-            bytes: old,
-        });
-        new.lay(memory);
-        self.txs[index].redo.push(new);
+        self.txs[index].write(memory, new);
         Ok(())
     }
 
@@ -109,6 +103,7 @@ impl State {
         tx.status = Status::Committing;
         tx.csn = csn;
         tx.reads.clear();
+        tx.savepoints.clear();
         let writes = std::mem::take(&mut tx.redo);
         let group = Group::Commit { id, csn, writes };
         append(tail, groups.end, &group.encode());
@@ -139,7 +134,12 @@ impl State {
     }
 
     /// Numbers 1, 2, 6 and 7: the place of a running transaction in the list.
-    fn find_running(&self, memory: &[u8], tail: &[u8], id: TxId) -> Result<(Log, usize), Refusal> {
+    pub fn find_running(
+        &self,
+        memory: &[u8],
+        tail: &[u8],
+        id: TxId,
+    ) -> Result<(Log, usize), Refusal> {
         let groups = self.admit(memory, tail)?;
         let index = self.find(id).ok_or(6)?;
         if !self.txs[index].is_running() {

@@ -1,6 +1,7 @@
 //! The checker: follows a stream and asks after every call what the documents
 //! claim of it. Document 01's demand 3 and, of document 02, A.1 (where the log
-//! stopped), A.2 (who holds what), A.4 (what was read) and A.6 (one page alone).
+//! stopped), A.2 (who holds what), A.4 (what was read), A.6 (one page alone) and
+//! A.7 (what goes back).
 
 use std::collections::BTreeMap;
 
@@ -10,6 +11,7 @@ use crate::ledger::Ledger;
 use crate::needs::stores_of;
 use crate::order::check_reads;
 use crate::pages::check_pages;
+use crate::returns::{check_return, check_undos};
 use crate::trace::{calls, Answer, Call, Outcome, World};
 
 /// Where the current is taken to fail.
@@ -42,6 +44,7 @@ pub enum Claim {
     Holds,
     Reads,
     Pages,
+    Returns,
 }
 
 impl Claim {
@@ -53,6 +56,7 @@ impl Claim {
             Claim::Holds => "A.2",
             Claim::Reads => "A.4",
             Claim::Pages => "A.6",
+            Claim::Returns => "A.7",
         }
     }
 }
@@ -141,6 +145,10 @@ impl Checker {
         }
         self.ask(Claim::Demand3, call, check_ledger(&self.book.ledger));
         self.ask(Claim::Holds, call, check_holds(&self.world));
+        let (ledger, durable) = (&self.book.ledger, &self.book.expected.memory);
+        let returned = check_undos(&self.world, ledger, durable)
+            .and_then(|()| check_return(&self.world, ledger, call, &outcome));
+        self.ask(Claim::Returns, call, returned);
         self.checked.records += 1;
     }
 

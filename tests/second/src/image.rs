@@ -57,7 +57,7 @@ impl<'a> Reader<'a> {
     }
 }
 
-/// The state (redo lists and read ranges empty) and memory of an image; none if it breaks a
+/// The state (only undo lists filled) and memory of an image; none if it breaks a
 /// rule. Counts, statuses and lengths are checked before they are stepped
 /// over, so the reading stays within the image's 8,653 bytes.
 pub fn decode(image: &[u8]) -> Option<(State, Vec<u8>)> {

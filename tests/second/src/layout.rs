@@ -16,6 +16,8 @@ pub const MAX_UNDOS: usize = 16;
 pub const MAX_LENGTH: usize = 32;
 /// The read ranges that a running transaction may have (document 02, A.2).
 pub const MAX_READS: usize = 16;
+/// The savepoints that it may have (A.7).
+pub const MAX_SAVEPOINTS: usize = 4;
 
 /// A page (document 02, A.5: drawer).
 pub const PAGE_LEN: usize = 256;

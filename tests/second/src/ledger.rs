@@ -2,8 +2,10 @@
 //! fed only the calls and what they answered. Beside each transaction's writes
 //! it has what it read (document 02, A.4).
 
+use std::collections::BTreeMap;
 use std::rc::Rc;
 
+use crate::layout::MEMORY_LEN;
 use crate::log::{Csn, TxId, Write};
 use crate::trace::{Answer, Call, Outcome};
 
@@ -54,12 +56,14 @@ impl Entry {
 }
 
 /// An open transaction (document 01: open sheet), its writes and its reads in
-/// order.
+/// order, and its savepoints (document 02, A.7).
 #[derive(Clone)]
-struct Open {
+pub struct Open {
     id: TxId,
-    writes: Vec<Write>,
+    pub writes: Vec<Write>,
     reads: Vec<Seen>,
+    /// Each savepoint's name, and how many writes stood.
+    pub savepoints: BTreeMap<u8, usize>,
 }
 
 #[derive(Clone, Default)]
@@ -88,6 +92,7 @@ impl Ledger {
                 id: TxId(outcome.value as u16),
                 writes: Vec::new(),
                 reads: Vec::new(),
+                savepoints: BTreeMap::new(),
             }),
             Call::Write { id, address, bytes } => self.write(*id, *address, bytes),
             Call::Read { id, address, .. } if !outcome.part.is_empty() => {
@@ -100,6 +105,11 @@ impl Ledger {
             }
             Call::Flush { groups, allowed } => self.flush(*groups, *allowed),
             Call::Settle { id } => self.settle(*id),
+            Call::SetSavepoint { id, name } => {
+                let open = self.find_mut(*id);
+                open.savepoints.insert(*name, open.writes.len());
+            }
+            Call::GoBack { id, name } => self.go_back(*id, *name),
             Call::Restart { .. } => self.restart(cut, outcome.value as usize),
             _ => {}
         }
@@ -109,19 +119,28 @@ impl Ledger {
         }
     }
 
-    fn find(&mut self, id: TxId) -> &mut Open {
+    pub fn open_of(&self, id: TxId) -> Option<&Open> {
+        self.open.iter().find(|open| open.id == id)
+    }
+
+    fn find(&self, id: TxId) -> &Open {
+        let open = self.open_of(id);
+        open.expect("an accepted call has an open transaction")
+    }
+
+    fn find_mut(&mut self, id: TxId) -> &mut Open {
         let open = self.open.iter_mut().find(|open| open.id == id);
         open.expect("an accepted call has an open transaction")
     }
 
     fn write(&mut self, id: TxId, address: usize, bytes: &[u8]) {
         let bytes = bytes.to_vec();
-        self.find(id).writes.push(Write { address, bytes });
+        self.find_mut(id).writes.push(Write { address, bytes });
     }
 
     fn saw(&mut self, id: TxId, address: usize, part: &[u8]) {
         let (bytes, assigned) = (part.to_vec(), self.assigned.clone());
-        let open = self.find(id);
+        let open = self.find_mut(id);
         let writes = open.writes.len();
         open.reads.push(Seen {
             address,
@@ -129,6 +148,52 @@ impl Ledger {
             writes,
             assigned,
         });
+    }
+
+    /// The old bytes of every later write, newest first, go last: those that
+    /// stand there before the write that is taken back.
+    fn go_back(&mut self, id: TxId, name: u8) {
+        let writes = self.writes_of(id);
+        let later = self.writes_at(id, name)..writes.len();
+        let old = later.rev().map(|place| {
+            let range = writes[place].range();
+            Write {
+                address: range.address,
+                bytes: self.memory_before(id, place)[range.places()].to_vec(),
+            }
+        });
+        let old: Vec<Write> = old.collect();
+        self.find_mut(id).writes.extend(old);
+    }
+
+    /// What the starting memory, the durable ones, the queue and an open
+    /// transaction's first so many writes leave.
+    pub fn memory_before(&self, id: TxId, count: usize) -> Vec<u8> {
+        let mut memory = vec![0; MEMORY_LEN];
+        let durable = self.durable.iter().chain(self.queued());
+        let own = &self.find(id).writes[..count];
+        for write in durable.flat_map(|c| &c.writes).chain(own) {
+            write.lay(&mut memory);
+        }
+        memory
+    }
+
+    /// The writes of an open transaction.
+    pub fn writes_of(&self, id: TxId) -> &[Write] {
+        &self.find(id).writes
+    }
+
+    /// How many of them stood when the savepoint was set.
+    pub fn writes_at(&self, id: TxId, name: u8) -> usize {
+        let set = self.find(id).savepoints.get(&name);
+        *set.expect("an accepted return has its savepoint")
+    }
+
+    pub fn queued(&self) -> impl DoubleEndedIterator<Item = &Committed> {
+        self.queue.iter().filter_map(|entry| match entry {
+            Entry::Committed(committed) => Some(committed),
+            Entry::Abort => None,
+        })
     }
 
     /// Takes an open transaction away.
@@ -176,12 +241,11 @@ impl Ledger {
 
     /// The latest committed transaction of that id, durable or queued.
     fn settle(&mut self, id: TxId) {
-        let queued = self.queue.iter().filter_map(|entry| match entry {
-            Entry::Committed(committed) => Some(committed),
-            Entry::Abort => None,
-        });
-        let mut all = self.durable.iter().chain(queued);
-        let latest = all.rfind(|committed| committed.id == id);
+        let latest = self
+            .durable
+            .iter()
+            .chain(self.queued())
+            .rfind(|committed| committed.id == id);
         let serial = latest.expect("an accepted settle has a commit").serial;
         self.settled.push(serial);
     }

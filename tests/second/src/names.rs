@@ -1,9 +1,10 @@
 //! What a call did, in words that can be counted.
 
 use crate::layout::LOG;
-use crate::log::{read_log, read_record, Group, Record, Stop, Write};
+use crate::log::{read_log, read_record, Group, Record, Stop, TxId, Write};
 use crate::needs::{groups_to_restart, stores_needed};
 use crate::restart::{named_image, recover};
+use crate::state::Tx;
 use crate::trace::{Answer, Call, Outcome, World};
 
 /// The answer, and whatever else is worth counting of a call, by the world
@@ -17,6 +18,9 @@ pub fn names(before: &World, call: &Call, outcome: &Outcome) -> Vec<String> {
         Call::Read { .. } if is_uncovered(before, call) => names.push("uncovered".to_string()),
         Call::Restart { .. } if outcome.answer == Answer::Done => {
             names.extend(log_names(&before.disk, outcome.stop));
+        }
+        Call::GoBack { id, name } if outcome.answer == Answer::Done => {
+            names.extend(return_names(before, *id, *name));
         }
         Call::Equal => names.extend(compared_names(before, outcome)),
         Call::FirstGroups { groups } => names.extend(first_groups_names(before, *groups)),
@@ -111,6 +115,29 @@ fn compared_names(world: &World, outcome: &Outcome) -> Vec<String> {
         if let Err(number) = recover(bytes) {
             names.push(format!("of a {which} refused={number:02}"));
         }
+    }
+    names
+}
+
+/// How many writes a return takes back, and whether the image on disk has one.
+fn return_names(before: &World, id: TxId, name: u8) -> Vec<String> {
+    let state = &before.state;
+    let tx = state.find(id).map(|index| &state.txs[index]);
+    let found = tx.and_then(|tx| Some((tx, tx.savepoints.iter().find(|s| s.name == name)?)));
+    let Some((tx, set)) = found else {
+        return Vec::new();
+    };
+    let amount = match tx.undo.len() - set.writes {
+        0 => "over none",
+        8 => "over eight",
+        _ => "over some",
+    };
+    let mut names = vec![amount.to_string()];
+    let tried = |old: &Tx| old.undo.len() > set.writes && tx.undo.starts_with(&old.undo);
+    if named_image(&before.disk)
+        .is_ok_and(|(image, _)| image.txs.iter().any(|old| old.id == id && tried(old)))
+    {
+        names.push("after a checkpoint".to_string());
     }
     names
 }

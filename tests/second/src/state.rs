@@ -1,7 +1,9 @@
 //! The state between calls, log room and number 2.
 
+use std::collections::BTreeSet;
+
 use crate::image;
-use crate::layout::{range_ok, Range, LOG_LEN, MAX_READS, MEMORY_LEN, TAIL_LEN};
+use crate::layout::{range_ok, Range, LOG_LEN, MAX_READS, MAX_SAVEPOINTS, MEMORY_LEN, TAIL_LEN};
 use crate::log::{read_log, Csn, Log, TxId, Write, COMMIT_SIZE};
 
 /// The number of a refusal (document 01, "Numbers in checking order").
@@ -23,6 +25,17 @@ pub struct Tx {
     pub redo: Vec<Write>,
     /// The ranges read (document 02, A.2). Off the disk.
     pub reads: Vec<Range>,
+    /// Off the disk, too.
+    pub savepoints: Vec<Savepoint>,
+}
+
+/// A savepoint (document 02, A.7: mark).
+#[derive(Clone, Copy, Debug, PartialEq, Eq)]
+pub struct Savepoint {
+    /// From 1 to 255.
+    pub name: u8,
+    /// How many writes stood.
+    pub writes: usize,
 }
 
 impl Tx {
@@ -34,6 +47,7 @@ impl Tx {
             undo: Vec::new(),
             redo: Vec::new(),
             reads: Vec::new(),
+            savepoints: Vec::new(),
         }
     }
 
@@ -65,6 +79,28 @@ impl Tx {
         self.reads.len() <= MAX_READS
             && self.reads.iter().all(|r| range_ok(r.address, r.length))
             && (self.is_running() || self.reads.is_empty())
+    }
+
+    /// What number 2 asks of the savepoints.
+    fn savepoints_ok(&self) -> bool {
+        let names = self.savepoints.iter().map(|s| s.name);
+        self.savepoints.len() <= MAX_SAVEPOINTS
+            && names.clone().all(|name| name != 0)
+            && names.collect::<BTreeSet<u8>>().len() == self.savepoints.len()
+            && self.savepoints.iter().all(|s| s.writes <= self.undo.len())
+            && (self.is_running() || self.savepoints.is_empty())
+    }
+
+    /// An undo record with what stands there, the bytes to memory, a redo
+    /// record with them.
+    pub fn write(&mut self, memory: &mut [u8], new: Write) {
+        let (address, old) = (new.address, memory[new.range().places()].to_vec());
+        self.undo.push(Write {
+            address,
+            bytes: old,
+        });
+        new.lay(memory);
+        self.redo.push(new);
     }
 
     /// A running transaction's redo and undo records agree in count and ranges.
@@ -112,7 +148,8 @@ impl State {
             return Err(2);
         }
         let mut running = self.txs.iter().filter(|tx| tx.is_running());
-        if !running.all(Tx::lists_agree) || !self.txs.iter().all(Tx::reads_ok) {
+        let added_ok = |tx: &Tx| tx.reads_ok() && tx.savepoints_ok();
+        if !running.all(Tx::lists_agree) || !self.txs.iter().all(added_ok) {
             return Err(2);
         }
         let groups = read_log(tail, self.csn_on_disk);

@@ -6,7 +6,7 @@ use std::collections::BTreeMap;
 use crate::names::names;
 use crate::trace::{calls, Call, World};
 
-const NAMES: [&str; 17] = [
+const NAMES: [&str; 19] = [
     "unknown",
     "begin",
     "write",
@@ -24,6 +24,8 @@ const NAMES: [&str; 17] = [
     "equal",
     "first groups",
     "one page",
+    "set savepoint",
+    "go back",
 ];
 
 /// Lines `count name`, sorted by name, then what the store grew to.
@@ -63,6 +65,7 @@ struct Most {
     txs: usize,
     undos: usize,
     reads: usize,
+    savepoints: usize,
 }
 
 impl Most {
@@ -80,14 +83,22 @@ impl Most {
         self.undos = self.undos.max(undos.unwrap_or(0));
         let reads = state.txs.iter().map(|tx| tx.reads.len()).max();
         self.reads = self.reads.max(reads.unwrap_or(0));
+        let savepoints = state.txs.iter().map(|tx| tx.savepoints.len()).max();
+        self.savepoints = self.savepoints.max(savepoints.unwrap_or(0));
     }
 
     fn lines(&self) -> String {
-        format!(
-            "{:8} most log end\n{:8} most tail bytes\n{:8} most tail groups\n\
-             {:8} most log room used\n{:8} most transactions\n{:8} most undo records\n\
-             {:8} most read ranges\n",
-            self.log_end, self.tail, self.tail_groups, self.room, self.txs, self.undos, self.reads
-        )
+        let most = [
+            (self.log_end, "log end"),
+            (self.tail, "tail bytes"),
+            (self.tail_groups, "tail groups"),
+            (self.room, "log room used"),
+            (self.txs, "transactions"),
+            (self.undos, "undo records"),
+            (self.reads, "read ranges"),
+            (self.savepoints, "savepoints"),
+        ];
+        let lines = most.map(|(count, what)| format!("{count:8} most {what}\n"));
+        lines.concat()
     }
 }

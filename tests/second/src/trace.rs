@@ -67,6 +67,14 @@ pub enum Call {
     OnePage {
         page: usize,
     },
+    SetSavepoint {
+        id: TxId,
+        name: u8,
+    },
+    GoBack {
+        id: TxId,
+        name: u8,
+    },
     Unknown {
         number: u8,
     },
@@ -79,6 +87,7 @@ impl Call {
         let length = be32(&record[8..]) as usize;
         let groups = be32(&record[12..]) as usize;
         let allowed = be32(&record[16..]) as usize;
+        let name = record[1];
         let count = (record[1] as usize).min(MAX_DATA);
         let bytes = record[DATA..DATA + count].to_vec();
         match record[0] {
@@ -106,6 +115,8 @@ impl Call {
             14 => Call::Equal,
             15 => Call::FirstGroups { groups },
             16 => Call::OnePage { page: address },
+            17 => Call::SetSavepoint { id, name },
+            18 => Call::GoBack { id, name },
             number => Call::Unknown { number },
         }
     }
@@ -128,6 +139,8 @@ impl Call {
             Call::Equal => 14,
             Call::FirstGroups { .. } => 15,
             Call::OnePage { .. } => 16,
+            Call::SetSavepoint { .. } => 17,
+            Call::GoBack { .. } => 18,
             Call::Unknown { number } => *number,
         }
     }
@@ -275,6 +288,11 @@ impl World {
             Call::Precommit { id } => state.precommit(memory, tail, *id).map(|csn| csn.0),
             Call::Abort { id } => state.abort(memory, tail, *id).map(|()| 0),
             Call::Settle { id } => state.settle(memory, tail, *id).map(|()| 0),
+            Call::SetSavepoint { id, name } => {
+                let result = state.set_savepoint(memory, tail, *id, *name);
+                result.map(|()| 0)
+            }
+            Call::GoBack { id, name } => state.go_back(memory, tail, *id, *name).map(|()| 0),
             _ => return None,
         };
         Some(Outcome::of_value(result))
@@ -388,14 +406,19 @@ impl World {
 
 fn state_field(state: &State) -> String {
     format!(
-        "{},{},{},{},{},{},{}",
+        "{},{},{},{},{},{},{},{}",
         state.recovered as u8,
         state.log_end,
         state.csn_on_disk.0,
         state.csn_assigned.0,
         state.last_id.0,
         state.txs.len(),
-        state.txs.iter().map(|tx| tx.reads.len()).sum::<usize>()
+        state.txs.iter().map(|tx| tx.reads.len()).sum::<usize>(),
+        state
+            .txs
+            .iter()
+            .map(|tx| tx.savepoints.len())
+            .sum::<usize>()
     )
 }
 

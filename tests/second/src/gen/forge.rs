@@ -81,17 +81,18 @@ impl Generator {
     /// Everything, in a fixed round; after the first part, each from an
     /// emptied log.
     pub fn mixed(&mut self) {
-        let parts: [(usize, Scene); 15] = [
+        let parts: [(usize, Scene); 16] = [
             (180, Generator::plain),
             (12, Generator::unrecovered),
             (80, Generator::broken_off),
             (700, Generator::forged_disk),
             (80, Generator::counters_at_their_end),
             (80, Generator::damaged_pointer),
-            (240, Generator::near_full),
+            (280, Generator::near_full),
             (200, Generator::limits),
             (120, Generator::readers),
             (50, Generator::pages),
+            (140, Generator::savepoints),
             (150, Generator::cuts),
             (120, Generator::forged),
             (200, Generator::aborts_near_full),
@@ -169,9 +170,13 @@ impl Generator {
     }
 
     fn near_full(&mut self) {
-        const LEFTS: [usize; 10] = [143, 7, 64, 8, 1, 136, 16, 0, 71, 40];
+        const LEFTS: [usize; 12] = [143, 7, 64, 8, 101, 1, 136, 16, 0, 500, 71, 40];
         self.near_full_turn = (self.near_full_turn + 1) % LEFTS.len();
         self.open_near_full(LEFTS[self.near_full_turn]);
+        // Room left for a crowd is left to it.
+        if !matches!(LEFTS[self.near_full_turn], 64..72 | 136..144) {
+            self.return_to_fit();
+        }
         self.crowd();
         self.within(20, Generator::edge_call);
     }
@@ -195,14 +200,16 @@ impl Generator {
     fn forged_disk(&mut self) {
         let mut image = self.forged_image();
         let groups = self.forged_groups(&image);
-        let mut log = self.forged_log(Csn(image.on_disk), &groups);
+        // One fault at a time: behind a broken image no log is read.
+        let fault = self.rng.below(20);
+        let mut log = self.forged_log(Csn(image.on_disk), &groups, fault < 10);
         if self.rng.percent(15) {
             log.extend(self.rng.bytes(6));
         }
         if self.rng.percent(15) {
             self.fit_to_log_end(&mut image, &log);
         }
-        if self.rng.percent(60) {
+        if (10..19).contains(&fault) {
             self.break_image(&mut image);
         }
         let slot = self.rng.pick(&[(IMAGE_A, 1), (IMAGE_B, 2)]);
@@ -372,7 +379,7 @@ impl Generator {
     fn forged_groups(&mut self, image: &RawImage) -> Vec<Group> {
         let mut groups = Vec::new();
         let mut last = Csn(image.on_disk);
-        for _ in 0..self.rng.pick(&[0, 1, 2, 3, 4, 5]) {
+        for _ in 0..self.rng.pick(&[0, 1, 2, 2, 3, 4]) {
             let id = self.forged_id(image);
             for _ in 0..self.rng.pick(&[1, 1, 2]) {
                 let next = last.next().filter(|_| self.rng.percent(55));
@@ -408,9 +415,9 @@ impl Generator {
         (0..count).map(write).collect()
     }
 
-    /// The groups' bytes, with a chance of one broken group among them.
-    fn forged_log(&mut self, previous: Csn, groups: &[Group]) -> Vec<u8> {
-        let broken = if self.rng.percent(60) {
+    /// The groups' bytes, if asked for with one broken group among them.
+    fn forged_log(&mut self, previous: Csn, groups: &[Group], fault: bool) -> Vec<u8> {
+        let broken = if fault {
             self.rng.below(groups.len().max(1))
         } else {
             groups.len()

@@ -19,6 +19,8 @@ pub enum Action {
     Checkpoint,
     Restart,
     PowerFails,
+    SetSavepoint,
+    GoBack,
     Look,
     Unknown,
 }
@@ -54,6 +56,8 @@ pub const PLAIN: Habits = Habits {
         (Action::Checkpoint, 4),
         (Action::Restart, 2),
         (Action::PowerFails, 2),
+        (Action::SetSavepoint, 4),
+        (Action::GoBack, 4),
         (Action::Look, 3),
         (Action::Unknown, 1),
     ],
@@ -78,6 +82,8 @@ pub const CUTS: Habits = Habits {
         (Action::Checkpoint, 14),
         (Action::Restart, 6),
         (Action::PowerFails, 1),
+        (Action::SetSavepoint, 3),
+        (Action::GoBack, 3),
         (Action::Look, 3),
     ],
     cut: 45,
@@ -99,6 +105,8 @@ pub const WILD: Habits = Habits {
         (Action::Flush, 3),
         (Action::Settle, 8),
         (Action::Checkpoint, 1),
+        (Action::SetSavepoint, 5),
+        (Action::GoBack, 5),
         (Action::Look, 2),
         (Action::Unknown, 2),
     ],
@@ -123,6 +131,8 @@ pub const READERS: Habits = Habits {
         (Action::Checkpoint, 2),
         (Action::Restart, 1),
         (Action::PowerFails, 1),
+        (Action::SetSavepoint, 5),
+        (Action::GoBack, 6),
     ],
     cut: 12,
     wild: 2,
@@ -191,8 +201,10 @@ impl Generator {
             Action::Settle if committing => action,
             Action::Settle if running => Action::Precommit,
             Action::Write | Action::Read | Action::CheckRead if running => action,
+            Action::SetSavepoint | Action::GoBack if running => action,
             Action::Precommit | Action::Abort if running => action,
             Action::Write | Action::Read | Action::CheckRead => Action::Begin,
+            Action::SetSavepoint | Action::GoBack => Action::Begin,
             Action::Precommit | Action::Abort | Action::Settle => Action::Begin,
             _ => action,
         }
@@ -259,10 +271,15 @@ impl Generator {
             Action::PowerFails => {
                 self.emit(Call::PowerFails);
             }
+            Action::SetSavepoint => {
+                let id = self.some_id(Some(Status::Running), habits.wild);
+                self.try_a_line(id, habits);
+            }
+            Action::GoBack => self.go_back_somewhere(habits.wild),
             Action::Look => self.look(),
             Action::Unknown => {
-                let high = self.rng.between(17, 255) as u8;
-                let number = self.rng.pick(&[0, 17, 255, high]);
+                let high = self.rng.between(19, 255) as u8;
+                let number = self.rng.pick(&[0, 19, 255, high]);
                 self.emit(Call::Unknown { number });
             }
         }

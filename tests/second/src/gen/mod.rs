@@ -6,6 +6,7 @@ mod live;
 mod look;
 mod pages;
 mod reads;
+mod savepoints;
 mod scenes;
 
 use std::collections::BTreeMap;
@@ -95,6 +96,7 @@ pub fn stream(seed: u64, records: usize, kind: Kind) -> Vec<u8> {
         near_full_turn: 0,
         cut_turns: BTreeMap::new(),
         readers_turn: 0,
+        savepoints_turn: 0,
     };
     generator.open();
     while !generator.is_full() {
@@ -124,13 +126,14 @@ struct Generator {
     out: Vec<[u8; RECORD_LEN]>,
     /// The records that the stream, or the scene in hand, may have.
     limit: usize,
-    /// Faults, room left, allowances and scenes of readers are taken in turn;
-    /// these were the last.
+    /// Faults, room left, allowances and some scenes are taken in turn; these
+    /// were the last.
     image_fault: usize,
     log_fault: usize,
     near_full_turn: usize,
     cut_turns: BTreeMap<u8, usize>,
     readers_turn: usize,
+    savepoints_turn: usize,
 }
 
 impl Generator {
@@ -219,6 +222,9 @@ impl Generator {
             Call::OnePage { page } => put(4, *page),
             _ => {}
         }
+        if let Call::SetSavepoint { name, .. } | Call::GoBack { name, .. } = call {
+            record[1] = *name;
+        }
         if let Some(id) = id_of(call) {
             record[2..4].copy_from_slice(&id.to_be_bytes());
         }
@@ -295,7 +301,7 @@ impl Generator {
         let mut bytes = self.out.concat();
         if self.rng.percent(70) {
             let count = self.rng.between(1, RECORD_LEN - 1);
-            bytes.push(self.rng.between(1, 16) as u8);
+            bytes.push(self.rng.between(1, 18) as u8);
             bytes.extend(self.rng.bytes(count - 1));
         }
         bytes
@@ -309,7 +315,9 @@ fn id_of(call: &Call) -> Option<u16> {
         | Call::CheckRead { id, .. }
         | Call::Precommit { id }
         | Call::Abort { id }
-        | Call::Settle { id } => Some(id.0),
+        | Call::Settle { id }
+        | Call::SetSavepoint { id, .. }
+        | Call::GoBack { id, .. } => Some(id.0),
         _ => None,
     }
 }

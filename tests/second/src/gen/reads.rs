@@ -112,7 +112,7 @@ impl Generator {
     }
 
     /// Commits the transaction or aborts it.
-    fn end(&mut self, id: TxId) {
+    pub fn end(&mut self, id: TxId) {
         let call = self.rng.pick(&[Call::Precommit { id }, Call::Abort { id }]);
         self.emit(call);
     }

@@ -19,7 +19,7 @@ impl Generator {
     }
 
     /// Log room that is left.
-    fn room_left(&self) -> usize {
+    pub fn room_left(&self) -> usize {
         let state = &self.world.state;
         match state.admit(&self.world.memory, &self.world.tail) {
             Ok(tail) => LOG_LEN - state.room_used(tail.end),
@@ -103,6 +103,9 @@ impl Generator {
     pub fn full_log(&mut self) {
         let left = self.rng.pick(&[8, 16, 68, 139, 500, 2_000]);
         self.fill_log(left);
+        if self.rng.percent(40) {
+            self.return_to_fit();
+        }
         self.crowd();
         self.within(60, Generator::edge_call);
     }
@@ -151,6 +154,7 @@ impl Generator {
             9 => {
                 self.checkpoint(20);
             }
+            10 if self.rng.percent(30) => self.return_to_fit(),
             _ => self.live_call(&PLAIN),
         }
     }
@@ -203,6 +207,7 @@ impl Generator {
                 self.write(id, address, bytes);
             }
             self.maybe_reads(id, writes / 2);
+            self.maybe_returns(id, writes / 2);
             // The last one that fits may fill the tail to its last byte.
             let last = self.room_left() == 0 && self.rng.percent(70);
             let listed = self.world.state.txs.len();
@@ -258,6 +263,7 @@ impl Generator {
                 let address = self.rng.below(32);
                 let bytes = self.rng.bytes(4);
                 self.maybe_reads(id, 30);
+                self.maybe_returns(id, 30);
                 self.write(id, address, bytes);
             }
         }
@@ -328,6 +334,7 @@ impl Generator {
         self.try_refused_ids();
         self.within(30, Generator::readers);
         self.within(30, Generator::pages);
+        self.within(30, Generator::savepoints);
         self.within(60, |g| g.live_call(&WILD));
         match self.rng.below(4) {
             0 => {
@@ -388,6 +395,7 @@ impl Generator {
     fn try_each_call(&mut self, id: TxId) {
         let (address, length) = self.rng.pick(&[(0, 1), (0, 40), (4_096, 1)]);
         let bytes = self.rng.bytes(length);
+        let name = self.rng.pick(&[0, 0, 1]);
         for call in [
             Call::Write { id, address, bytes },
             Call::Read {
@@ -400,6 +408,8 @@ impl Generator {
                 address,
                 length,
             },
+            Call::SetSavepoint { id, name },
+            Call::GoBack { id, name },
             Call::Precommit { id },
             Call::Abort { id },
             Call::Settle { id },
@@ -443,13 +453,13 @@ impl Generator {
 }
 
 /// The address, moved back so far that the range lies in one page.
-fn in_one_page(address: usize, length: usize) -> usize {
+pub fn in_one_page(address: usize, length: usize) -> usize {
     address - (address % PAGE_LEN + length).saturating_sub(PAGE_LEN)
 }
 
 /// The lengths of writes whose redo records take `size` bytes together; from
 /// 60 on this can always be.
-fn redo_lengths(size: usize) -> Vec<usize> {
+pub fn redo_lengths(size: usize) -> Vec<usize> {
     let count = size.div_ceil(39);
     let length = |turn: usize| (size + turn) / count - 7;
     (0..count).map(length).collect()

@@ -10,5 +10,6 @@ mod pages;
 mod reads;
 mod restart;
 mod rig;
+mod savepoints;
 mod stops;
 mod streams;

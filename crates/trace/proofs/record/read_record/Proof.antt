@@ -8,7 +8,7 @@ use Rattle.trace.proofs.record.read_record.Tie as tie
 -- places of the code by name
 
 abbrev entryFromBe324 : tie.After-be324 → tie.Start
-entryFromBe324 c = c .before .before .before .before .before .before .before .before
+entryFromBe324 c = c .before .before .before .before .before .before .before .before .before
 
 returns : tie.Need-returns
 unfolding recordOf
@@ -16,6 +16,9 @@ returns c = rw (ne-eqb (length (c .before .before .args .b .now)) 64 (c .if1 .ta
 
 shared-slice-read-t6 : tie.Need-shared-slice-read-t6
 shared-slice-read-t6 c = search needs
+
+shared-slice-read-t8 : tie.Need-shared-slice-read-t8
+shared-slice-read-t8 c = search needs
 
 be16-requires : tie.Need-be16-requires
 be16-requires c κs = search needs
@@ -29,27 +32,27 @@ cast-t2 c = search needs
 be32-requires-2 : tie.Need-be32-requires-2
 be32-requires-2 c κs = search needs
 
-cast-t11 : tie.Need-cast-t11
-cast-t11 c = search needs
+cast-t13 : tie.Need-cast-t13
+cast-t13 c = search needs
 
 be32-requires-3 : tie.Need-be32-requires-3
 be32-requires-3 c κs = search needs
 
-cast-t13 : tie.Need-cast-t13
-cast-t13 c = search needs
+cast-t15 : tie.Need-cast-t15
+cast-t15 c = search needs
 
 be32-requires-4 : tie.Need-be32-requires-4
 be32-requires-4 c κs = search needs
 
-cast-t15 : tie.Need-cast-t15
-cast-t15 c = search needs
+cast-t17 : tie.Need-cast-t17
+cast-t17 c = search needs
 
 returns-2 : tie.Need-returns-2
 unfolding recordOf
 returns-2 c =
     rw (
       eq-eqb (length (entryFromBe324 c .args .b .now)) 64
-          (c .before .before .before .before .before .before .if1 .left),
+          (c .before .before .before .before .before .before .before .if1 .left),
       c .before .before .before .before .be16 .ensures,
       c .before .before .before .be32 .ensures,
       c .before .before .be322 .ensures,
@@ -63,13 +66,14 @@ read-record-spec =
     (tie.spec
     returns
     shared-slice-read-t6
+    shared-slice-read-t8
     be16-requires
     be32-requires
     cast-t2
     be32-requires-2
-    cast-t11
-    be32-requires-3
     cast-t13
-    be32-requires-4
+    be32-requires-3
     cast-t15
+    be32-requires-4
+    cast-t17
     returns-2)

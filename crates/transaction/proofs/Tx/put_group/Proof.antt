@@ -20,7 +20,9 @@ cast-n c = search needs
 lengths : (c : tie.After-struct-known)
     → let r = c .before .before .before .args .self .redo in
     (length (r .ranges .addr) ≡ 16) × (length (r .ranges .len) ≡ 16) × (length (r .bytes) ≡ 512)
-lengths c = (search needs, search needs, search needs)
+lengths c =
+    let g = c .before .before .before .good .0 .1 .1 .1 .1 .1 .1 .0 in
+    (search (needs, g), search (needs, g), search (needs, g))
 
 slice-aggregate-put-group : tie.Need-slice-aggregate-put-group
 slice-aggregate-put-group c = sym (lengths (c .before .before .before .before .before) .0)

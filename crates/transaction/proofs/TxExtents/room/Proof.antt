@@ -9,7 +9,7 @@ returns : tie.Need-returns
 returns c = rw (ne-eqb _ _ (c .if1 .taken))
 
 size-requires : tie.Need-size-requires
-size-requires c κs = c .before .before .before .pre (c .before .if1 .left)
+size-requires c κs = (c .before .before .before .pre (c .before .if1 .left), omega arith)
 
 add-result : tie.Need-add-result
 add-result c =

@@ -8,11 +8,11 @@ use borrow.Author.Tests.{eq-eqb, ne-eqb}
 use Rattle.transaction.specs.declared.Tx.{Tx}
 use Rattle.transaction.specs.Lists.{upFrom}
 use Rattle.transaction.proofs.Lists.{up-done}
+use Rattle.transaction.proofs.First.{first-hit, first-miss}
 use Rattle.store.specs.declared.extents.StateExtents.{StateExtents}
-use Rattle.store.specs.State.{txAt, slotIn, slotOf}
+use Rattle.store.specs.State.{txAt, hasId, slotIn, slotOf}
 use Rattle.store.specs.Extents.{noExtents, bareState}
 use Rattle.store.proofs.Bare.{bare-at}
-use Rattle.store.proofs.Slots.{slot-hit, slot-miss}
 use Rattle.store.proofs.extents.StateExtents.find.Statement.{statement}
 use Rattle.store.proofs.extents.StateExtents.find.Tie as tie
 
@@ -43,7 +43,7 @@ returns c =
     let e = c .before .before .before .before .args .t1 in
     let i = c .before .before .before .loop .i in
     sym (c .before .before .before .loop .inv .1
-    ∙ slot-hit (bareState e) _ _ _ (c .before .before .loop-test .taken) (eq-eqb _ _ (c .if1 .taken ∙ sym (id-at e i))))
+    ∙ first-hit (txAt (bareState e)) (hasId _) _ _ (c .before .before .loop-test .taken) (eq-eqb _ _ (c .if1 .taken ∙ sym (id-at e i))))
 
 add-i : tie.Need-add-i Inv-loop μ-loop
 add-i c = search needs
@@ -57,7 +57,7 @@ loop-again c =
     let i = c .before .before .before .loop .i in (
       omega arith,
       c .before .before .before .loop .inv .1
-          ∙ slot-miss (bareState e) _ _ _ (c .before .before .loop-test .taken) (ne-eqb _ _ (λ q. c .if1 .left (q ∙ id-at e i))),
+          ∙ first-miss (txAt (bareState e)) (hasId _) _ _ (c .before .before .loop-test .taken) (ne-eqb _ _ (λ q. c .if1 .left (q ∙ id-at e i))),
     )
 
 returns-2 : tie.Need-returns-2 Inv-loop μ-loop

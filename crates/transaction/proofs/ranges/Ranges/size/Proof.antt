@@ -1,44 +1,48 @@
-use Prim.Native.Nat.{_+_, _*_, _-_, _≤_}
-use native.Mathlib.Nat.{sub-zero}
+use Prim.Native.Nat.{ℕ, _+_, _*_, _-_, _≤_}
 use native.Mathlib.Omega.{arith}
 use mathlib.Core.Path.{_≡_, ap}
-use lib.ListN.{getD}
+use lib.ListN.{getD, drop}
 use borrow.Author.Needs.{needs}
 use Rattle.transaction.specs.Lists.{upFrom}
 use Rattle.transaction.specs.View.{rangeAt, rangesOf}
 use Rattle.transaction.specs.Rules.{rangeSize, rangesSize}
-use Rattle.transaction.proofs.Lists.{up-done, sum-turn}
+use Rattle.transaction.proofs.Lists.{drop-up, up-done, sum-turn}
 use Rattle.transaction.proofs.RangeLaws.{counted, ranged}
 use Rattle.transaction.proofs.ranges.Ranges.size.Statement.{statement}
 use Rattle.transaction.proofs.ranges.Ranges.size.Tie as tie
 
 abbrev Inv-loop : tie.InvT-loop
-Inv-loop self n sum₀ i₀ sum i =
-    (i ≤ n) × (sum ≤ 39 * i) × (rangesSize (rangesOf self) ≡ sum + rangesSize (upFrom (rangeAt self) (n - i) i))
+Inv-loop from self n sum₀ i₀ sum i =
+    (i ≤ n) × (sum ≤ 39 * i) × (rangesSize (drop from (rangesOf self)) ≡ sum + rangesSize (upFrom (rangeAt self) (n - i) i))
 
 abbrev μ-loop : tie.MeasureT-loop
-μ-loop self n sum₀ i₀ sum i = n - i
+μ-loop from self n sum₀ i₀ sum i = n - i
 
 cast-n : tie.Need-cast-n Inv-loop μ-loop
 cast-n c = search needs
 
 loop-holds : tie.Need-loop-holds Inv-loop μ-loop
-loop-holds c = (omega arith, omega arith, rw (sub-zero (c .args .t1 .count)) (omega arith))
+loop-holds c =
+    let a = c .args in
+    let e = ap rangesSize (drop-up (rangeAt (a .t1)) (a .from) (a .t1 .count) 0) in
+    let z : 0 + a .from ≡ a .from = omega arith in
+    let q = ap (λ (k : ℕ). rangesSize (upFrom (rangeAt (a .t1)) (a .t1 .count - a .from) k)) z in
+    (omega (arith, c .pre .1), omega arith, omega (arith, e, q))
 
 element-copy-out-sum : tie.Need-element-copy-out-sum Inv-loop μ-loop
-element-copy-out-sum c = let h = counted (c .before .before .args .t1) (c .before .before .pre) in omega arith
+element-copy-out-sum c = let h = counted (c .before .before .args .t1) (c .before .before .pre .0) in omega arith
 
 cast-sum : tie.Need-cast-sum Inv-loop μ-loop
 cast-sum c = search needs
 
 short : (c : tie.After-sum Inv-loop μ-loop) → getD (c .before .before .before .args .t1 .len) (c .before .before .loop .i) 0 ≤ 32
-short c = ranged (c .before .before .before .args .t1) (c .before .before .before .pre) (c .before .before .loop .i) (c .before .loop-test .taken) .1
+short c = ranged (c .before .before .before .args .t1) (c .before .before .before .pre .0) (c .before .before .loop .i) (c .before .loop-test .taken) .1
 
 add-sum : tie.Need-add-sum Inv-loop μ-loop
 add-sum c = let h = short c in omega arith
 
 add-sum-2 : tie.Need-add-sum-2 Inv-loop μ-loop
-add-sum-2 c = let h = short c in let g = counted (c .before .before .before .args .t1) (c .before .before .before .pre) in omega arith
+add-sum-2 c = let h = short c in let g = counted (c .before .before .before .args .t1) (c .before .before .before .pre .0) in omega arith
 
 add-i : tie.Need-add-i Inv-loop μ-loop
 add-i c = search needs
