@@ -101,7 +101,7 @@ module _ (o : Opening) (d : Disk) (l : Live) (k : Ledger) (u : Up o d l k) where
     records : Recorded (o .size) (baseMemory o d l) r
     records = recorded o d l k u r listed run
 
-    -- number 9 never keeps a return away: no other running transaction has a record over a byte that r has one over
+    -- number 9 never keeps a return away, so far as it goes by writes: no other running transaction has a record over a byte that r has one over
     pub held-alone : (a : ℕ) → a < o .size → oldest a (r .undo) ≢ none → All (λ t. t .id ≢ r .id → oldest a (t .undo) ≡ none) (running (l .txs))
     held-alone a h s =
         let others : All (Quiet a) (running (f .before) ++ running (f .after)) =

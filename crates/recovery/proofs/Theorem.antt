@@ -135,7 +135,7 @@ module _ (o : Opening) where
       pub return-as-writes : (name : ℕ) → countAt name (r .savepoints) ≡ some n → enterWentBack (r .id) name k ≡ enterWrites (r .id) (reverse (drop n (r .undo))) k
       return-as-writes name set = went-back o d l k (holds run) r listed runs name n set
 
-      -- they are never kept away by number 9: where r has a record over a byte, no other running transaction has one
+      -- number 9 never keeps them away, so far as it goes by what others have written: where r has a record over a byte, no other running transaction has one
       pub return-free : (a : ℕ) → a < o .size → oldest a (r .undo) ≢ none → All (λ t. t .id ≢ r .id → oldest a (t .undo) ≡ none) (running (l .txs))
       return-free = held-alone o d l k (holds run) r listed runs
 

@@ -1,5 +1,5 @@
--- What no call tells apart. Three things in a state may differ from one correct program to another: the slots past the count, the bytes past a
--- record's length, and the redo records of a transaction that isn't running. All else is shown. States that show the same (`ShowsSame`) are answered
+-- What no call tells apart. Three things in a state may differ from one correct program to another: the slots past a count (of transactions, records,
+-- read ranges, savepoints), the bytes past a record's length, and the redo records of a transaction that isn't running. All else is shown. States that show the same (`ShowsSame`) are answered
 -- alike by every call that takes a state, for every input, and show the same afterwards (`AnsweredAlike`): proofs/SameStored, `answered-alike`, of
 -- states whose arrays have their lengths, as every value of the struct has.
 use Prim.Native.Nat.{ℕ, _<_}
