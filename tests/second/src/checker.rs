@@ -11,7 +11,7 @@ use crate::ledger::Ledger;
 use crate::needs::stores_of;
 use crate::order::check_reads;
 use crate::pages::check_pages;
-use crate::returns::{check_return, check_undos};
+use crate::returns::{check_undos, Found};
 use crate::trace::{calls, Answer, Call, Outcome, World};
 
 /// Where the current is taken to fail.
@@ -108,6 +108,7 @@ impl Book {
 struct Checker {
     world: World,
     book: Book,
+    found: Found,
     /// The disk asked last, and how many were durable.
     asked: (Vec<u8>, usize),
     checked: Checked,
@@ -119,6 +120,7 @@ impl Default for Checker {
         Checker {
             world: World::fresh(),
             book: Book::default(),
+            found: Found::default(),
             asked: (Vec::new(), 0),
             checked: Checked::default(),
             faults: Faults::new(),
@@ -131,8 +133,10 @@ impl Checker {
         if failures == Failures::EveryStore {
             self.inside(call);
         }
+        let before = self.world.memory.clone();
         let outcome = self.world.run(call);
         let ordered = self.book.feed(call, &outcome);
+        self.found.note(&before, &self.book.ledger);
         self.ask(Claim::Reads, call, ordered);
         let asked = (&self.asked.0, self.asked.1);
         // The same disk and the same durable ones have the same answers.
@@ -147,7 +151,7 @@ impl Checker {
         self.ask(Claim::Holds, call, check_holds(&self.world));
         let (ledger, durable) = (&self.book.ledger, &self.book.expected.memory);
         let returned = check_undos(&self.world, ledger, durable)
-            .and_then(|()| check_return(&self.world, ledger, call, &outcome));
+            .and_then(|()| self.found.check_return(&self.world, ledger, call, &outcome));
         self.ask(Claim::Returns, call, returned);
         self.checked.records += 1;
     }

@@ -59,7 +59,7 @@ impl Entry {
 /// order, and its savepoints (document 02, A.7).
 #[derive(Clone)]
 pub struct Open {
-    id: TxId,
+    pub id: TxId,
     pub writes: Vec<Write>,
     reads: Vec<Seen>,
     /// Each savepoint's name, and how many writes stood.
@@ -68,7 +68,7 @@ pub struct Open {
 
 #[derive(Clone, Default)]
 pub struct Ledger {
-    open: Vec<Open>,
+    pub open: Vec<Open>,
     queue: Vec<Entry>,
     /// Document 01: kept.
     pub durable: Vec<Committed>,

@@ -1,7 +1,9 @@
 //! What document 02, A.7, claims of a store on demand 3's lists, by the ledger:
 //! what a running transaction has, and what a return leaves.
 
-use crate::layout::Range;
+use std::collections::BTreeMap;
+
+use crate::layout::MEMORY_LEN;
 use crate::ledger::Ledger;
 use crate::log::{TxId, Write};
 use crate::state::Tx;
@@ -54,32 +56,52 @@ fn check_records(undo: &[Write], writes: &[Write], mut memory: Vec<u8>) -> Resul
     Ok(())
 }
 
-/// After a return each byte written since the savepoint reads as just before
-/// the first such write.
-pub fn check_return(
-    world: &World,
-    ledger: &Ledger,
-    call: &Call,
-    outcome: &Outcome,
-) -> Result<(), String> {
-    match call {
-        Call::GoBack { id, name } if outcome.answer == Answer::Done => {
-            check_back(world, ledger, *id, *name)
-        }
-        _ => Ok(()),
-    }
-}
+/// What the store's memory had, for each write of an open transaction in its
+/// range just before the call that made the write.
+#[derive(Clone, Default)]
+pub struct Found(BTreeMap<TxId, Vec<Vec<u8>>>);
 
-fn check_back(world: &World, ledger: &Ledger, id: TxId, name: u8) -> Result<(), String> {
-    let stood = ledger.writes_at(id, name);
-    let memory = ledger.memory_before(id, stood);
-    let mut since = ledger.writes_of(id)[stood..].iter().map(Write::range);
-    let same = |range: &Range| world.memory[range.places()] == memory[range.places()];
-    match since.find(|range| !same(range)) {
-        Some(range) => Err(format!(
-            "what was written at {} is still there",
-            range.address
-        )),
-        None => Ok(()),
+impl Found {
+    /// Told after every call, with the memory before it. The ledger tells which
+    /// writes are new, and which transactions have ended.
+    pub fn note(&mut self, before: &[u8], ledger: &Ledger) {
+        self.0.retain(|id, _| ledger.open_of(*id).is_some());
+        for open in &ledger.open {
+            let found = self.0.entry(open.id).or_default();
+            let new = open.writes[found.len()..].iter();
+            found.extend(new.map(|write| before[write.range().places()].to_vec()));
+        }
+    }
+
+    /// After a return each byte written since the savepoint reads as just
+    /// before the first such write: as before the call that made it, since no
+    /// earlier write of that call was over the byte.
+    pub fn check_return(
+        &self,
+        world: &World,
+        ledger: &Ledger,
+        call: &Call,
+        outcome: &Outcome,
+    ) -> Result<(), String> {
+        match call {
+            Call::GoBack { id, name } if outcome.answer == Answer::Done => {
+                self.check_back(&world.memory, ledger, *id, *name)
+            }
+            _ => Ok(()),
+        }
+    }
+
+    fn check_back(&self, memory: &[u8], ledger: &Ledger, id: TxId, name: u8) -> Result<(), String> {
+        let stood = ledger.writes_at(id, name);
+        let mut seen = [false; MEMORY_LEN];
+        for (write, found) in ledger.writes_of(id).iter().zip(&self.0[&id]).skip(stood) {
+            for (place, byte) in write.range().places().zip(found) {
+                if !seen[place] && memory[place] != *byte {
+                    return Err(format!("at {place} is not what was found there"));
+                }
+                seen[place] = true;
+            }
+        }
+        Ok(())
     }
 }

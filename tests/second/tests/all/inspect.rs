@@ -3,7 +3,7 @@
 use crate::rig::{Rig, ENOUGH};
 use second::gen::{stream, Kind};
 use second::inspect::{first_groups, one_page, Reached};
-use second::layout::{DISK_LEN, IMAGE_A, LOG, LOG_LEN, MEMORY_LEN, PAGES, PAGE_LEN, POINTER};
+use second::layout::{DISK_LEN, IMAGE_A, LOG, LOG_LEN, MEMORY_LEN, PAGE_LEN, POINTER};
 use second::log::{read_log, Csn, Group, TxId, Write};
 use second::pages::check_pages;
 use second::restart::{named_image, recover};

@@ -4,7 +4,7 @@ use crate::rig::{number, Rig, ENOUGH};
 use second::layout::Range;
 use second::ledger::Ledger;
 use second::log::{TxId, Write};
-use second::returns::{check_return, check_undos};
+use second::returns::{check_undos, Found};
 use second::state::{Savepoint, Tx};
 use second::trace::{Answer, Call, Outcome, World};
 
@@ -297,9 +297,10 @@ fn the_ledgers_return() {
     assert_eq!(ledger.memory_before(id, 5)[10..13], [4, 5, 4]);
 }
 
-/// Id 1 gone back over one write, with the ledger that was told of it.
-fn gone_back() -> (Rig, Ledger) {
-    let (mut rig, mut ledger) = (Rig::fresh(), Ledger::default());
+/// Id 1 gone back over one write, with the ledger that was told of it and what
+/// each write found.
+fn gone_back() -> (Rig, Ledger, Found) {
+    let (mut rig, mut ledger, mut found) = (Rig::fresh(), Ledger::default(), Found::default());
     let (id, name, address) = (TxId(1), 1, 10);
     let write = |byte: u8| Call::Write {
         id,
@@ -310,24 +311,26 @@ fn gone_back() -> (Rig, Ledger) {
     let back = Call::GoBack { id, name };
     let restart = Call::Restart { allowed: ENOUGH };
     for call in [restart, Call::Begin, write(3), set, write(5), back] {
+        let before = rig.world.memory.clone();
         let outcome = rig.run(call.clone());
         assert_eq!(outcome.answer, Answer::Done);
         ledger.feed(&call, &outcome);
+        found.note(&before, &ledger);
     }
-    (rig, ledger)
+    (rig, ledger, found)
 }
 
 /// What the checker asks of a return, and a store gone wrong in each way.
 #[test]
 fn a_return_is_held_against_the_ledger() {
-    let (rig, ledger) = gone_back();
+    let (rig, ledger, found) = gone_back();
     let (id, name) = (TxId(1), 1);
     let done = Outcome::told(Answer::Done, 0);
     let asked = |change: &dyn Fn(&mut World)| {
         let mut world = rig.world.clone();
         change(&mut world);
         let undos = check_undos(&world, &ledger, &[0; 4_096]);
-        let returned = check_return(&world, &ledger, &Call::GoBack { id, name }, &done);
+        let returned = found.check_return(&world, &ledger, &Call::GoBack { id, name }, &done);
         (undos.is_ok(), returned.is_ok())
     };
     assert_eq!(asked(&|_| {}), (true, true));
@@ -340,7 +343,39 @@ fn a_return_is_held_against_the_ledger() {
         &|tx| tx.id = TxId(2),
     ];
     for change in wrong {
-        let found = asked(&|world| change(&mut world.state.txs[0]));
-        assert_eq!(found, (false, true));
+        let told = asked(&|world| change(&mut world.state.txs[0]));
+        assert_eq!(told, (false, true));
     }
+}
+
+/// What stands there before the first write counts, whoever put it there: the
+/// undo records are held against the ledger, the return against memory.
+#[test]
+fn a_return_is_held_against_what_was_found() {
+    let (mut rig, mut ledger, mut found) = (running(), Ledger::default(), Found::default());
+    let (id, name) = (TxId(1), 1);
+    ledger.feed(&Call::Begin, &Outcome::told(Answer::Done, 1));
+    rig.world.memory[10] = 9;
+    let write = Call::Write {
+        id,
+        address: 10,
+        bytes: vec![5],
+    };
+    let back = Call::GoBack { id, name };
+    let mut last = Outcome::told(Answer::Done, 0);
+    for call in [&Call::SetSavepoint { id, name }, &write, &write, &back] {
+        let before = rig.world.memory.clone();
+        last = rig.run(call.clone());
+        ledger.feed(call, &last);
+        found.note(&before, &ledger);
+    }
+    assert_eq!(rig.world.memory[10], 9);
+    assert!(found
+        .check_return(&rig.world, &ledger, &back, &last)
+        .is_ok());
+    assert!(check_undos(&rig.world, &ledger, &[0; 4_096]).is_err());
+    rig.world.memory[10] = 0;
+    assert!(found
+        .check_return(&rig.world, &ledger, &back, &last)
+        .is_err());
 }
