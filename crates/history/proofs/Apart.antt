@@ -2,14 +2,13 @@
 use Prim.Native.Nat.{ℕ}
 use mathlib.Core.Bool.{Bool, true, false, cond}
 use mathlib.Core.List.{List, [], _∷_}
-use mathlib.Core.Path.{_≡_, refl}
+use mathlib.Core.Path.{refl}
 use lib.ListN.{length-replicate}
 use lib.Dec.{eqb}
 use Rattle.log.specs.declared.TxId.{TxId}
 use Rattle.log.specs.declared.Csn.{Csn}
 use Rattle.transaction.specs.declared.Tx.{Tx}
 use Rattle.transaction.specs.Flat.{emptyTx}
-use Rattle.store.specs.State.{unrecovered}
 use Rattle.store.specs.Stored.{carriedOut}
 use Rattle.store.proofs.Apart.{Holding, none-holds, unrecovered-holds, carried-holds, begin-holds, write-holds, answer-holds, savepoint-holds, go-back-holds, precommit-holds, abort-holds}
 use Rattle.store.proofs.Apart.{settle-holds, flush-holds, checkpoint-holds}

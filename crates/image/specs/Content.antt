@@ -2,7 +2,6 @@
 use Prim.Native.Nat.{ℕ}
 use mathlib.Core.Bool.{Bool}
 use mathlib.Core.List.{List, [], map}
-use lib.ListN.{length}
 use lib.Dec.{eqb}
 use Rattle.layout.specs.{statusCommitting}
 use Rattle.recovery.specs.Group.{Write}

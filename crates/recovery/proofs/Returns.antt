@@ -3,12 +3,12 @@ use mathlib.Core.Path.{_≡_, refl, sym, ap, _∙_, subst}
 use mathlib.Core.Logic.{_≢_}
 use mathlib.Core.Bool.{Bool, true, false, cond}
 use mathlib.Core.Option.{Option, none, some}
-use mathlib.Core.List.{List, [], _∷_, _++_, append-assoc, append-nil, reverse, reverse-cons, reverse-append}
+use mathlib.Core.List.{List, [], _∷_, _++_, append-assoc, append-nil, reverse, reverse-cons}
 use Prim.Native.Nat.{ℕ, suc, _≤_, _<_}
 use native.Mathlib.Omega.{arith}
 use lib.Dec.{eqb}
 use lib.ListN.{length, length-take, getD, take, drop, take-append-drop}
-use lib.Seq.{ext-getD, length-sets, length-take-le, take-suc, drop-append-le, drop-length}
+use lib.Seq.{ext-getD, length-sets}
 use Rattle.recovery.specs.Group.{Write}
 use Rattle.recovery.specs.Lists.{All, nil, cons}
 use Rattle.recovery.specs.Transaction.{Tx, edit}
@@ -89,19 +89,6 @@ writes-live (w ∷ ws) r l =
     writes-live ws (withWrite (oldBytes w (l .memory)) w r) (afterWrite r w l)
     ∙ ap (λ (ts : List Tx). record { txs = ts; memory = redoAll layBytes ws m; tail = l .tail; csn = l .csn; lastId = l .lastId })
     (edit-more (r .id) (oldBytes w (l .memory)) w (oldsOf m ws) ws (l .txs))
-
--- The writes of a return one by one, the newest first, for a loop down to the savepoint: with m records still to look at, of which n stay, the next is
--- the last of them.
-pub back-next : (n m : ℕ) (us : List Write) (d : Write) → n ≤ m → m < length us → reverse (drop n (take (suc m) us)) ≡ getD us m d ∷ reverse (drop n (take m us))
-back-next n m us d le h =
-    let long : length (take m us) ≡ m = length-take-le m us (omega arith) in
-    ap reverse (ap (drop n) (take-suc us m d h) ∙ drop-append-le n (take m us) (getD us m d ∷ []) (omega arith))
-    ∙ reverse-append (drop n (take m us)) (getD us m d ∷ [])
-
-pub back-done : (n : ℕ) (us : List Write) → n ≤ length us → reverse (drop n (take n us)) ≡ []
-back-done n us h =
-    let long : length (take n us) ≡ n = length-take-le n us h in
-    ap reverse (ap (λ (k : ℕ). drop k (take n us)) (sym long) ∙ drop-length (take n us))
 
 -- ---- what the commits and the writes up to the savepoint leave is what a return leaves
 

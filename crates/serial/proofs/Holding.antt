@@ -10,7 +10,6 @@ use lib.ListN.{length, take, drop, length-drop}
 use lib.Seq.{length-take-le}
 use lib.Dec.{eqb, leb, ltb}
 use borrow.Author.Tests.{eqb-true, leb-true, leb-false, ltb-true, ltb-false}
-use Rattle.recovery.specs.Group.{Write}
 use Rattle.recovery.specs.Lists.{All, nil, cons, any}
 use Rattle.recovery.specs.Ledger.{OpenTx, ofId, addWrites, noteSavepoint, addReturn}
 use Rattle.recovery.proofs.Bool.{opposed}

@@ -15,7 +15,7 @@ use Rattle.recovery.proofs.Lists.{all-map, all-zip, all-append, all-mapped, all
 use Rattle.recovery.proofs.Byte.{newest-append}
 use Rattle.recovery.proofs.Returns.{taken-leaves}
 use Rattle.serial.specs.Ledger.{Read, OpenWithReads, CommitWithReads, LedgerWithReads, committedOf, openTxOf, othersOf, entryFor}
-use Rattle.serial.specs.Ledger.{withoutReads, lifted, notingWrite, withActive, noteBegun, noteWrote, noteSavepointSet, noteWentBack, notePrecommitted, noteRolledBack, noteFlushed, noteSettled, noteRestarted, noteCut}
+use Rattle.serial.specs.Ledger.{withoutReads, lifted, withActive, noteBegun, noteWrote, noteSavepointSet, noteWentBack, notePrecommitted, noteRolledBack, noteFlushed, noteSettled, noteRestarted, noteCut}
 use Rattle.serial.proofs.Ordered.{Leaves, Sees, sees-writes, sees-commit, InOrder, order-left, order-more}
 use Rattle.serial.proofs.Run.{Misses}
 use Rattle.serial.proofs.Assigned.{assignedIn, assigned-precommitted, assigned-rolledBack, assigned-flushed, assigned-restarted}

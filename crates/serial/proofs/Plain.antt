@@ -5,15 +5,14 @@ use mathlib.Core.Bool.{Bool, true, false, not, cond}
 use mathlib.Core.List.{List, [], _∷_, _++_, map, map-append}
 use lib.ListN.{length, take, drop, replicate}
 use lib.Dec.{eqb, leb}
-use Rattle.recovery.specs.Group.{Write}
 use Rattle.recovery.specs.Ledger as ledger
-use Rattle.recovery.specs.Ledger.{OpenTx, Commit, Entry, Ledger, noLedger, entrySize, fittingEntries, committedIn, openWrites, others, committedMemory, ofId}
+use Rattle.recovery.specs.Ledger.{OpenTx, Commit, Entry, entrySize, fittingEntries, committedIn, openWrites, others, committedMemory, ofId}
 use Rattle.recovery.specs.Ledger.{addWrite, noteSavepoint, addReturn, enter}
 use Rattle.recovery.specs.Ledger.{Event, unchanged, begun, wrote, savepointSet, wentBack, precommitted, rolledBack, flushed, settled, restarted, cut, emptied}
 use Rattle.recovery.proofs.Lists.{take-map}
-use Rattle.serial.specs.Ledger.{OpenWithReads, CommitWithReads, EntryWithReads, commit, abort, LedgerWithReads, noReads, opensIn, commitsIn, plainEntry}
-use Rattle.serial.specs.Ledger.{entriesIn, withoutReads, committedOf, openTxOf, othersOf, lifted, readBy, addRead, notingRead, noteBegun, noteWrote, noteRead, notePrecommitted}
-use Rattle.serial.specs.Ledger.{noteRolledBack, leaving, noteFlushed, noteRestarted, note, Fed, event, saw, toldOf, feed}
+use Rattle.serial.specs.Ledger.{OpenWithReads, EntryWithReads, commit, abort, LedgerWithReads, opensIn, commitsIn, plainEntry}
+use Rattle.serial.specs.Ledger.{entriesIn, withoutReads, committedOf, openTxOf, othersOf, lifted, readBy, addRead, notingRead, notePrecommitted}
+use Rattle.serial.specs.Ledger.{noteRolledBack, noteFlushed, note, Fed, event, saw, toldOf, feed}
 
 -- ---- open transactions by id
 

@@ -9,7 +9,7 @@ use lib.ListN.{length, take, drop}
 use Rattle.recovery.specs.Group.{Write}
 use Rattle.recovery.specs.Lists.{All}
 use Rattle.recovery.specs.Transaction.{Tx, heldByOther}
-use Rattle.recovery.specs.Ledger.{Event, unchanged, begun, wrote, savepointSet, wentBack, precommitted, rolledBack, flushed, settled, restarted, cut, Ledger, enter}
+use Rattle.recovery.specs.Ledger.{Event, unchanged, begun, wrote, savepointSet, wentBack, precommitted, rolledBack, flushed, settled, restarted, cut}
 use Rattle.recovery.specs.Machine as machine
 use Rattle.recovery.specs.Machine.{Opening, Disk, Live, System, down, up, openingDisk, Listed, Step, stays}
 use Rattle.recovery.proofs.Byte.{seen}

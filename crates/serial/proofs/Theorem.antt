@@ -2,7 +2,7 @@
 use mathlib.Core.Path.{refl}
 use mathlib.Core.List.{[], append-nil}
 use lib.ListN.{length}
-use Rattle.recovery.specs.Lists.{All, nil, cons}
+use Rattle.recovery.specs.Lists.{All, nil}
 use Rattle.recovery.specs.Ledger.{Event}
 use Rattle.recovery.specs.Machine.{Opening, System, down, up, diskOf, undoneBy, Step, stays, begins, writes, setsSavepoint, goesBack, precommits, rollsBack, flushes, flushIsCut, settles, checkpoints}
 use Rattle.recovery.specs.Machine.{checkpointIsCut, restarts, restartIsCut}

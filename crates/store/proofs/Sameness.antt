@@ -11,7 +11,7 @@ use borrow.Author.Tests.{eqb-true}
 use Rattle.recovery.specs.Lists.{any}
 use Rattle.transaction.specs.declared.Tx.{Tx}
 use Rattle.transaction.specs.Lists.{upFrom, every, sumOf}
-use Rattle.transaction.specs.View.{Range, rangesOf, usedBy, Outline, outline, outlineOf}
+use Rattle.transaction.specs.View.{Range, rangesOf, usedBy, outline, outlineOf}
 use Rattle.transaction.specs.Rules.{stateOk, meets, heldFrom, heldAgainst, rangesSize, roomOf}
 use Rattle.transaction.proofs.Lists.{up-same, any-same, every-same, sum-same}
 use Rattle.transaction.proofs.StateRule.{state-same}

@@ -3,7 +3,7 @@ use Prim.Native.Nat.{ℕ, zero, suc, _+_, _-_, _≤_, _<_}
 use native.Mathlib.Nat.{zero-add}
 use native.Mathlib.Numerals.{add-one}
 use native.Mathlib.Omega.{arith}
-use mathlib.Core.Bool.{Bool, true, false, cond}
+use mathlib.Core.Bool.{true, false}
 use mathlib.Core.List.{List, [], _∷_, _++_}
 use mathlib.Core.Option.{some}
 use mathlib.Core.Path.{_≡_, refl, sym, ap, ap₂, _∙_}
@@ -28,7 +28,7 @@ use Rattle.transaction.specs.Lists.{upFrom}
 use Rattle.transaction.specs.Flat.{emptyRecords}
 use Rattle.transaction.specs.View.{rangesOf, savepointsOf, writesOf, viewOf}
 use Rattle.transaction.specs.Rules.{recordsOk, rangesSize, stoodAt, laterRanges}
-use Rattle.transaction.specs.Steps.{freshTx, written, withRead, savepointed, returnWrites, goneBack, precommitted}
+use Rattle.transaction.specs.Steps.{freshTx, withRead, returnWrites, goneBack, precommitted}
 use Rattle.transaction.proofs.Lists.{up-snoc, up-same}
 use Rattle.transaction.proofs.RangeLaws.{counted, ranged}
 use Rattle.transaction.proofs.Writes.{bytes-length, sized}
@@ -37,7 +37,7 @@ use Rattle.transaction.proofs.SavepointLaws.{place-fits, set-count}
 use Rattle.transaction.proofs.Returning.{Writable, written-view, savepoint-view, all-view, return-writable, later-size}
 use Rattle.image.proofs.Rules.{ruled-at}
 use Rattle.store.specs.declared.State.{State}
-use Rattle.store.specs.Answer.{done, Told, tells}
+use Rattle.store.specs.Answer.{Told}
 use Rattle.store.specs.State.{txAt, slotOf, imageOf}
 use Rattle.store.specs.Rules.{tailLength, allZero}
 use Rattle.store.specs.Numbers.{txOf}
@@ -51,7 +51,7 @@ use Rattle.store.proofs.Passing.{RunningPassed, GoBackPassed, same-coun
 use Rattle.store.proofs.Calling.{begin-done, write-done, answer-done, savepoint-done, go-back-done, precommit-done, abort-done, settle-done}
 use Rattle.store.proofs.Positions.{Changed, Dropped, First, found, edited, removed}
 use Rattle.store.proofs.Appending.{appended-log}
-use Rattle.store.proofs.Stepping.{SizedTx, SizedState, same-or-other, begun-slot, written-slot, read-slot, savepoint-slot, back-slot, precommitted-slot, dropped-slot}
+use Rattle.store.proofs.Stepping.{SizedState, same-or-other, begun-slot, written-slot, read-slot, savepoint-slot, back-slot, precommitted-slot, dropped-slot}
 
 -- ---- one transaction
 

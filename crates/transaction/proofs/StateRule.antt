@@ -10,7 +10,7 @@ use lib.Dec.{eqb, leb}
 use borrow.Author.Tests.{eq-eqb, eqb-true}
 use Rattle.log.specs.declared.TxId.{TxId}
 use Rattle.log.specs.declared.Csn.{Csn}
-use Rattle.recovery.specs.Savepoint.{Savepoint, setName}
+use Rattle.recovery.specs.Savepoint.{Savepoint}
 use Rattle.log.specs.Record.{inRange}
 use Rattle.log.proofs.Basics.{and-left, and-right, and-both}
 use Rattle.transaction.specs.declared.Tx.{Tx}
@@ -18,7 +18,7 @@ use Rattle.transaction.specs.Flat.{emptyRecords}
 use Rattle.transaction.specs.Lists.{every}
 use Rattle.transaction.specs.View.{Range, range, rangeAt, rangesOf, readsOf, savepointsOf}
 use Rattle.transaction.specs.Rules.{rangeOk, recordsOk, sameRanges, savepointsOk, nameRefused, redoOk, extrasOk, stateOk}
-use Rattle.transaction.specs.Steps.{pushedRange, freshTx, written, withRead, nameSet, savepointed, precommitted}
+use Rattle.transaction.specs.Steps.{pushedRange, freshTx, written, withRead, savepointed, precommitted}
 use Rattle.transaction.proofs.Lists.{length-up}
 use Rattle.transaction.proofs.RangeLaws.{counted, equal-ranges}
 use Rattle.transaction.proofs.Pushed.{Sized, SizedRanges, pushed-count, ranges-pushed, pushed-ranges, one-more, ranges-self}

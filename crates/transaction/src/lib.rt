@@ -27,7 +27,7 @@ ghost use Rattle.recovery.specs.Replay.{redoAll, layBytes};
 ghost use Rattle.log.specs.Group.{encodeGroup};
 ghost use Rattle.transaction.specs.Flat.{emptyExtras, emptyTx};
 ghost use Rattle.transaction.specs.View.{rangesOf, savepointsOf, usedBy, writesOf, outline, outlineOf, extentsOf, bareTx};
-ghost use Rattle.transaction.specs.Rules.{recordsOk, headOk, outlineOk, alike, savepointsOk, stateOk, heldAgainst, covered, reach, rangesSize, roomOf, isSet, placeOf, nameRefused, stoodAt, laterRanges};
+ghost use Rattle.transaction.specs.Rules.{recordsOk, headOk, outlineOk, alike, savepointsOk, stateOk, heldAgainst, covered, reach, rangesSize, roomOf, isSet, placeOf, nameRefused, laterRanges};
 ghost use Rattle.transaction.specs.Steps.{freshTx, written, withRead, savepointed, returnWrites, goneBack, precommitted};
 
 // What a running transaction keeps besides its records: off the image, emptied by precommit, its rule a conjunct of `stateOk`. The ranges that it

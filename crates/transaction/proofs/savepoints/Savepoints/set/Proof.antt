@@ -1,5 +1,5 @@
 use native.Mathlib.Omega.{arith}
-use mathlib.Core.Path.{_≡_, sym, _∙_}
+use mathlib.Core.Path.{_≡_}
 use borrow.Author.Needs.{needs}
 use Rattle.transaction.specs.Rules.{placeOf}
 use Rattle.transaction.proofs.SavepointLaws.{place-found, moved-set, added-set}
