@@ -2,6 +2,7 @@
 use Prim.Native.Nat.{ℕ, zero, suc, _+_, _≤_, _<_}
 use native.Mathlib.Decide.{decLt}
 use native.Mathlib.Omega.{arith}
+use mathlib.Core.Bool.{true}
 use mathlib.Core.List.{List, [], _∷_}
 use mathlib.Core.Path.{_≡_, refl, sym, ap, _∙_, subst}
 use lib.ListN.{length, getD, set, replicate, List·getD-map}
@@ -10,14 +11,17 @@ use Rattle.transaction.specs.declared.Tx.{Tx}
 use Rattle.transaction.specs.declared.TxExtents.{TxExtents}
 use Rattle.transaction.specs.Flat.{noTx}
 use Rattle.transaction.specs.View.{extentsOf, bareTx}
+use Rattle.transaction.specs.Rules.{stateOk}
+use Rattle.transaction.proofs.Lists.{every-at}
 use Rattle.store.specs.declared.State.{State}
 use Rattle.store.specs.declared.extents.StateExtents.{StateExtents}
 use Rattle.store.specs.declared.admit.Admission.{Admission}
 use Rattle.store.specs.declared.choose.Choice.{Choice}
 use Rattle.store.specs.State.{txAt}
 use Rattle.store.specs.Extents.{noExtents, withExtents, Taken, HasExtents, bareState}
-use Rattle.store.specs.Numbers.{Check, firstNumber}
+use Rattle.store.specs.Numbers.{Check, firstNumber, txOf}
 use Rattle.store.specs.Admission.{admission, diskAdmission, choice, Seen}
+use Rattle.store.proofs.Choosing.{Slotted}
 use Rattle.store.proofs.Sameness.{AlikeTx, Alike, rules-alike, states-alike, admission-alike, disk-alike, choice-alike}
 
 -- ---- the slots taken so far
@@ -111,3 +115,14 @@ module _ (s : State) (e : StateExtents) (h : HasExtents s e) where
   pub chosen-by : (x : Admission) (id : ℕ) (cs ds : List Check) → firstNumber cs ≡ firstNumber ds
       → (r : Choice) → r ≡ choice (bareState e) x id cs → r ≡ choice s x id ds
   chosen-by x id cs ds f r q = q ∙ choice-alike (bareState e) s judged x id cs ds f
+
+-- ---- the transaction in the slot that was chosen
+
+module _ (e : StateExtents) {x : Admission} {id : ℕ} {r : Choice} {cs : List Check} (w : Slotted (bareState e) x id r cs) where
+  pub slot-is : bareTx (getD (e .txs) (r .slot) noExtents) ≡ txOf (bareState e) id
+  slot-is = sym (bare-at e (r .slot)) ∙ ap (txAt (bareState e)) (w .slot)
+
+  pub slot-ok : stateOk (bareTx (getD (e .txs) (r .slot) noExtents)) ≡ true
+  slot-ok =
+      subst (λ (t : Tx). stateOk t ≡ true) (bare-at e (r .slot))
+      (every-at (txAt (bareState e)) stateOk (e .count) 0 (w .states) (r .slot) (omega arith) (omega (arith, w .listed)))

@@ -1,5 +1,4 @@
 use borrow.Author.Needs.{needs}
-use Prim.Native.Nat.{ℕ}
 use native.Mathlib.Omega.{arith}
 use mathlib.Core.List.{[], _∷_}
 use mathlib.Core.Path.{_≡_, refl, sym, ap, _∙_}
@@ -7,10 +6,9 @@ use lib.ListN.{getD}
 use borrow.Author.Tests.{eq-eqb, ne-eqb}
 use Rattle.transaction.specs.declared.Tx.{Tx}
 use Rattle.transaction.specs.Rules.{reading}
-use Rattle.store.specs.State.{txAt}
 use Rattle.store.specs.Extents.{noExtents, bareState}
 use Rattle.store.specs.Numbers.{txOf, readChecks, check7, check8, check9, check15}
-use Rattle.store.proofs.Bare.{bare-at}
+use Rattle.store.proofs.Bare.{slot-is}
 use Rattle.store.proofs.Choosing.{choice-stops, Slotted, slotted}
 use Rattle.store.proofs.extents.StateExtents.choose_answer.Statement.{statement}
 use Rattle.store.proofs.extents.StateExtents.choose_answer.Tie as tie
@@ -34,9 +32,7 @@ found c = slotted _ _ _ _ _ (c .before .before .before .pre) refl (c .before .be
 -- its read ranges are those in the slot chosen
 ranges : (c : tie.Else1) → let a = c .before .before .before .args in
     getD (a .t1 .txs) (c .before .before .choose-read .result .slot) noExtents .extras .reads .count ≡ txOf (bareState (a .t1)) (a .id .0) .extras .reads .count
-ranges c =
-    let e = c .before .before .before .args .t1 in
-    sym (ap (λ (t : Tx). t .extras .reads .count) (bare-at e _)) ∙ ap (λ (k : ℕ). txAt (bareState e) k .extras .reads .count) (found c .slot)
+ranges c = ap (λ (t : Tx). t .extras .reads .count) (slot-is (c .before .before .before .args .t1) (found c))
 
 mul-if2 : tie.Need-mul-if2
 mul-if2 c = let w = found c in omega (arith, w .listed, w .few)

@@ -10,8 +10,8 @@ use borrow.Author.Tests.{eqb-false, lt-ltb, le-ltb, not-true, not-false}
 use Rattle.transaction.specs.declared.Tx.{Tx}
 use Rattle.transaction.specs.declared.TxExtents.{TxExtents}
 use Rattle.transaction.specs.View.{Range, rangeAt, rangesOf, savepointsOf, bareTx}
-use Rattle.transaction.specs.Rules.{recordsOk, stateOk, savepointsOk, rangesSize, isSet, stoodAt, laterRanges}
-use Rattle.transaction.proofs.Lists.{length-up, every-at}
+use Rattle.transaction.specs.Rules.{recordsOk, savepointsOk, rangesSize, isSet, stoodAt, laterRanges}
+use Rattle.transaction.proofs.Lists.{length-up}
 use Rattle.transaction.proofs.Heads.{running-status}
 use Rattle.transaction.proofs.RangeLaws.{counted, size-bound}
 use Rattle.transaction.proofs.StateRule.{few-savepoints, running-savepoints}
@@ -19,7 +19,7 @@ use Rattle.image.proofs.Rules.{ruled-at, undo-at}
 use Rattle.store.specs.State.{txAt, imageOf}
 use Rattle.store.specs.Extents.{noExtents, bareState}
 use Rattle.store.specs.Numbers.{Check, txOf, abortChecks, check7, check18, returnCheck10, returnCheck13}
-use Rattle.store.proofs.Bare.{bare-at}
+use Rattle.store.proofs.Bare.{bare-at, slot-is, slot-ok}
 use Rattle.store.proofs.Checks.{passed}
 use Rattle.store.proofs.Choosing.{choice-stops, Slotted, slotted}
 use Rattle.store.proofs.extents.StateExtents.choose_go_back.Statement.{statement}
@@ -32,18 +32,6 @@ choose-running-requires c κs = c .pre
 found : (c : tie.Else1) → let a = c .before .before .before .args in
     Slotted (bareState (a .t1)) (a .admitted) (a .id .0) (c .before .before .choose-running .result) (check7 (bareState (a .t1)) (a .id .0) ∷ [])
 found c = slotted _ _ _ _ _ (c .before .before .before .pre) refl (c .before .before .choose-running .ensures) (c .if1 .left)
-
--- the transaction in the slot chosen
-is : (c : tie.Else1) → let a = c .before .before .before .args in
-    bareTx (getD (a .t1 .txs) (c .before .before .choose-running .result .slot) noExtents) ≡ txOf (bareState (a .t1)) (a .id .0)
-is c = let e = c .before .before .before .args .t1 in sym (bare-at e _) ∙ ap (txAt (bareState e)) (found c .slot)
-
-right : (c : tie.Else1) → stateOk (bareTx (getD (c .before .before .before .args .t1 .txs) (c .before .before .choose-running .result .slot) noExtents)) ≡ true
-right c =
-    let e = c .before .before .before .args .t1 in
-    let s = bareState e in
-    let k = c .before .before .choose-running .result .slot in
-    subst (λ (t : Tx). stateOk t ≡ true) (bare-at e k) (every-at (txAt s) stateOk (s .count) 0 (found c .states) k (omega arith) (omega (arith, found c .listed)))
 
 mul-t : tie.Need-mul-t
 mul-t c = let w = found c in omega (arith, w .listed, w .few)
@@ -81,7 +69,7 @@ runs c =
     ap (λ (t : Tx). t .status) (sym (bare-at (a .t1) k)) ∙ one
 
 saved : (c : tie.Else1) → savepointsOk (tx c .undo .count) (savepointsOf (bareTx (tx c))) ≡ true
-saved c = running-savepoints (bareTx (tx c)) (right c) (runs c)
+saved c = running-savepoints (bareTx (tx c)) (slot-ok (c .before .before .before .args .t1) (found c)) (runs c)
 
 records : (c : tie.Else1) → recordsOk (rangesOf (tx c .undo)) ≡ true
 records c =
@@ -90,7 +78,7 @@ records c =
     subst (λ (t : Tx). recordsOk (rangesOf (t .undo .ranges)) ≡ true) (bare-at e k) (undo-at (imageOf (bareState e)) (found c .rules) k (found c .listed))
 
 has-savepoint-requires : tie.Need-has-savepoint-requires
-has-savepoint-requires c κs = few-savepoints _ (right (c .before))
+has-savepoint-requires c κs = few-savepoints _ (slot-ok (c .before .before .before .before .args .t1) (found (c .before)))
 
 refuse-requires : tie.Need-refuse-requires
 refuse-requires c κs = search needs
@@ -100,7 +88,7 @@ asked : (c : tie.After-has-savepoint) → let a = c .before .before .before .bef
     isSet (a .name) (savepointsOf (txOf (bareState (a .t1)) (a .id .0))) ≡ c .has-savepoint .result
 asked c =
     let a = c .before .before .before .before .before .args in
-    ap (λ (t : Tx). isSet (a .name) (savepointsOf t)) (sym (is (c .before .before))) ∙ sym (c .has-savepoint .ensures)
+    ap (λ (t : Tx). isSet (a .name) (savepointsOf t)) (sym (slot-is (c .before .before .before .before .before .args .t1) (found (c .before .before)))) ∙ sym (c .has-savepoint .ensures)
 
 returns-2 : tie.Need-returns-2
 returns-2 c =
@@ -148,12 +136,12 @@ own c = txOf (bareState (entry c .args .t1)) (entry c .args .id .0)
 total : (c : tie.After-struct-known3)
     → own c .undo .ranges .count + length (laterRanges (entry c .args .name) (own c)) ≡ tx (slot c) .undo .count + c .before .before .later-count .result
 total c =
-    ap (λ (t : Tx). t .undo .ranges .count + length (laterRanges (entry c .args .name) t)) (sym (is (slot c)))
+    ap (λ (t : Tx). t .undo .ranges .count + length (laterRanges (entry c .args .name) t)) (sym (slot-is (entry c .args .t1) (found (slot c))))
     ∙ ap (λ (n : ℕ). tx (slot c) .undo .count + n) (sym (c .before .before .later-count .ensures))
 
 -- the bytes that there would be
 bytes : (c : tie.After-struct-known3) → rangesSize (laterRanges (entry c .args .name) (own c)) ≡ c .before .later-size .result
-bytes c = ap (λ (t : Tx). rangesSize (laterRanges (entry c .args .name) t)) (sym (is (slot c))) ∙ sym (c .before .later-size .ensures)
+bytes c = ap (λ (t : Tx). rangesSize (laterRanges (entry c .args .name) t)) (sym (slot-is (entry c .args .t1) (found (slot c)))) ∙ sym (c .before .later-size .ensures)
 
 size-drop : (n : ℕ) (rs : List Range) → rangesSize (drop n rs) ≤ rangesSize rs
 size-drop zero rs = omega arith

@@ -1,18 +1,14 @@
 use borrow.Author.Needs.{needs}
 use native.Mathlib.Omega.{arith}
-use mathlib.Core.Bool.{true}
 use mathlib.Core.List.{[], _∷_}
-use mathlib.Core.Path.{_≡_, refl, sym, ap, _∙_, subst}
-use lib.ListN.{getD}
+use mathlib.Core.Path.{_≡_, refl, sym, ap, _∙_}
 use Rattle.transaction.specs.declared.Tx.{Tx}
-use Rattle.transaction.specs.View.{savepointsOf, bareTx}
-use Rattle.transaction.specs.Rules.{stateOk, nameRefused}
-use Rattle.transaction.proofs.Lists.{every-at}
+use Rattle.transaction.specs.View.{savepointsOf}
+use Rattle.transaction.specs.Rules.{nameRefused}
 use Rattle.transaction.proofs.StateRule.{few-savepoints}
-use Rattle.store.specs.State.{txAt}
-use Rattle.store.specs.Extents.{noExtents, bareState}
+use Rattle.store.specs.Extents.{bareState}
 use Rattle.store.specs.Numbers.{txOf, abortChecks, check7, check19}
-use Rattle.store.proofs.Bare.{bare-at}
+use Rattle.store.proofs.Bare.{slot-is, slot-ok}
 use Rattle.store.proofs.Choosing.{choice-stops, Slotted, slotted}
 use Rattle.store.proofs.extents.StateExtents.choose_savepoint.Statement.{statement}
 use Rattle.store.proofs.extents.StateExtents.choose_savepoint.Tie as tie
@@ -24,18 +20,6 @@ choose-running-requires c κs = c .pre
 found : (c : tie.Else1) → let a = c .before .before .before .args in
     Slotted (bareState (a .t1)) (a .admitted) (a .id .0) (c .before .before .choose-running .result) (check7 (bareState (a .t1)) (a .id .0) ∷ [])
 found c = slotted _ _ _ _ _ (c .before .before .before .pre) refl (c .before .before .choose-running .ensures) (c .if1 .left)
-
--- the transaction in the slot chosen
-is : (c : tie.Else1) → let a = c .before .before .before .args in
-    bareTx (getD (a .t1 .txs) (c .before .before .choose-running .result .slot) noExtents) ≡ txOf (bareState (a .t1)) (a .id .0)
-is c = let e = c .before .before .before .args .t1 in sym (bare-at e _) ∙ ap (txAt (bareState e)) (found c .slot)
-
-right : (c : tie.Else1) → stateOk (bareTx (getD (c .before .before .before .args .t1 .txs) (c .before .before .choose-running .result .slot) noExtents)) ≡ true
-right c =
-    let e = c .before .before .before .args .t1 in
-    let s = bareState e in
-    let k = c .before .before .choose-running .result .slot in
-    subst (λ (t : Tx). stateOk t ≡ true) (bare-at e k) (every-at (txAt s) stateOk (s .count) 0 (found c .states) k (omega arith) (omega (arith, found c .listed)))
 
 mul-t : tie.Need-mul-t
 mul-t c = let w = found c in omega (arith, w .listed, w .few)
@@ -50,7 +34,7 @@ returns c =
     choice-stops _ _ _ _ (abortChecks s (a .id .0)) (c .before .before .choose-running .ensures) refl (check19 s (a .id .0) (a .name) ∷ []) (c .if1 .taken)
 
 refuses-name-requires : tie.Need-refuses-name-requires
-refuses-name-requires c κs = few-savepoints _ (right (c .before))
+refuses-name-requires c κs = few-savepoints _ (slot-ok (c .before .before .before .before .args .t1) (found (c .before)))
 
 refuse-requires : tie.Need-refuse-requires
 refuse-requires c κs = search needs
@@ -60,7 +44,7 @@ asked : (c : tie.After-refuses-name) → let a = c .before .before .before .befo
     nameRefused (a .name) (savepointsOf (txOf (bareState (a .t1)) (a .id .0))) ≡ c .refuses-name .result
 asked c =
     let a = c .before .before .before .before .before .args in
-    ap (λ (t : Tx). nameRefused (a .name) (savepointsOf t)) (sym (is (c .before .before))) ∙ sym (c .refuses-name .ensures)
+    ap (λ (t : Tx). nameRefused (a .name) (savepointsOf t)) (sym (slot-is (c .before .before .before .before .before .args .t1) (found (c .before .before)))) ∙ sym (c .refuses-name .ensures)
 
 returns-2 : tie.Need-returns-2
 returns-2 c =

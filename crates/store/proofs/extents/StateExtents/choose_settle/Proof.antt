@@ -1,16 +1,15 @@
 use borrow.Author.Needs.{needs}
-use Prim.Native.Nat.{ℕ, _≤_, _<_}
+use Prim.Native.Nat.{_≤_, _<_}
 use native.Mathlib.Omega.{arith}
 use mathlib.Core.List.{[], _∷_}
 use mathlib.Core.Path.{_≡_, refl, sym, ap, _∙_}
 use lib.ListN.{getD}
 use borrow.Author.Tests.{eq-eqb, ne-eqb, lt-ltb, le-ltb}
 use Rattle.transaction.specs.declared.Tx.{Tx}
-use Rattle.store.specs.State.{txAt}
 use Rattle.store.specs.Extents.{noExtents, bareState}
 use Rattle.store.specs.Numbers.{txOf, check14}
 use Rattle.store.specs.Admission.{listedChecks}
-use Rattle.store.proofs.Bare.{bare-at, status-at}
+use Rattle.store.proofs.Bare.{status-at, slot-is}
 use Rattle.store.proofs.Choosing.{choice-stops, Slotted, slotted, status-of}
 use Rattle.store.proofs.extents.StateExtents.choose_settle.Statement.{statement}
 use Rattle.store.proofs.extents.StateExtents.choose_settle.Tie as tie
@@ -64,9 +63,7 @@ settling c e =
 -- and its commit number is the one in the slot
 csn-of : (c : tie.Else2) → let a = c .before .before .before .before .args in
     txOf (bareState (a .t1)) (a .id .0) .csn .0 ≡ getD (a .t1 .txs) (c .before .before .before .choose-listed .result .slot) noExtents .csn .0
-csn-of c =
-    let a = c .before .before .before .before .args in
-    ap (λ (k : ℕ). txAt (bareState (a .t1)) k .csn .0) (sym (found (c .before) .slot)) ∙ ap (λ (t : Tx). t .csn .0) (bare-at (a .t1) _)
+csn-of c = sym (ap (λ (t : Tx). t .csn .0) (slot-is (c .before .before .before .before .args .t1) (found (c .before))))
 
 returns-3 : tie.Need-returns-3
 returns-3 c =

@@ -1,5 +1,5 @@
 use borrow.Author.Needs.{needs}
-use Prim.Native.Nat.{ℕ, _+_, _≤_, _<_}
+use Prim.Native.Nat.{_+_, _≤_, _<_}
 use native.Mathlib.Omega.{arith}
 use mathlib.Core.Bool.{true, false}
 use mathlib.Core.List.{List, [], _∷_, _++_}
@@ -9,11 +9,11 @@ use borrow.Author.Tests.{eq-eqb, ne-eqb, lt-ltb, le-ltb}
 use Rattle.recovery.specs.Lists.{any}
 use Rattle.transaction.specs.declared.Tx.{Tx}
 use Rattle.transaction.specs.Rules.{writing, heldAgainst}
-use Rattle.store.specs.State.{txAt, txsOf}
+use Rattle.store.specs.State.{txsOf}
 use Rattle.store.specs.Extents.{noExtents, bareState}
 use Rattle.store.specs.Numbers.{Check, txOf, check7, check8, check9, check10, check13, check16, abortChecks, rangeChecks}
 use Rattle.store.specs.Admission.{choice}
-use Rattle.store.proofs.Bare.{bare-at}
+use Rattle.store.proofs.Bare.{slot-is}
 use Rattle.store.proofs.Choosing.{choice-stops, choice-after, Slotted, slotted, Ranged, chosen-range}
 use Rattle.store.proofs.extents.StateExtents.choose_write.Statement.{statement}
 use Rattle.store.proofs.extents.StateExtents.choose_write.Tie as tie
@@ -77,9 +77,7 @@ returns-2 c =
 -- its undo records are those in the slot chosen
 records : (c : tie.Else1) → let a = c .before .before .before .before .before .args in
     getD (a .t1 .txs) (c .before .before .choose-page .result .slot) noExtents .undo .count ≡ txOf (bareState (a .t1)) (a .id .0) .undo .ranges .count
-records c =
-    let e = c .before .before .before .before .before .args .t1 in
-    sym (ap (λ (t : Tx). t .undo .ranges .count) (bare-at e _)) ∙ ap (λ (k : ℕ). txAt (bareState e) k .undo .ranges .count) (found c .slot)
+records c = ap (λ (t : Tx). t .undo .ranges .count) (slot-is (c .before .before .before .before .before .args .t1) (found c))
 
 mul-if3 : tie.Need-mul-if3
 mul-if3 c = let w = found (c .before .before) in omega (arith, w .listed, w .few)
