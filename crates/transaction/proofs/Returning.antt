@@ -143,21 +143,25 @@ all-sized t m (w ∷ ws) h = all-sized (after t m w ws h) (layBytes w m) ws (nex
 snoc-append : {A : Type 0} (x : A) (xs ys : List A) → (xs ++ (x ∷ [])) ++ ys ≡ xs ++ (x ∷ ys)
 snoc-append x xs ys = append-assoc xs (x ∷ []) ys
 
+-- a list of the transaction's records to which each write adds its range
+module _ (recordsIn : Tx → Records)
+    (one : (t : Tx) (m : List ℕ) (w : Write) (ws : List Write) (h : Writable t m (w ∷ ws))
+    → rangesOf (recordsIn (after t m w ws h) .ranges) ≡ rangesOf (recordsIn t .ranges) ++ (rangeOf w ∷ [])) where
+  all-ranges : (t : Tx) (m : List ℕ) (ws : List Write) → Writable t m ws
+      → rangesOf (recordsIn (writtenAll t m ws) .ranges) ≡ rangesOf (recordsIn t .ranges) ++ map rangeOf ws
+  all-ranges t m [] h = sym (append-nil (rangesOf (recordsIn t .ranges)))
+  all-ranges t m (w ∷ ws) h =
+      all-ranges (after t m w ws h) (layBytes w m) ws (next t m w ws h)
+      ∙ ap (λ (rs : List Range). rs ++ map rangeOf ws) (one t m w ws h)
+      ∙ snoc-append (rangeOf w) (rangesOf (recordsIn t .ranges)) (map rangeOf ws)
+
 pub all-undo : (t : Tx) (m : List ℕ) (ws : List Write) → Writable t m ws
     → rangesOf (writtenAll t m ws .undo .ranges) ≡ rangesOf (t .undo .ranges) ++ map rangeOf ws
-all-undo t m [] h = sym (append-nil (rangesOf (t .undo .ranges)))
-all-undo t m (w ∷ ws) h =
-    all-undo (after t m w ws h) (layBytes w m) ws (next t m w ws h)
-    ∙ ap (λ (rs : List Range). rs ++ map rangeOf ws) (undo-after t m w ws h)
-    ∙ snoc-append (rangeOf w) (rangesOf (t .undo .ranges)) (map rangeOf ws)
+all-undo = all-ranges (λ (t : Tx). t .undo) undo-after
 
 pub all-redo : (t : Tx) (m : List ℕ) (ws : List Write) → Writable t m ws
     → rangesOf (writtenAll t m ws .redo .ranges) ≡ rangesOf (t .redo .ranges) ++ map rangeOf ws
-all-redo t m [] h = sym (append-nil (rangesOf (t .redo .ranges)))
-all-redo t m (w ∷ ws) h =
-    all-redo (after t m w ws h) (layBytes w m) ws (next t m w ws h)
-    ∙ ap (λ (rs : List Range). rs ++ map rangeOf ws) (redo-after t m w ws h)
-    ∙ snoc-append (rangeOf w) (rangesOf (t .redo .ranges)) (map rangeOf ws)
+all-redo = all-ranges (λ (t : Tx). t .redo) redo-after
 
 pub all-state : (t : Tx) (m : List ℕ) (ws : List Write) → Writable t m ws → stateOk t ≡ true → stateOk (writtenAll t m ws) ≡ true
 all-state t m [] h e = e
