@@ -64,7 +64,7 @@ enum luppaneth_answer {
     LUPPANETH_ANSWER_REFUSED = 2 /* by `number`; nothing was changed but what 3 to 5 set to zero: restart's memory and tail, first_groups' memory */
 };
 
-/* A reply's `number` where refused, in the order in which a call tests them; 17 comes after 1, 18 and 19 after 7, 16 after 8, 15 after 9. */
+/* A reply's `number` where refused, in the order in which a call tests them; 17 and 20 come after 1, 18 and 19 after 7, 16 after 8, 15 after 9. */
 enum luppaneth_number {
     LUPPANETH_WRONG_LENGTH = 1,           /* any call: a lent buffer hasn't its length */
     LUPPANETH_UNFIT = 2,                  /* any call handed a state: it is unrecovered or broken, or the tail isn't its own */
@@ -84,7 +84,8 @@ enum luppaneth_number {
     LUPPANETH_TWO_PAGES = 16,             /* write: the range lies in two pages of 256 bytes; make two writes of it */
     LUPPANETH_BAD_PAGE = 17,              /* read_page: a page above 15 */
     LUPPANETH_NO_SAVEPOINT = 18,          /* go_back: the name is not set */
-    LUPPANETH_TOO_MANY_SAVEPOINTS = 19    /* savepoint: a fifth name, or the name 0 */
+    LUPPANETH_TOO_MANY_SAVEPOINTS = 19,   /* savepoint: a fifth name, or the name 0 */
+    LUPPANETH_BAD_LIST = 20               /* outcomes: the ids do not rise, or the lists have two lengths */
 };
 
 /* A reply's `stop`: why the log ended where it did, as a restart that is done found it. */
@@ -118,6 +119,20 @@ struct luppaneth_groups_reply {
     uint8_t number; /* enum luppaneth_number where refused, else 0 */
     uint32_t csn;   /* the last commit number reached; 0 where refused */
     size_t end;     /* the log's end reached, counted from its first byte; 0 where refused */
+};
+
+/* Of luppaneth_outcomes. */
+struct luppaneth_outcomes_reply {
+    uint8_t answer; /* enum luppaneth_answer */
+    uint8_t number; /* enum luppaneth_number where refused, else 0 */
+    size_t groups;  /* the groups of the log, all of them walked once; 0 where refused */
+};
+
+/* What luppaneth_outcomes tells of an id, by its last group in the log. */
+enum luppaneth_outcome {
+    LUPPANETH_NEITHER = 0,   /* the log has no group of it */
+    LUPPANETH_COMMITTED = 1, /* it went through */
+    LUPPANETH_ABORTED = 2    /* it was taken back */
 };
 
 /* ---- The library's calls. memory, tail and disk have to have the lengths above, else number 1. */
@@ -189,6 +204,11 @@ struct luppaneth_groups_reply luppaneth_first_groups(const unsigned char *disk, 
  * Returns 0, or the number that refuses: 1 or 17 (the buffer stays), 3, 4 or 5 as a restart would give (the buffer is zeroed). */
 uint8_t luppaneth_read_page(const unsigned char *disk, size_t disk_len, unsigned char *buffer, size_t buffer_len, size_t page);
 
+/* Of each id its enum luppaneth_outcome, in the same place of the second list: by one walk over the log from its first byte, whatever the images
+ * hold. The ids have to rise, each above the one before it. Refused by 1 or 20, the list of outcomes stays. */
+struct luppaneth_outcomes_reply luppaneth_outcomes(const unsigned char *disk, size_t disk_len, const uint16_t *ids, size_t ids_len,
+                                                   unsigned char *outcomes, size_t outcomes_len);
+
 /* Whether a restart accepts both disks and leaves the same memory. Neither is changed. */
 bool luppaneth_equal(const unsigned char *a, size_t a_len, const unsigned char *b, size_t b_len);
 
@@ -204,7 +224,7 @@ size_t luppaneth_text_len(void);
 
 /* ---- The layer that holds state and buffers
  *
- * Each call returns 0 for done, a luppaneth_number (1 to 19) where refused, or LUP_CUT, which none gives with LUPPANETH_ALL stores allowed. What is
+ * Each call returns 0 for done, a luppaneth_number (1 to 20) where refused, or LUP_CUT, which none gives with LUPPANETH_ALL stores allowed. What is
  * handed out through a pointer is 0 (for read NULL) unless the call is done. A `struct luppaneth` has 63,736 bytes: keep it static or on the heap. */
 
 #define LUP_CUT (-1)
@@ -256,6 +276,14 @@ static inline int lup_first_groups(const struct luppaneth *l, size_t groups, uns
 static inline int lup_read_page(const struct luppaneth *l, size_t page, unsigned char buffer[LUPPANETH_PAGE_LEN])
 {
     return luppaneth_read_page(l->disk, sizeof l->disk, buffer, LUPPANETH_PAGE_LEN, page);
+}
+
+/* The outcomes of count ids, which have to rise, in l->disk's log. *groups: those of the log. */
+static inline int lup_outcomes(const struct luppaneth *l, const uint16_t *ids, size_t count, unsigned char *outcomes, size_t *groups)
+{
+    struct luppaneth_outcomes_reply r = luppaneth_outcomes(l->disk, sizeof l->disk, ids, count, outcomes, count);
+    *groups = r.groups;
+    return r.number;
 }
 
 static inline int lup_begin(struct luppaneth *l, uint16_t *id)
@@ -358,6 +386,7 @@ static inline const char *lup_text(int answer)
         "the page is above 15",
         "no savepoint has this name",
         "the transaction has four savepoints, or the name is 0",
+        "the ids do not rise, or the lists have two lengths",
     };
     if (answer == LUP_CUT)
         return "cut short";

@@ -22,6 +22,7 @@ pub fn all() -> Vec<Row> {
     rows.extend(first_groups());
     rows.extend(on_logs(WITHOUT_CLEARING, UNCLEARED));
     rows.extend(on_logs(PAGE, ONE_PAGE));
+    rows.extend(outcomes());
     rows
 }
 
@@ -333,5 +334,26 @@ fn first_groups() -> Vec<Row> {
         ),
         row(false, "12 of 25 632-byte groups", 12, full),
         row(false, "25 632-byte groups", FULL_GROUPS, full),
+    ]
+}
+
+/// The outcomes (document 02, A.8) of no id, which is the walk alone, in an empty
+/// log, which is the list alone, and of all ids that a transaction can have.
+fn outcomes() -> Vec<Row> {
+    let all: Vec<u16> = (1..=u16::MAX).collect();
+    let row = |case, groups, ids: Vec<u16>| Row {
+        name: "outcomes",
+        case,
+        call: Call::Outcomes {
+            length: ids.len(),
+            ids,
+        },
+        world: logged(false, groups, 0),
+        tuned_goal: false,
+    };
+    vec![
+        row("2,033 empty groups, no id", EMPTY_GROUPS, Vec::new()),
+        row("empty log, 65,535 ids", 0, all.clone()),
+        row("2,033 empty groups, 65,535 ids", EMPTY_GROUPS, all),
     ]
 }

@@ -25,10 +25,17 @@ fn told(outcome: Outcome) -> Outcome {
 fn told_by(program: &mut dyn Program, call: &Call) -> Outcome {
     program.buffers().seen.fill(165);
     program.buffers().page.fill(165);
+    program.buffers().outcomes.fill(165);
     let outcome = program.run(call);
     let lent = match call {
         Call::FirstGroups { .. } => Some(&program.buffers().seen),
         Call::OnePage { .. } => Some(&program.buffers().page),
+        // Their list's checksum stands in place of the stores.
+        Call::Outcomes { length, .. } => {
+            let list = &program.buffers().outcomes[..*length];
+            let stores = adler32(list) as usize;
+            return Outcome { stores, ..outcome };
+        }
         _ => None,
     };
     Outcome {

@@ -113,6 +113,9 @@ static void test_looks(void)
                offsetof(struct luppaneth_groups_reply, number) == 1 && offsetof(struct luppaneth_groups_reply, csn) == 4 &&
                offsetof(struct luppaneth_groups_reply, end) == 8,
            "an offset in the reply of the first groups is not as stated");
+    expect(sizeof(struct luppaneth_outcomes_reply) == 16 && offsetof(struct luppaneth_outcomes_reply, answer) == 0 &&
+               offsetof(struct luppaneth_outcomes_reply, number) == 1 && offsetof(struct luppaneth_outcomes_reply, groups) == 8,
+           "an offset in the reply of the outcomes is not as stated");
 }
 
 static void test_sizes(void)
@@ -305,6 +308,22 @@ static void test_read_page(struct luppaneth *l)
     expect(lup_read_page(l, 0, page) == LUPPANETH_BAD_POINTER && zeros(page, sizeof page), "a page of a disk that is refused");
 }
 
+/* Id 1 committed, id 2 was aborted by the restart of test_read_page, whose record is flushed here. */
+static void test_outcomes(struct luppaneth *l)
+{
+    static const uint16_t ids[4] = {0, 1, 2, 65535}, twice[2] = {1, 1};
+    unsigned char out[4] = {7, 7, 7, 7};
+    size_t groups = 7;
+    expect(lup_flush(l, LUPPANETH_ALL, LUPPANETH_ALL) == 0, "a flush of restart's abort record");
+    expect(lup_outcomes(l, ids, 4, out, &groups) == 0 && groups == 2, "the groups of the log");
+    expect(out[0] == LUPPANETH_NEITHER && out[1] == LUPPANETH_COMMITTED && out[2] == LUPPANETH_ABORTED && out[3] == LUPPANETH_NEITHER, "the outcomes");
+    expect(lup_outcomes(l, ids, 0, out, &groups) == 0 && groups == 2, "the outcomes of no ids");
+    out[0] = 9;
+    expect(lup_outcomes(l, twice, 2, out, &groups) == LUPPANETH_BAD_LIST && groups == 0 && out[0] == 9, "ids that do not rise");
+    expect(luppaneth_outcomes(l->disk, sizeof l->disk, ids, 4, out, 3).number == LUPPANETH_BAD_LIST && out[0] == 9, "lists of two lengths");
+    expect(luppaneth_outcomes(l->disk, 1, twice, 2, out, 2).number == LUPPANETH_WRONG_LENGTH && out[0] == 9, "1 before 20");
+}
+
 static void test_layer(struct luppaneth *l)
 {
     const unsigned char *part;
@@ -312,8 +331,8 @@ static void test_layer(struct luppaneth *l)
     int i;
     lup_init(l);
     expect(lup_begin(l, &id) == LUPPANETH_UNFIT && id == 0, "begin before a restart");
-    for (i = LUP_CUT - 1; i <= LUPPANETH_TOO_MANY_SAVEPOINTS + 1; i++) {
-        int known = i != LUP_CUT - 1 && i != LUPPANETH_TOO_MANY_SAVEPOINTS + 1;
+    for (i = LUP_CUT - 1; i <= LUPPANETH_BAD_LIST + 1; i++) {
+        int known = i != LUP_CUT - 1 && i != LUPPANETH_BAD_LIST + 1;
         expect((strcmp(lup_text(i), "no answer of this store") != 0) == known, "a text for each answer, and for no other number");
     }
     expect(lup_read(l, 1, 0, 1, &part) == LUPPANETH_UNFIT && part == NULL, "read before a restart");
@@ -336,6 +355,7 @@ int main(void)
     test_page_of_a_write(&l);
     test_savepoints(&l);
     test_read_page(&l);
+    test_outcomes(&l);
     test_layer(&l);
     if (!failed)
         printf("layout: the header agrees with the library\n");

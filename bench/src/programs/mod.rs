@@ -44,8 +44,8 @@ pub trait Program {
 }
 
 /// What is lent to the calls, the copy of a disk for "equal in meaning", and
-/// the memory and the page lent to looks at the disk: what these leave is told
-/// by no outcome.
+/// the memory, the page and the list of outcomes lent to looks at the disk: what
+/// these leave is told by no outcome.
 pub struct Buffers {
     pub disk: Vec<u8>,
     pub kept: Vec<u8>,
@@ -53,6 +53,8 @@ pub struct Buffers {
     pub tail: Vec<u8>,
     pub seen: Vec<u8>,
     pub page: Vec<u8>,
+    /// As long as any call asks for.
+    pub outcomes: Vec<u8>,
 }
 
 impl Buffers {
@@ -64,6 +66,7 @@ impl Buffers {
             tail: world.tail.clone(),
             seen: world.memory.clone(),
             page: vec![0; PAGE_LEN],
+            outcomes: vec![0; 1 + usize::from(u16::MAX)],
         }
     }
 

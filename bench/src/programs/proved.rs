@@ -32,9 +32,17 @@ struct GroupsReply {
     end: usize,
 }
 
+/// Of the outcomes: `answer` and `number` as in `Reply`.
+#[repr(C)]
+struct OutcomesReply {
+    answer: u8,
+    number: u8,
+    groups: usize,
+}
+
 /// The interface; a slice is a pointer and a length.
 mod c {
-    use super::{GroupsReply, Reply, State};
+    use super::{GroupsReply, OutcomesReply, Reply, State};
     extern "C" {
         pub fn luppaneth_begin(
             state: State,
@@ -160,6 +168,14 @@ mod c {
             buffer_len: usize,
             page: usize,
         ) -> u8;
+        pub fn luppaneth_outcomes(
+            disk: *const u8,
+            disk_len: usize,
+            ids: *const u16,
+            ids_len: usize,
+            outcomes: *mut u8,
+            outcomes_len: usize,
+        ) -> OutcomesReply;
         pub fn luppaneth_equal(a: *const u8, a_len: usize, b: *const u8, b_len: usize) -> bool;
     }
 }
@@ -297,6 +313,19 @@ impl Proved {
             number => Err(number),
         })
     }
+
+    #[inline(never)]
+    fn outcomes(&mut self, ids: &[u16], length: usize) -> Outcome {
+        let out = &mut self.lent.outcomes[..length];
+        let reply = call!(luppaneth_outcomes,; self.lent; shared disk;
+            ids.as_ptr(), ids.len(), out.as_mut_ptr(), out.len());
+        let OutcomesReply {
+            answer,
+            number,
+            groups,
+        } = black_box(reply);
+        Outcome::told(answered(answer, number), groups as u32)
+    }
 }
 
 fn answered(answer: u8, number: u8) -> Answer {
@@ -363,6 +392,7 @@ impl Program for Proved {
             Call::Equal => yes_or_no(call!(luppaneth_equal,; self.lent; shared disk, shared kept;)),
             Call::FirstGroups { groups } => self.first_groups(*groups),
             Call::OnePage { page } => self.one_page(*page),
+            Call::Outcomes { ids, length } => self.outcomes(ids, *length),
             _ => stored(Ok((false, 0, 0))),
         }
     }

@@ -2,7 +2,7 @@
 
 use super::outcome::{part, reached, restarted, stored, told, yes_or_no};
 use super::{Buffers, Program, StepWrite};
-use second::inspect::{first_groups, one_page};
+use second::inspect::{first_groups, one_page, outcomes};
 use second::layout::{MAX_TXS, MAX_UNDOS};
 use second::log::Write;
 use second::restart::{equal_in_meaning, restart};
@@ -68,6 +68,7 @@ impl Program for Second {
             tail,
             seen,
             page: buffer,
+            outcomes: list,
         } = &mut self.lent;
         let state = &mut self.state;
         match call {
@@ -117,6 +118,9 @@ impl Program for Second {
                 reached(first_groups(disk, seen, *groups).map(|r| (r.log_end, r.csn.0)))
             }
             Call::OnePage { page } => told(one_page(disk, buffer, *page).map(|()| 0)),
+            Call::Outcomes { ids, length } => {
+                told(outcomes(disk, ids, &mut list[..*length]).map(|groups| groups as u32))
+            }
             _ => told(Ok(0)),
         }
     }

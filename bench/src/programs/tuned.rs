@@ -3,6 +3,7 @@
 use super::flat::{flat, unflat};
 use super::outcome::{part, reached, restarted, stored, told, yes_or_no};
 use super::{Buffers, Program, StepWrite};
+use crate::tuned::outcomes::outcomes;
 use crate::tuned::restart::{equal_in_meaning, first_groups, one_page, restart};
 use crate::tuned::state::State;
 use crate::tuned::{Refusal, Stored};
@@ -54,6 +55,7 @@ impl Program for Tuned {
             tail,
             seen,
             page: buffer,
+            outcomes: list,
         } = &mut self.lent;
         let state = &mut self.state;
         let counts = |s: Stored| (s.cut, s.stores, 0);
@@ -97,6 +99,7 @@ impl Program for Tuned {
             Call::Equal => yes_or_no(equal_in_meaning(disk, kept)),
             Call::FirstGroups { groups } => reached(first_groups(disk, seen, *groups)),
             Call::OnePage { page } => told(one_page(disk, buffer, *page).map(|()| 0)),
+            Call::Outcomes { ids, length } => told(outcomes(disk, ids, &mut list[..*length])),
             _ => told(Ok(0)),
         }
     }

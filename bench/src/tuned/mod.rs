@@ -8,6 +8,7 @@ pub mod calls;
 pub mod disk;
 pub mod image;
 pub mod log;
+pub mod outcomes;
 pub mod restart;
 pub mod state;
 

@@ -78,6 +78,15 @@ pub struct GroupsReply {
     pub end: usize,
 }
 
+/// Of the outcomes: `answer` and `number` as in `Reply`.
+#[derive(Clone, Copy)]
+#[repr(C)]
+pub struct OutcomesReply {
+    pub answer: u8,
+    pub number: u8,
+    pub groups: usize,
+}
+
 const _: () = assert!(size_of::<State>() == 9_552 && align_of::<State>() == 4);
 const _: () = assert!(size_of::<Reply>() == 9_568 && align_of::<Reply>() == 8);
 
@@ -207,6 +216,14 @@ extern "C" {
         buffer_len: usize,
         page: usize,
     ) -> u8;
+    pub fn luppaneth_outcomes(
+        disk: *const u8,
+        disk_len: usize,
+        ids: *const u16,
+        ids_len: usize,
+        outcomes: *mut u8,
+        outcomes_len: usize,
+    ) -> OutcomesReply;
     pub fn luppaneth_equal(a: *const u8, a_len: usize, b: *const u8, b_len: usize) -> bool;
     pub fn luppaneth_list(disk: *mut u8, disk_len: usize, text: *mut u8) -> usize;
 }

@@ -84,3 +84,65 @@ pub fn read_page(disk: &Disk, page: usize) -> Result<Page, Refusal> {
     answer(number)?;
     Ok(buffer)
 }
+
+/// What became of a transaction, by the last group of its id in the log.
+#[derive(Clone, Copy, Debug, PartialEq, Eq)]
+pub enum Outcome {
+    /// The log has no group of its id.
+    Neither,
+    /// It went through.
+    Committed,
+    /// It was taken back.
+    Aborted,
+}
+
+impl Outcome {
+    fn from_number(number: u8) -> Outcome {
+        match number {
+            1 => Outcome::Committed,
+            2 => Outcome::Aborted,
+            _ => Outcome::Neither,
+        }
+    }
+}
+
+/// What became of a list of transactions.
+#[derive(Clone, Debug, PartialEq, Eq)]
+pub struct Outcomes {
+    /// Of each id the outcome, in the ids' order.
+    pub outcomes: Vec<Outcome>,
+    /// How many groups the log has: all of them were walked, once.
+    pub groups: usize,
+}
+
+/// What became of each of these ids, by one walk over the log from its first byte, whatever the images hold. The ids have to rise, each above
+/// the one before it; else refused by 20.
+///
+/// ```
+/// use luppaneth::calls::DISK_LEN;
+/// use luppaneth::inspect::{outcomes, Outcome};
+/// use luppaneth::Refusal;
+///
+/// let fresh = [0; DISK_LEN];
+/// assert_eq!(outcomes(&fresh, &[1, 2]).unwrap().outcomes, [Outcome::Neither; 2]);
+/// assert_eq!(outcomes(&fresh, &[2, 2]), Err(Refusal::BadList));
+/// ```
+pub fn outcomes(disk: &Disk, ids: &[u16]) -> Result<Outcomes, Refusal> {
+    let mut out = vec![0; ids.len()];
+    // SAFETY: as of `first_groups`.
+    let reply = unsafe {
+        abi::luppaneth_outcomes(
+            disk.as_ptr(),
+            DISK_LEN,
+            ids.as_ptr(),
+            ids.len(),
+            out.as_mut_ptr(),
+            out.len(),
+        )
+    };
+    answer(reply.number)?;
+    Ok(Outcomes {
+        outcomes: out.into_iter().map(Outcome::from_number).collect(),
+        groups: reply.groups,
+    })
+}

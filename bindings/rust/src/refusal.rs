@@ -2,20 +2,20 @@
 
 use std::fmt;
 
-/// Why a call was refused. Refused, a call has changed nothing; restart zeroes memory and tail, and `inspect::first_groups` memory, where they refuse a
-/// disk.
+/// Why a call was refused. Refused, a call has changed nothing; where a disk is refused by 3, 4 or 5, restart zeroes memory and tail, and
+/// `inspect::first_groups` its memory.
 ///
-/// The variants stand in the order of their numbers. A call tests them in that order, but for 17, which comes after 1, 16, after 8, 15, after 9, and
-/// 18 and 19, after 7.
+/// The variants stand in the order of their numbers. A call tests them in that order, but for 17 and 20, which come after 1, 18 and 19,
+/// after 7, 16, after 8, and 15, after 9.
 #[derive(Clone, Copy, Debug, PartialEq, Eq, Hash)]
 pub enum Refusal {
     /// 1: a lent buffer hasn't its length. The types of this crate keep it away.
     WrongLength = 1,
     /// 2: the state is unrecovered or broken, or the lent tail isn't its own.
     Unfit = 2,
-    /// 3, restart and `inspect`: the pointer byte is above 2.
+    /// 3, restart, `inspect::first_groups` and `read_page`: the pointer byte is above 2.
     BadPointer = 3,
-    /// 4, restart and `inspect`: the image that the pointer byte names breaks a rule.
+    /// 4, restart, `inspect::first_groups` and `read_page`: the image that the pointer byte names breaks a rule.
     BadImage = 4,
     /// 5, restart and `inspect::read_page`: the log has no room for the abort records.
     NoRoomToUndo = 5,
@@ -47,11 +47,13 @@ pub enum Refusal {
     NoSavepoint = 18,
     /// 19: the transaction has four savepoints of other names, or the name is 0.
     TooManySavepoints = 19,
+    /// 20: the ids do not rise, each above the one before it, or the two lists differ in length.
+    BadList = 20,
 }
 
 impl Refusal {
     /// All of them, by number.
-    pub const ALL: [Refusal; 19] = [
+    pub const ALL: [Refusal; 20] = [
         Refusal::WrongLength,
         Refusal::Unfit,
         Refusal::BadPointer,
@@ -71,9 +73,10 @@ impl Refusal {
         Refusal::BadPage,
         Refusal::NoSavepoint,
         Refusal::TooManySavepoints,
+        Refusal::BadList,
     ];
 
-    /// The documents' number, 1 to 19.
+    /// The documents' number, 1 to 20.
     pub fn number(self) -> u8 {
         self as u8
     }
@@ -109,6 +112,7 @@ impl Refusal {
             Refusal::TooManySavepoints => {
                 "the transaction has four savepoints already, or the name is 0"
             }
+            Refusal::BadList => "the ids do not rise, or the two lists differ in length",
         }
     }
 
@@ -137,6 +141,7 @@ impl Refusal {
             Refusal::BadPage => "the pattern has sixteen pages of 256 bytes, counted from 0",
             Refusal::NoSavepoint => "go back to a name that was set in this step",
             Refusal::TooManySavepoints => "use a name from 1 to 255; in place of a fifth, move one of the four",
+            Refusal::BadList => "sort the ids and leave out those that are there twice",
         }
     }
 }

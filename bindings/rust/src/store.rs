@@ -7,6 +7,7 @@ use crate::calls::{Csn, Disk, Memory, State, Stop, Tail, TxId, IMAGE_A, IMAGE_B}
 use crate::calls::{LOG_LEN, LOG_START, MEMORY_LEN, POINTER};
 use crate::device::{zeros, Device};
 use crate::error::Error;
+use crate::inspect::{self, Outcomes};
 use crate::refusal::Refusal;
 
 /// As many as the call needs.
@@ -69,6 +70,11 @@ pub struct Tx<'a> {
 }
 
 impl Tx<'_> {
+    /// The step's id, to ask for what became of it after a power cut ([`Store::outcomes`]).
+    pub fn id(&self) -> TxId {
+        self.id
+    }
+
     /// Writes 1 to 32 bytes from an address on, all in one page of 256 bytes; a step has at most 16 writes.
     pub fn write(&mut self, at: usize, bytes: &[u8]) -> Result<(), Error> {
         let w = &mut *self.working;
@@ -235,6 +241,14 @@ impl<D: Device> Store<D> {
     pub fn durable(&self) -> Result<Csn, Error> {
         self.usable()?;
         Ok(self.working.state.on_disk())
+    }
+
+    /// What became of these steps, by the log on the device. The ids have to rise, else refused by 20. A step booked and not flushed is
+    /// `Neither`. The id of a step that was lost is given out again, so ask after the power cut before the next step is begun. After
+    /// [`renew`](Store::renew) ids start anew: of steps before it the old device tells.
+    pub fn outcomes(&self, ids: &[u16]) -> Result<Outcomes, Error> {
+        self.usable()?;
+        Ok(inspect::outcomes(&self.working.disk, ids)?)
     }
 
     /// The pattern, with all that is booked, durable or not.

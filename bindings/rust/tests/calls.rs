@@ -420,5 +420,5 @@ fn refusals_by_name_and_number() {
             "{text}"
         );
     }
-    assert_eq!([0, 20].map(Refusal::from_number), [None, None]);
+    assert_eq!([0, 21].map(Refusal::from_number), [None, None]);
 }

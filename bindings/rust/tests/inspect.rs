@@ -1,7 +1,7 @@
 //! Looking at a disk without a state, over the proved library.
 
 use luppaneth::calls::*;
-use luppaneth::inspect::{first_groups, read_page, FirstGroups, PAGES};
+use luppaneth::inspect::{first_groups, outcomes, read_page, FirstGroups, Outcome, PAGES};
 use luppaneth::Refusal;
 
 const ALL: usize = usize::MAX;
@@ -226,4 +226,74 @@ fn a_page_is_refused_by_5_too() {
     let mut memory = [0; MEMORY_LEN];
     let all = first_groups(&disk, &mut memory, ALL).unwrap();
     assert_eq!((all, memory[10]), (reached(LOG_LEN, 0), 5));
+}
+
+/// A log of these groups, on a disk whose images are junk.
+fn logged(groups: &[&[u8]]) -> Disk {
+    let mut disk = [255; DISK_LEN];
+    disk[LOG_START..].fill(0);
+    let bytes = groups.concat();
+    disk[LOG_START..LOG_START + bytes.len()].copy_from_slice(&bytes);
+    disk
+}
+
+fn commit(id: u8, csn: u8) -> Vec<u8> {
+    vec![2, 0, id, 0, 0, 0, csn, 2]
+}
+
+fn abort(id: u8) -> Vec<u8> {
+    vec![3, 0, id, 3]
+}
+
+#[test]
+fn the_last_group_of_an_id_counts() {
+    use Outcome::{Aborted, Committed, Neither};
+    let disk = logged(&[
+        &commit(7, 1),
+        &abort(3),
+        &abort(7),
+        &commit(9, 2),
+        &abort(5),
+        &commit(5, 3),
+    ]);
+    let found = outcomes(&disk, &[0, 3, 5, 7, 8, 9, 65_535]).unwrap();
+    assert_eq!(found.groups, 6);
+    assert_eq!(
+        found.outcomes,
+        [Neither, Aborted, Committed, Aborted, Neither, Committed, Neither]
+    );
+    let none = outcomes(&disk, &[]).unwrap();
+    assert_eq!((none.groups, none.outcomes), (6, vec![]));
+}
+
+#[test]
+fn ids_have_to_rise() {
+    let disk = logged(&[]);
+    assert_eq!(outcomes(&disk, &[4, 4]), Err(Refusal::BadList));
+    assert_eq!(outcomes(&disk, &[4, 3]), Err(Refusal::BadList));
+    assert_eq!(outcomes(&disk, &[3, 4, 9, 5]), Err(Refusal::BadList));
+    let all: Vec<u16> = (0..=65_535).collect();
+    assert_eq!(
+        outcomes(&disk, &all).unwrap().outcomes,
+        [Outcome::Neither; 65_536]
+    );
+}
+
+/// What the office is told is what a restart keeps: the booking that got to the disk, not the one that did not.
+#[test]
+fn a_booking_that_was_cut_off_is_neither() {
+    let mut b = Buffers::fresh();
+    let one = b.writing(10, &[5]);
+    b.precommit(one);
+    let two = b.writing(10, &[6]);
+    b.precommit(two);
+    let (d, m, t) = (&mut b.disk, &mut b.memory, &mut b.tail);
+    assert!(b.state.flush(d, m, t, ALL, 31).unwrap().cut);
+    let found = outcomes(&b.disk, &[one.0, two.0]).unwrap();
+    assert_eq!(
+        (found.groups, found.outcomes),
+        (1, vec![Outcome::Committed, Outcome::Neither])
+    );
+    b.restart();
+    assert_eq!(b.memory[10], 5);
 }

@@ -6,6 +6,7 @@ use std::panic::{catch_unwind, AssertUnwindSafe};
 use std::path::PathBuf;
 
 use luppaneth::calls::{Disk, DISK_LEN, IMAGE_A, IMAGE_B, LOG_START, POINTER};
+use luppaneth::inspect::Outcome;
 use luppaneth::{Csn, Device, Error, FileDevice, MemoryDevice, Refusal, Stop, Store};
 
 fn fresh() -> Store<MemoryDevice> {
@@ -50,6 +51,42 @@ fn what_was_not_flushed_is_lost_whole() {
         (again.durable().unwrap(), again.read(0, 1).unwrap()),
         (Csn(1), &[1][..])
     );
+}
+
+#[test]
+fn the_office_learns_which_steps_went_through() {
+    use Outcome::{Aborted, Committed, Neither};
+    let mut store = fresh();
+    let mut ids = Vec::new();
+    for byte in [1, 2, 3] {
+        let booked = store.book(|tx| {
+            ids.push(tx.id().0);
+            tx.write(0, &[byte])?;
+            // The second step is given up.
+            if byte == 2 {
+                return Err(Error::Stale);
+            }
+            Ok(())
+        });
+        assert_eq!(booked.is_ok(), byte != 2);
+        if byte == 2 {
+            store.flush().unwrap();
+        }
+    }
+    let told = |store: &Store<MemoryDevice>| store.outcomes(&ids).unwrap();
+    // The third is booked and not flushed.
+    assert_eq!(told(&store).outcomes, [Committed, Aborted, Neither]);
+    let mut again = Store::open(store.into_device()).unwrap();
+    assert_eq!(told(&again).outcomes, [Committed, Aborted, Neither]);
+    assert_eq!(
+        (told(&again).groups, again.read(0, 1).unwrap()),
+        (2, &[1][..])
+    );
+    // Its id is given out again.
+    again.book(|tx| tx.write(0, &[4])).unwrap();
+    again.flush().unwrap();
+    assert_eq!(told(&again).outcomes, [Committed, Aborted, Committed]);
+    assert_eq!(refusal(again.outcomes(&[2, 2])), Refusal::BadList);
 }
 
 #[test]

@@ -139,6 +139,7 @@ module _ {from : Start} (w : World) (d : Disk) (l : Live) (o : OnDisk from (w .d
               ∙ ap (map withoutRedo) (views ∙ ap (λ (x : Live). x .txs) (v .view));
           memory = ap (λ (x : OpenedDisk). x .memory) opens-new ∙ restored .memory ∙ ap (λ (x : Live). x .memory) (v .view);
           csn = ap (λ (c : Content). c .ondisk) content ∙ ap (λ (x : Live). x .csn) (v .view);
+          last = omega (arith, ap (λ (c : Content). c .lastid) content, ap (λ (x : Live). x .lastId) (v .view));
           place = ap (λ (c : Content). c .logend) content ∙ v .end ∙ ap groupsSize (sym (checkpoint-stands d l));
           log = ap (readLog (from .csn)) (kept-log s (w .disk) m t a z) ∙ o .log ∙ sym same-stands;
         }

@@ -49,6 +49,8 @@ pub record OnDisk (from : Start) (disk : List ℕ) (d : Disk) : Type 0 where
   pub txs : transactionsIn (imageIn disk) ≡ d .image .txs
   pub memory : memoryIn disk ≡ d .image .memory
   pub csn : imageIn disk .ondisk .0 ≡ d .image .csn
+  -- a disk that opens a history may have given ids before it
+  pub last : d .image .lastId ≤ imageIn disk .lastid .0
   pub place : imageIn disk .logend ≡ groupsSize (standingBefore d)
   pub log : readLog (from .csn) (logFrom 0 disk) ≡ standingIn d
 
@@ -69,6 +71,7 @@ fresh-shows = record {
   txs = refl;
   memory = refl;
   csn = refl;
+  last = omega arith;
   place = ap groupsSize (sym (opening-stands (opens fresh)));
   log =
       ap (λ (l : List ℕ). readLog 0 (take 16384 l)) (drop-zeros 17307 33691)
@@ -87,6 +90,7 @@ same-opened x y d e o long a i b log = record {
   txs = ap transactionsIn (a .image) ∙ o .txs ∙ ap (λ z. z .txs) (sym i);
   memory = a .memory ∙ o .memory ∙ ap (λ z. z .memory) (sym i);
   csn = ap (λ (z : Image). z .ondisk .0) (a .image) ∙ o .csn ∙ ap (λ z. z .csn) (sym i);
+  last = omega (arith, o .last, ap (λ z. z .lastId) i, ap (λ (z : Image). z .lastid .0) (a .image));
   place = ap (λ (z : Image). z .logend) (a .image) ∙ o .place ∙ ap groupsSize (sym b);
   log = log;
 }

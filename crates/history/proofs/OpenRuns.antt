@@ -99,7 +99,7 @@ module _ (o : Opening) where
   step-closes s t e k (settles d l x listed committing on-disk) f q = clash (cc)
   step-closes s t e k (checkpoints d l) f q = clash (cc)
   step-closes s t e k (checkpointIsCut d l) f q = refl
-  step-closes s t e k (restarts s′ lastId image-ids group-ids) f q = clash (cc)
+  step-closes s t e k (restarts s′ lastId image-last image-ids group-ids) f q = clash (cc)
   step-closes s t e k (restartIsCut s′) f q = refl
 
   closes : (s : System) (k : Ledger) → Run o s k → isDown s ≡ true → k .active ≡ []
@@ -176,5 +176,5 @@ module _ (o : Opening) where
   step-back s t e i name (settles d l x listed committing on-disk) q = clash (cc)
   step-back s t e i name (checkpoints d l) q = clash (cc)
   step-back s t e i name (checkpointIsCut d l) q = clash (cc)
-  step-back s t e i name (restarts s′ lastId image-ids group-ids) q = clash (cc)
+  step-back s t e i name (restarts s′ lastId image-last image-ids group-ids) q = clash (cc)
   step-back s t e i name (restartIsCut s′) q = clash (cc)

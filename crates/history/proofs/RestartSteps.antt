@@ -21,7 +21,7 @@ use Rattle.transaction.specs.declared.Tx.{Tx as Slot}
 use Rattle.transaction.specs.Flat.{emptyTx}
 use Rattle.image.specs.Content.{transactionsIn}
 use Rattle.restart.specs.Forward.{groupsOf}
-use Rattle.restart.proofs.Recovery.{last-above-image, last-above-groups}
+use Rattle.restart.proofs.Recovery.{last-above-last, last-above-image, last-above-groups}
 use Rattle.store.specs.declared.State.{State}
 use Rattle.store.specs.View.{live}
 use Rattle.store.proofs.Stepping.{SizedState}
@@ -83,9 +83,13 @@ module _ {from : Start} (disk : List ℕ) (d : Disk) (o : OnDisk from disk d) (n
   abbrev last : ℕ
   last = examineOf disk .result .last .0
 
-  -- it is at least each id in the image and in the groups after it
+  -- it is at least the image's, each id in the image and in the groups after it
   last-is : stepsIn disk .answer .last .0 ≡ last
   last-is = ap (λ (m : Meaning). m .result .last .0) (sym (ok .is))
+
+  image-last : d .image .lastId ≤ last
+  unfolding stepsOf
+  image-last = omega (arith, o .last, last-is, last-above-last (imageIn disk) (ok .rules) (logIn disk) (memoryIn disk) (replicate 16384 0))
 
   ids-image : All (λ t. t .id ≤ last) (d .image .txs)
   unfolding stepsOf
@@ -161,7 +165,7 @@ restart-follows {from} w s o lm lt n room a =
             step =
                 subst (λ (e : ledger.Event). Step (opens from) s e (up d (afterRestart d (last (w .disk) d o n room))))
                 (ap ledger.restarted (sym (count-shown (w .disk) d o n room)))
-                (restarts s (last (w .disk) d o n room) (ids-image (w .disk) d o n room) (ids-groups (w .disk) d o n room));
+                (restarts s (last (w .disk) d o n room) (image-last (w .disk) d o n room) (ids-image (w .disk) d o n room) (ids-groups (w .disk) d o n room));
             shows = (shows-left (w .disk) d o n room a, awake (lives (w .disk) d o n room a h));
           })
       | no h ↦

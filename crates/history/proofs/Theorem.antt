@@ -136,7 +136,7 @@ module _ (from : Start) where
   step-settles s t e k id r (flushIsCut d l n allowed few) q = clash (cc)
   step-settles s t e k id r (checkpoints d l) q = clash (cc)
   step-settles s t e k id r (checkpointIsCut d l) q = clash (cc)
-  step-settles s t e k id r (restarts s′ lastId image-ids group-ids) q = clash (cc)
+  step-settles s t e k id r (restarts s′ lastId image-last image-ids group-ids) q = clash (cc)
   step-settles s t e k id r (restartIsCut s′) q = clash (cc)
 
   settle-found : (k : Watched) → Reached k → (id : ℕ) → stepOf (settle id) (k .world) .reply ≡ told done 0 0 → LatestDurable id (k .ledger)

@@ -10,8 +10,8 @@ use Rattle.inspect.specs.Page.{PageLeft, pageOf}
 use Rattle.store.specs.Answer.{Word, done, refused}
 
 -- a pointer byte, image A, and the log; B is zeros
-abbrev diskOf : ℕ → List ℕ → List ℕ → List ℕ
-diskOf pointer image log = pointer ∷ (image ++ (replicate 8653 0 ++ log))
+abbrev pub diskBytes : ℕ → List ℕ → List ℕ → List ℕ
+diskBytes pointer image log = pointer ∷ (image ++ (replicate 8653 0 ++ log))
 
 -- image A of a disk: log end and number on disk 0, one number and one id given, one transaction; the byte at 10 is 5, its old byte 0
 abbrev imageOf : ℕ → ℕ → ℕ → List ℕ
@@ -23,16 +23,16 @@ imageOf assigned status csn =
 abbrev m1 : List ℕ
 m1 = 0x01 ∷ 0x00 ∷ 0x01 ∷ 0x00 ∷ 0x0A ∷ 0x02 ∷ 0x41 ∷ 0x42 ∷ 0x01 ∷ 0x02 ∷ 0x00 ∷ 0x01 ∷ 0x00 ∷ 0x00 ∷ 0x00 ∷ 0x01 ∷ []
 
-abbrev diskM1 : ℕ → ℕ → List ℕ
-diskM1 pointer last = diskOf pointer (replicate 8653 0) (m1 ++ (last ∷ replicate 16367 0))
+abbrev pub diskM1 : ℕ → ℕ → List ℕ
+diskM1 pointer last = diskBytes pointer (replicate 8653 0) (m1 ++ (last ∷ replicate 16367 0))
 
 -- "Id 1 writes 5 over 0 at 10, checkpoint, abort; id 2 writes 7 there, precommit, flush 2"
-abbrev diskM3 : List ℕ
-diskM3 = diskOf 1 (imageOf 0 1 0) ((3 ∷ 0 ∷ 1 ∷ 3 ∷ 1 ∷ 0 ∷ 2 ∷ 0 ∷ 10 ∷ 1 ∷ 7 ∷ 1 ∷ 2 ∷ 0 ∷ 2 ∷ 0 ∷ 0 ∷ 0 ∷ 1 ∷ 2 ∷ []) ++ replicate 16364 0)
+abbrev pub diskM3 : List ℕ
+diskM3 = diskBytes 1 (imageOf 0 1 0) ((3 ∷ 0 ∷ 1 ∷ 3 ∷ 1 ∷ 0 ∷ 2 ∷ 0 ∷ 10 ∷ 1 ∷ 7 ∷ 1 ∷ 2 ∷ 0 ∷ 2 ∷ 0 ∷ 0 ∷ 0 ∷ 1 ∷ 2 ∷ []) ++ replicate 16364 0)
 
 -- "Id 1 writes 5 at 10, precommit, checkpoint, no flush": restart's step 4 undoes it
 abbrev diskM4 : List ℕ
-diskM4 = diskOf 1 (imageOf 1 2 1) (replicate 16384 0)
+diskM4 = diskBytes 1 (imageOf 1 2 1) (replicate 16384 0)
 
 -- what is told, and the byte of memory at 10
 pub record Shown : Type 0 where
@@ -85,20 +85,20 @@ crossingImage high low =
 
 -- such a redo record in the log; such an undo record, undone by step 4; the same undone by an abort in the log, then the redo record of another
 abbrev crossingRedo : List ℕ
-crossingRedo = diskOf 0 (replicate 8653 0) (crossingGroup 1 ++ replicate 16366 0)
+crossingRedo = diskBytes 0 (replicate 8653 0) (crossingGroup 1 ++ replicate 16366 0)
 
 abbrev crossingUndo : List ℕ
-crossingUndo = diskOf 1 (crossingImage 0 0) (replicate 16384 0)
+crossingUndo = diskBytes 1 (crossingImage 0 0) (replicate 16384 0)
 
 abbrev crossingBoth : List ℕ
-crossingBoth = diskOf 1 (crossingImage 0 0) ((3 ∷ 0 ∷ 1 ∷ 3 ∷ crossingGroup 2) ++ replicate 16362 0)
+crossingBoth = diskBytes 1 (crossingImage 0 0) ((3 ∷ 0 ∷ 1 ∷ 3 ∷ crossingGroup 2) ++ replicate 16362 0)
 
 -- a log end of 16,384 leaves no room for the abort record; 16,385 breaks an image rule
 abbrev noRoom : List ℕ
-noRoom = diskOf 1 (crossingImage 0x40 0x00) (replicate 16384 0)
+noRoom = diskBytes 1 (crossingImage 0x40 0x00) (replicate 16384 0)
 
 abbrev badImage : List ℕ
-badImage = diskOf 1 (crossingImage 0x40 0x01) (replicate 16384 0)
+badImage = diskBytes 1 (crossingImage 0x40 0x01) (replicate 16384 0)
 
 -- the word, and three bytes of the page from a place on
 pub record PageShown : Type 0 where

@@ -2,3 +2,6 @@
 pub mod Groups
 pub mod Page
 pub mod Cases
+pub mod Outcomes
+pub mod Walk
+pub mod OutcomeCases

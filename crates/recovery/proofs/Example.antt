@@ -34,7 +34,7 @@ m1Old = record { addr = 10; bytes = 0 ∷ 0 ∷ [] }
 unfoldable m1 : History
 unfolding undoOrder standingBefore
 m1 =
-    let r0 = next opened (restarts _ 0 nil nil) in
+    let r0 = next opened (restarts _ 0 (lit≤ tt) nil nil) in
     let r1 = next r0 (begins _ _ (lit≤ tt)) in
     let r2 = next r1 (writes _ _ (newTx 1) m1Write refl refl (lit≤ tt) refl (lit≤ tt)) in
     let r3 = next r2 (precommits _ _ (withWrite m1Old m1Write (newTx 1)) refl refl) in
@@ -61,7 +61,7 @@ m1-cut-recovers = theorem store (m1-cut .run) .restores
 unfoldable pub m3 : History
 unfolding undoOrder standingBefore
 m3 =
-    let r0 = next opened (restarts _ 0 nil nil) in
+    let r0 = next opened (restarts _ 0 (lit≤ tt) nil nil) in
     let r1 = next r0 (begins _ _ (lit≤ tt)) in
     let r2 = next r1 (writes _ _ (newTx 1) (byte10 5) refl refl (lit≤ tt) refl (lit≤ tt)) in
     let r3 = next r2 (checkpoints _ _) in
@@ -102,7 +102,7 @@ back = withWrite (byte11 6) (byte11 0) tried
 unfoldable before : History
 unfolding undoOrder standingBefore
 before =
-    let r0 = next opened (restarts _ 0 nil nil) in
+    let r0 = next opened (restarts _ 0 (lit≤ tt) nil nil) in
     let r1 = next r0 (begins _ _ (lit≤ tt)) in
     let r2 = next r1 (writes _ _ (newTx 1) (byte10 5) refl refl (lit≤ tt) refl (lit≤ tt)) in
     let r3 = next r2 (setsSavepoint _ _ (withWrite (byte10 0) (byte10 5) (newTx 1)) 7 refl refl) in

@@ -5,12 +5,12 @@ use mathlib.Core.Bool.{Bool, true, false, not, _||_, _&&_, or-true}
 use mathlib.Core.List.{List, [], _∷_, _++_}
 use Prim.Native.Nat.{ℕ}
 use lib.Dec.{eqb}
-use borrow.Author.Tests.{ne-eqb}
+use borrow.Author.Tests.{ne-eqb, eqb-false}
 use Rattle.recovery.specs.Group.{Group}
 use Rattle.recovery.specs.Lists.{All, nil, cons, has}
 use Rattle.recovery.specs.Transaction.{Tx}
 use Rattle.recovery.specs.Restart.{groupId, finished, unfinished, aborts}
-use Rattle.recovery.proofs.Bool.{eqb-same, or-both}
+use Rattle.recovery.proofs.Bool.{eqb-same, or-both, or-left, or-right}
 use Rattle.recovery.proofs.Lists.{all-map, filter-all, filter-filter, filter-out, filter-append}
 use Rattle.recovery.proofs.Distinct.{distinct-others}
 use Rattle.recovery.proofs.Transactions.{DistinctIds, isUnfinished}
@@ -24,6 +24,14 @@ pub unmarked : {i : ℕ} (f : List ℕ) {gs : List Group} → All (λ g. groupId
 unmarked f nil h = h
 unmarked {i} f (cons {x = g} n ns) h =
     unmarked (groupId g ∷ f) ns (or-both (eqb i (groupId g)) (has i f) (ne-eqb i (groupId g) (λ e. n (sym e))) h)
+
+-- and one that they leave unfinished has no group among them
+pub ungrouped : {i : ℕ} (f : List ℕ) (gs : List Group) → has i (finished gs f) ≡ false → All (λ g. groupId g ≢ i) gs × (has i f ≡ false)
+ungrouped f [] h = (nil, h)
+ungrouped {i} f (g ∷ gs) h =
+    let rest = ungrouped (groupId g ∷ f) gs h in
+    let own : eqb i (groupId g) ≡ false = or-left (eqb i (groupId g)) (has i f) (rest .1) in
+    (cons {x = g} (λ e. eqb-false i (groupId g) own (sym e)) (rest .0), or-right (eqb i (groupId g)) (has i f) (rest .1))
 
 -- one more finished id leaves out the transaction that has it
 

@@ -170,7 +170,7 @@ module _ (o : Opening) where
   step-lays s t e (settles d l x listed committing on-disk) u r r′ was is run = remove-lays (l .memory) (l .txs) r r′ x was u is
   step-lays s t e (checkpoints d l) u r r′ was is run = laid-found was is
   step-lays s t e (checkpointIsCut d l) u r r′ was is run = absurd (some-none is refl)
-  step-lays s t e (restarts s′ lastId image-ids group-ids) u r r′ was is run = absurd (some-none is refl)
+  step-lays s t e (restarts s′ lastId image-last image-ids group-ids) u r r′ was is run = absurd (some-none is refl)
   step-lays s t e (restartIsCut s′) u r r′ was is run = absurd (some-none is refl)
 
   -- ---- and over any list of calls

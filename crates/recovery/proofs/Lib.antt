@@ -36,4 +36,5 @@ pub mod CheckpointStep
 pub mod RestartStep
 pub mod Theorem
 pub mod Lasting
+pub mod Once
 pub mod Example

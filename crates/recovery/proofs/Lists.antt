@@ -76,6 +76,19 @@ module _ {A : Type 0} where
   pub all-edit : {p : A → Type 0} (xs : List A) (r r′ : A) (ys : List A) → (p r → p r′) → All p (xs ++ r ∷ ys) → All p (xs ++ r′ ∷ ys)
   all-edit xs r r′ ys f h = all-more xs r′ ys (f (all-here xs r ys h)) (all-less xs r ys h)
 
+  -- what holds of each pair of two lists
+  pub all-swap : {B : Type 0} {r : A → B → Type 0} (xs : List A) {ys : List B} → All (λ y. All (λ x. r x y) xs) ys → All (λ x. All (r x) ys) xs
+  all-swap [] h = nil
+  all-swap {B = B} {r = r} (x ∷ xs) h = cons (firsts h) (all-swap xs (rests h))
+    where
+      firsts : {ys : List B} → All (λ y. All (λ z. r z y) (x ∷ xs)) ys → All (r x) ys
+      firsts nil = nil
+      firsts (cons (cons k ks) hs) = cons k (firsts hs)
+
+      rests : {ys : List B} → All (λ y. All (λ z. r z y) (x ∷ xs)) ys → All (λ y. All (λ z. r z y) xs) ys
+      rests nil = nil
+      rests (cons (cons k ks) hs) = cons ks (rests hs)
+
   -- what holds of every element for each of many numbers
   pub all-every : {p : ℕ → Type 0} {q : ℕ → A → Type 0} (xs : List A) → ((a : ℕ) → p a → All (q a) xs) → All (λ x. (a : ℕ) → p a → q a x) xs
   all-every [] f = nil

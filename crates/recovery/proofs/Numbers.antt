@@ -1,7 +1,7 @@
 -- Commit numbers along a log: each is the previous one plus 1.
 use mathlib.Core.Path.{_≡_, sym, ap, _∙_, subst}
 use mathlib.Core.List.{List, [], _∷_, _++_}
-use Prim.Native.Nat.{ℕ, suc, _<_}
+use Prim.Native.Nat.{ℕ, suc, _≤_, _<_}
 use native.Mathlib.Omega.{arith}
 use Rattle.recovery.specs.Group.{Write, Group, committed, aborted, lastCsn}
 use Rattle.recovery.specs.Lists.{All, nil, cons}
@@ -21,6 +21,16 @@ pub consecutive-append : {n : ℕ} {gs hs : List Group} → Consecutive n gs →
 consecutive-append consecutive-nil k = k
 consecutive-append (consecutive-abort c) k = consecutive-abort (consecutive-append c k)
 consecutive-append (consecutive-commit e c) k = consecutive-commit e (consecutive-append c k)
+
+pub consecutive-right : {n : ℕ} (gs : List Group) {hs : List Group} → Consecutive n (gs ++ hs) → Consecutive (lastCsn n gs) hs
+consecutive-right [] c = c
+consecutive-right (aborted i ∷ gs) (consecutive-abort c) = consecutive-right gs c
+consecutive-right (committed i m ws ∷ gs) (consecutive-commit e c) = consecutive-right gs c
+
+pub consecutive-grows : {n : ℕ} {gs : List Group} → Consecutive n gs → n ≤ lastCsn n gs
+consecutive-grows consecutive-nil = omega arith
+consecutive-grows (consecutive-abort c) = consecutive-grows c
+consecutive-grows (consecutive-commit {n} {m} {gs} e c) = let h : m ≤ lastCsn m gs = consecutive-grows c in omega arith
 
 pub consecutive-tied : {n : ℕ} {T : List Group} {cs : List Tx} → Tied n T cs → Consecutive n T
 consecutive-tied tied-nil = consecutive-nil

@@ -39,7 +39,7 @@ undoes-aborts : (a x : ℕ) (us : List Tx) → Undoes a x (aborts us) []
 undoes-aborts a x [] = undoes-nil
 undoes-aborts a x (u ∷ us) = undoes-abort (undoes-aborts a x us)
 
-distinct-aborts : {us : List Tx} → DistinctIds us → Distinct groupId (aborts us)
+pub distinct-aborts : {us : List Tx} → DistinctIds us → Distinct groupId (aborts us)
 distinct-aborts empty = empty
 distinct-aborts (more h d) = more (all-mapped abortOf h) (distinct-aborts d)
 

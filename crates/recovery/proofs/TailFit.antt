@@ -83,7 +83,7 @@ tied-low tied-nil = nil
 tied-low (tied-abort t) = tied-low t
 tied-low (tied-commit {d} {gs} {c} e f g t) = let h : suc d ≤ lastCsn (suc d) gs = tied-grows t in rw g (cons {x = c} (omega arith) (tied-low t))
 
-tied-ids : (q : ℕ → Type 0) {d : ℕ} {T : List Group} {cs : List Tx} → Tied d T cs → All (λ g. q (groupId g)) T → All (λ c. q (c .id)) cs
+pub tied-ids : (q : ℕ → Type 0) {d : ℕ} {T : List Group} {cs : List Tx} → Tied d T cs → All (λ g. q (groupId g)) T → All (λ c. q (c .id)) cs
 tied-ids q tied-nil h = nil
 tied-ids q (tied-abort t) (cons h hs) = tied-ids q t hs
 tied-ids q (tied-commit {c} e f g t) (cons h hs) = cons {x = c} (rw e h) (tied-ids q t hs)

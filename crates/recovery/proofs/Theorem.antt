@@ -42,7 +42,7 @@ use Rattle.recovery.proofs.RestartStep.{restart-keeps}
 
 module _ (o : Opening) where
   -- the disk alone
-  lasts : (s : System) (k : Ledger) → Inv o s k → Down o (diskOf s) k
+  pub lasts : (s : System) (k : Ledger) → Inv o s k → Down o (diskOf s) k
   lasts (down d) k v = v
   lasts (up d l) k v = crash o d l k v
 
@@ -60,7 +60,7 @@ module _ (o : Opening) where
   keeps s t e k (settles d l r listed committing on-disk) v = settle-keeps o d l k r listed committing on-disk v
   keeps s t e k (checkpoints d l) v = checkpoint-keeps o d l k v
   keeps s t e k (checkpointIsCut d l) v = down-emptied o d k (crash o d l k v)
-  keeps s t e k (restarts s′ lastId image-ids group-ids) v = restart-keeps o (diskOf s′) k lastId image-ids group-ids (lasts s′ k v)
+  keeps s t e k (restarts s′ lastId image-last image-ids group-ids) v = restart-keeps o (diskOf s′) k lastId image-ids group-ids (lasts s′ k v)
   keeps s t e k (restartIsCut s′) v = down-emptied o (diskOf s′) k (lasts s′ k v)
 
   start : Down o (openingDisk o) (noLedger (o .memory))

@@ -28,11 +28,12 @@ pub record Opening : Type 0 where
 abbrev pub freshOpening : ℕ → ℕ → Opening
 freshOpening size capacity = record { size = size; capacity = capacity; memory = replicate size 0; csn = 0; sized = length-replicate size 0 }
 
--- what recovery needs of a checkpoint image; csn: the last commit number on disk
+-- what recovery needs of a checkpoint image; csn: the last commit number on disk; lastId: the last id given
 pub record Image : Type 0 where
   pub txs : List Tx
   pub memory : List ℕ
   pub csn : ℕ
+  pub lastId : ℕ
 
 -- the image in use, and every group stored whole since the opening: those stored before the image was, and those after it
 pub record Disk : Type 0 where
@@ -71,7 +72,7 @@ diskOf (down d) = d
 diskOf (up d l) = d
 
 abbrev pub openingDisk : Opening → Disk
-openingDisk o = record { image = record { txs = []; memory = o .memory; csn = o .csn }; before = []; after = [] }
+openingDisk o = record { image = record { txs = []; memory = o .memory; csn = o .csn; lastId = 0 }; before = []; after = [] }
 
 -- r is what the list has under its id
 abbrev pub Listed : Tx → List Tx → Type 0
@@ -184,7 +185,8 @@ abbrev pub withoutRedo : Tx → Tx
 withoutRedo t = record { id = t .id; committing = t .committing; csn = t .csn; undo = t .undo; redo = []; savepoints = [] }
 
 abbrev pub afterCheckpoint : Disk → Live → Disk
-afterCheckpoint d l = record { image = record { txs = map withoutRedo (l .txs); memory = l .memory; csn = l .csn }; before = historyOf d; after = [] }
+afterCheckpoint d l =
+    record { image = record { txs = map withoutRedo (l .txs); memory = l .memory; csn = l .csn; lastId = l .lastId }; before = historyOf d; after = [] }
 
 -- Restart: what it undoes, the memory it leaves, and the live state, up to the last id.
 abbrev pub undoneBy : Disk → List Tx
@@ -230,8 +232,9 @@ module _ (o : Opening) where
     -- until its last store, the pointer byte, a checkpoint leaves the old image in use
     checkpoints : (d : Disk) (l : Live) → Step (up d l) unchanged (up (afterCheckpoint d l) l)
     checkpointIsCut : (d : Disk) (l : Live) → Step (up d l) (cut unchanged) (down d)
-    -- from any system: the current may fail between two calls. The last id is at least each id in the image and in the groups read.
-    restarts : (s : System) (lastId : ℕ) → All (λ t. t .id ≤ lastId) (diskOf s .image .txs) → All (λ g. groupId g ≤ lastId) (diskOf s .after)
+    -- from any system: the current may fail between two calls. The last id is at least the image's, each id in the image and in the groups read.
+    restarts : (s : System) (lastId : ℕ) → diskOf s .image .lastId ≤ lastId → All (λ t. t .id ≤ lastId) (diskOf s .image .txs)
+        → All (λ g. groupId g ≤ lastId) (diskOf s .after)
         → Step s (restarted (length (undoneBy (diskOf s)))) (up (diskOf s) (afterRestart (diskOf s) lastId))
     restartIsCut : (s : System) → Step s (cut unchanged) (down (diskOf s))
 

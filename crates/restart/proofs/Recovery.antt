@@ -170,7 +170,10 @@ module _ (image : Image) (ok : keepsRules image ≡ true) where
       unfolding recoverOf forwardOf
       last-is = counted image (groupsOf image log) (startOf image m) .last
 
-      -- it is at least each id in the image and in the groups read
+      -- it is at least the image's, each id in the image and in the groups read
+      pub last-above-last : image .lastid .0 ≤ recoverOf image log m tail .answer .last .0
+      last-above-last = let l = last-is in omega arith
+
       pub last-above-image : All (λ t. t .id ≤ recoverOf image log m tail .answer .last .0) (transactionsIn image)
       last-above-image =
           rw txs-up (all-up (transactionAt image) (image .count) 0

@@ -42,7 +42,7 @@ module _ (o : Opening) where
   keeps s t e k (settles d l r listed committing on-disk) c v = settled-reading (o .memory) k v (r .id)
   keeps s t e k (checkpoints d l) c v = v
   keeps s t e k (checkpointIsCut d l) c v = cut-resting (o .memory) k v
-  keeps s t e k (restarts s′ lastId image-ids group-ids) c v = restarted-reading (o .memory) k (length (undoneBy (diskOf s′))) (durables s′ k v)
+  keeps s t e k (restarts s′ lastId image-last image-ids group-ids) c v = restarted-reading (o .memory) k (length (undoneBy (diskOf s′))) (durables s′ k v)
   keeps s t e k (restartIsCut s′) c v = record { order = durables s′ k v; none-open = refl; none-queued = refl }
 
   pub read-keeps : {s t : System} {k : LedgerWithReads} {f : Fed} → ReadStep o s k f t → Inv o s (withoutReads k) → ReadInv s k → ReadInv t (feed f k)

@@ -3,14 +3,20 @@ mod line;
 mod record;
 
 use crate::line::Report;
+use crate::line::adler;
 use crate::line::print_line;
 use crate::line::print_unknown;
+use crate::record::IDS;
 use crate::record::Record;
 use crate::record::data_of;
+use crate::record::ids_count;
+use crate::record::ids_of;
 use crate::record::read_record;
+use crate::record::smaller;
 use disk::call::restart;
 use disk::equal::equal;
 use inspect::groups::first_groups;
+use inspect::outcomes::outcomes;
 use inspect::page::read_page;
 use layout::DISK_LEN;
 use layout::MEMORY_LEN;
@@ -99,8 +105,19 @@ fn page_call(r: Record, s: State, disk: &[u8], seen: &mut [u8]) -> Report {
     Report::stored(answer, 0, 0, s)
 }
 
-// The calls that look at the disk without a state, into a buffer of the stream's own, which is the line's memory.
-fn look(r: Record, s: State, disk: &[u8], tail: &[u8]) -> State {
+// The outcomes of the record's ids, into a list of the stream's own of that length or, where it hasn't so many, all of it. Value and stores are the
+// groups walked and the list's checksum.
+fn outcomes_call(bytes: &[u8], s: State, disk: &[u8], list: &mut [u8], len: usize) -> Report {
+    let ids = ids_of(bytes);
+    let count = ids_count(bytes);
+    let room = smaller(len, list.len());
+    let x = outcomes(disk, &ids[..count], &mut list[..room]);
+    let answer = x.answer;
+    Report::stored(answer, x.groups, adler(&list[..room]) as usize, s)
+}
+
+// The calls that look at the disk without a state, into a buffer of the stream's own, which is the line's memory; the list of outcomes is not.
+fn look(bytes: &[u8], r: Record, s: State, disk: &[u8], memory: &[u8], tail: &[u8]) -> State {
     let call = r.call;
     if call == 15 {
         let mut seen = [165u8; MEMORY_LEN];
@@ -108,9 +125,15 @@ fn look(r: Record, s: State, disk: &[u8], tail: &[u8]) -> State {
         print_line(call, out, disk, &seen, tail);
         return out.state;
     }
-    let mut seen = [165u8; PAGE_LEN];
-    let out = page_call(r, s, disk, &mut seen);
-    print_line(call, out, disk, &seen, tail);
+    if call == 16 {
+        let mut seen = [165u8; PAGE_LEN];
+        let out = page_call(r, s, disk, &mut seen);
+        print_line(call, out, disk, &seen, tail);
+        return out.state;
+    }
+    let mut list = [165u8; IDS];
+    let out = outcomes_call(bytes, s, disk, &mut list, r.len);
+    print_line(call, out, disk, memory, tail);
     out.state
 }
 
@@ -204,7 +227,7 @@ fn step(
             print_line(call, out, &*disk, &*memory, &*tail);
             out.state
         }
-        15 | 16 => look(r, s, &*disk, &*tail),
+        15 | 16 | 19 => look(bytes, r, s, &*disk, &*memory, &*tail),
         _ => {
             print_unknown();
             s

@@ -2,8 +2,9 @@
 use log::TxId;
 use log::number::be16;
 use log::number::be32;
+ghost use Prim.Native.Nat.{min};
 ghost use mathlib.Core.Path.{_≡_};
-ghost use Rattle.trace.specs.Record.{recordOf, dataOf};
+ghost use Rattle.trace.specs.Record.{recordOf, dataOf, idsCount, idsOf};
 
 pub struct Record {
     pub call: u8,
@@ -54,6 +55,44 @@ pub(crate) fn data_of(b: &[u8]) -> &[u8]
     }
     let end = 24 + wide(n);
     &b[24..end]
+}
+
+// The most ids of a record of call 19, two bytes each: as many as the data has room for.
+pub(crate) const IDS: usize = 20;
+
+// How many of them: a count above 20 counts as 20.
+pub(crate) fn ids_count(b: &[u8]) -> usize
+    ensures { λ r. ⌜ r ≡ idsCount (now (b .entry)) ⌝ }
+{
+    if b.len() != 64 {
+        return 0;
+    }
+    smaller(wide(b[1]), IDS)
+}
+
+// All that the data has room for. Zeros, where the bytes are not 64.
+pub(crate) fn ids_of(b: &[u8]) -> [u16; IDS]
+    ensures { λ r. ⌜ r ≡ idsOf (now (b .entry)) ⌝ }
+{
+    if b.len() != 64 {
+        return [0; IDS];
+    }
+    let mut ids = [0u16; IDS];
+    let mut i: usize = 0;
+    while i < IDS {
+        ids[i] = be16(b, 24 + 2 * i);
+        i += 1;
+    }
+    ids
+}
+
+pub(crate) fn smaller(a: usize, b: usize) -> usize
+    ensures { λ r. ⌜ r ≡ min a b ⌝ }
+{
+    if a < b {
+        return a;
+    }
+    b
 }
 
 fn wide(x: u8) -> usize

@@ -1,7 +1,7 @@
 //! The checker: follows a stream and asks after every call what the documents
 //! claim of it. Document 01's demand 3 and, of document 02, A.1 (where the log
-//! stopped), A.2 (who holds what), A.4 (what was read), A.6 (one page alone) and
-//! A.7 (what goes back).
+//! stopped), A.2 (who holds what), A.4 (what was read), A.6 (one page alone), A.7
+//! (what goes back) and A.8 (what the office is told).
 
 use std::collections::BTreeMap;
 
@@ -9,6 +9,7 @@ use crate::demand::{check_disk, check_ledger, check_stop, Expected};
 use crate::holds::check_holds;
 use crate::ledger::Ledger;
 use crate::needs::stores_of;
+use crate::office::check_outcomes;
 use crate::order::check_reads;
 use crate::pages::check_pages;
 use crate::returns::{check_undos, Found};
@@ -45,6 +46,7 @@ pub enum Claim {
     Reads,
     Pages,
     Returns,
+    Outcomes,
 }
 
 impl Claim {
@@ -57,6 +59,7 @@ impl Claim {
             Claim::Reads => "A.4",
             Claim::Pages => "A.6",
             Claim::Returns => "A.7",
+            Claim::Outcomes => "A.8",
         }
     }
 }
@@ -109,7 +112,7 @@ struct Checker {
     world: World,
     book: Book,
     found: Found,
-    /// The disk asked last, and how many were durable.
+    /// The disk asked last, and how many entries were on it.
     asked: (Vec<u8>, usize),
     checked: Checked,
     faults: Faults,
@@ -139,12 +142,12 @@ impl Checker {
         self.found.note(&before, &self.book.ledger);
         self.ask(Claim::Reads, call, ordered);
         let asked = (&self.asked.0, self.asked.1);
-        // The same disk and the same durable ones have the same answers.
-        if asked != (&self.world.disk, self.book.ledger.durable.len()) {
+        // The same disk and the same entries on it have the same answers.
+        if asked != (&self.world.disk, self.book.ledger.stored) {
             let disk = self.world.disk.clone();
             let book = std::mem::take(&mut self.book);
             self.ask_disk(&disk, &book, call);
-            self.asked = (disk, book.ledger.durable.len());
+            self.asked = (disk, book.ledger.stored);
             self.book = book;
         }
         self.ask(Claim::Demand3, call, check_ledger(&self.book.ledger));
@@ -182,6 +185,8 @@ impl Checker {
         self.ask(Claim::Demand3, call, held);
         self.ask(Claim::Stops, call, check_stop(disk));
         self.ask(Claim::Pages, call, check_pages(disk));
+        let told = check_outcomes(disk, &book.ledger);
+        self.ask(Claim::Outcomes, call, told);
     }
 
     fn ask(&mut self, claim: Claim, call: &Call, held: Result<(), String>) {

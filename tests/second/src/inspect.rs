@@ -1,5 +1,5 @@
-//! What looks at a disk, takes no state and stores nothing: the first groups
-//! and one page (document 02, A.3 and A.6).
+//! What looks at a disk, takes no state and stores nothing: the first groups,
+//! one page and the outcomes (document 02, A.3, A.6 and A.8).
 
 use crate::layout::{DISK_LEN, LOG, MEMORY_LEN, PAGES, PAGE_LEN};
 use crate::log::{read_log, Csn, Group};
@@ -46,4 +46,42 @@ pub fn one_page(disk: &[u8], buffer: &mut [u8], page: usize) -> Result<(), Refus
     let found = recover(disk)?;
     buffer.copy_from_slice(&found.memory[page * PAGE_LEN..(page + 1) * PAGE_LEN]);
     Ok(())
+}
+
+pub const COMMITTED: u8 = 1;
+pub const ABORTED: u8 = 2;
+
+/// What became of each id, by its last group in the log read from its first
+/// byte: committed, aborted, or 0 where it has none. Gives the count of groups.
+/// Numbers 1 and 20.
+pub fn outcomes(disk: &[u8], ids: &[u16], out: &mut [u8]) -> Result<usize, Refusal> {
+    if disk.len() != DISK_LEN {
+        return Err(1);
+    }
+    let rising = ids.windows(2).all(|pair| pair[0] < pair[1]);
+    if !rising || ids.len() != out.len() {
+        return Err(20);
+    }
+    out.fill(0);
+    let log = read_log(&disk[LOG..], Csn(0));
+    for group in &log.groups {
+        if let Ok(place) = ids.binary_search(&group.id().0) {
+            out[place] = group.csn().map_or(ABORTED, |_| COMMITTED);
+        }
+    }
+    Ok(log.groups.len())
+}
+
+/// The office's lines: each id with what became of it, or the refusal alone.
+pub fn outcome_lines(disk: &[u8], ids: &[u16]) -> String {
+    let mut told = vec![0; ids.len()];
+    if let Err(number) = outcomes(disk, ids, &mut told) {
+        return format!("refused={number}\n");
+    }
+    let line = |(id, outcome): (&u16, &u8)| match *outcome {
+        COMMITTED => format!("{id} committed\n"),
+        ABORTED => format!("{id} aborted\n"),
+        _ => format!("{id} neither\n"),
+    };
+    ids.iter().zip(&told).map(line).collect()
 }

@@ -72,6 +72,8 @@ pub struct Ledger {
     queue: Vec<Entry>,
     /// Document 01: kept.
     pub durable: Vec<Committed>,
+    /// How many entries have left the queue for the disk.
+    pub stored: usize,
     /// Serials of those settled for good.
     pub settled: Vec<usize>,
     /// Serials of those assigned (document 01: in force), in order.
@@ -232,6 +234,7 @@ impl Ledger {
             }
             leaving += 1;
         }
+        self.stored += leaving;
         for entry in self.queue.drain(..leaving) {
             if let Entry::Committed(committed) = entry {
                 self.durable.push(committed);

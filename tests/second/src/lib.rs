@@ -16,6 +16,7 @@ pub mod ledger;
 pub mod log;
 pub mod names;
 pub mod needs;
+pub mod office;
 pub mod order;
 pub mod pages;
 pub mod restart;

@@ -5,12 +5,14 @@ use std::process::ExitCode;
 
 use second::checker::Failures;
 use second::gen::{stream, Kind, KINDS};
+use second::inspect::outcome_lines;
 use second::restart::{disklist, equal_in_meaning};
 use second::{checker, stats, trace};
 
 const USAGE: &str = "\
 second trace                       records on standard input, a line for each
 second disklist                    one disk on standard input
+second outcomes ID...              what became of these ids, by the disk on standard input
 second equal A B                   are the disks in two files equal in meaning: yes or no
 second gen SEED RECORDS [KIND]     a stream of records (KIND: mixed if none)
 second kinds                       the kinds, each with 'damaged', 'undamaged' or 'long'
@@ -39,6 +41,7 @@ fn run(words: &[&str]) -> Result<Vec<u8>, String> {
     match words {
         ["trace"] => Ok(trace::trace(&input()?).into()),
         ["disklist"] => Ok(disklist(&input()?).into()),
+        ["outcomes", ids @ ..] => Ok(outcome_lines(&input()?, &parse_ids(ids)?).into()),
         ["equal", one, other] => {
             let equal = equal_in_meaning(&file(one)?, &file(other)?);
             Ok(if equal { "yes\n" } else { "no\n" }.into())
@@ -62,6 +65,11 @@ fn input() -> Result<Vec<u8>, String> {
 
 fn file(path: &str) -> Result<Vec<u8>, String> {
     std::fs::read(path).map_err(|e| format!("{path}: {e}"))
+}
+
+fn parse_ids(words: &[&str]) -> Result<Vec<u16>, String> {
+    let id = |word: &&str| word.parse().map_err(|_| format!("no id: {word}"));
+    words.iter().map(id).collect()
 }
 
 fn generate(seed: &str, records: &str, kind: &str) -> Result<Vec<u8>, String> {

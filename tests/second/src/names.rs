@@ -1,7 +1,8 @@
 //! What a call did, in words that can be counted.
 
+use crate::inspect::{outcomes, ABORTED, COMMITTED};
 use crate::layout::LOG;
-use crate::log::{read_log, read_record, Group, Record, Stop, TxId, Write};
+use crate::log::{read_log, read_record, Csn, Group, Record, Stop, TxId, Write};
 use crate::needs::{groups_to_restart, stores_needed};
 use crate::restart::{named_image, recover};
 use crate::state::Tx;
@@ -21,6 +22,9 @@ pub fn names(before: &World, call: &Call, outcome: &Outcome) -> Vec<String> {
         }
         Call::GoBack { id, name } if outcome.answer == Answer::Done => {
             names.extend(return_names(before, *id, *name));
+        }
+        Call::Outcomes { ids, length } => {
+            names.extend(outcome_names(&before.disk, ids, *length).map(str::to_string));
         }
         Call::Equal => names.extend(compared_names(before, outcome)),
         Call::FirstGroups { groups } => names.extend(first_groups_names(before, *groups)),
@@ -140,6 +144,37 @@ fn return_names(before: &World, id: TxId, name: u8) -> Vec<String> {
         names.push("after a checkpoint".to_string());
     }
     names
+}
+
+/// What the office is told, or why it is refused; whether an id has groups of
+/// both kinds, and whether groups stand before the image's place.
+fn outcome_names(disk: &[u8], ids: &[u16], length: usize) -> impl Iterator<Item = &'static str> {
+    let mut told = vec![0; length];
+    let done = outcomes(disk, ids, &mut told).is_ok();
+    let log = read_log(&disk[LOG..], Csn(0));
+    let both = |id: &u16| {
+        let own = log.groups.iter().filter(|group| group.id().0 == *id);
+        let kinds: Vec<bool> = own.map(|group| group.csn().is_some()).collect();
+        kinds.contains(&true) && kinds.contains(&false)
+    };
+    let image_behind = named_image(disk).is_ok_and(|(image, _)| image.log_end > 0);
+    let names = [
+        (done && ids.is_empty(), "of none"),
+        (done && ids.len() == 20, "of twenty"),
+        (done && told.contains(&COMMITTED), "some committed"),
+        (done && told.contains(&ABORTED), "some aborted"),
+        (done && told.contains(&0), "some neither"),
+        (done && ids.iter().any(both), "several groups of an id"),
+        (
+            done && image_behind && !log.groups.is_empty(),
+            "past an image's place",
+        ),
+        (!done && ids.len() == length, "not rising"),
+        (!done && ids.len() != length, "lengths unequal"),
+    ];
+    names
+        .into_iter()
+        .filter_map(|(is, name)| is.then_some(name))
 }
 
 /// The groups asked for, seen from those that there are; and a disk that

@@ -6,7 +6,7 @@ use std::collections::BTreeMap;
 use crate::names::names;
 use crate::trace::{calls, Call, World};
 
-const NAMES: [&str; 19] = [
+const NAMES: [&str; 20] = [
     "unknown",
     "begin",
     "write",
@@ -26,6 +26,7 @@ const NAMES: [&str; 19] = [
     "one page",
     "set savepoint",
     "go back",
+    "outcomes",
 ];
 
 /// Lines `count name`, sorted by name, then what the store grew to.

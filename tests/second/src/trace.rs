@@ -1,6 +1,6 @@
 //! The stream of 64-byte records: parsing, running and printing one line each.
 
-use crate::inspect::{first_groups, one_page};
+use crate::inspect::{first_groups, one_page, outcomes};
 use crate::layout::{be16, be32, DISK_LEN, MEMORY_LEN, PAGE_LEN, TAIL_LEN};
 use crate::log::{Stop, TxId};
 use crate::restart::{equal_in_meaning, restart};
@@ -10,6 +10,8 @@ use crate::stores::Stored;
 pub const RECORD_LEN: usize = 64;
 pub const DATA: usize = 24;
 pub const MAX_DATA: usize = 40;
+/// The ids, and the outcomes, that a record can ask for.
+pub const MAX_IDS: usize = 20;
 
 /// What memory and tail are filled with when the current fails, and a buffer
 /// that the stream lends.
@@ -75,6 +77,11 @@ pub enum Call {
         id: TxId,
         name: u8,
     },
+    /// The ids asked for, and the length of the list of outcomes.
+    Outcomes {
+        ids: Vec<u16>,
+        length: usize,
+    },
     Unknown {
         number: u8,
     },
@@ -117,6 +124,10 @@ impl Call {
             16 => Call::OnePage { page: address },
             17 => Call::SetSavepoint { id, name },
             18 => Call::GoBack { id, name },
+            19 => Call::Outcomes {
+                ids: ids(record),
+                length: length.min(MAX_IDS),
+            },
             number => Call::Unknown { number },
         }
     }
@@ -141,9 +152,16 @@ impl Call {
             Call::OnePage { .. } => 16,
             Call::SetSavepoint { .. } => 17,
             Call::GoBack { .. } => 18,
+            Call::Outcomes { .. } => 19,
             Call::Unknown { number } => *number,
         }
     }
+}
+
+/// The ids in a record's data, two bytes each.
+fn ids(record: &[u8; RECORD_LEN]) -> Vec<u16> {
+    let count = (record[1] as usize).min(MAX_IDS);
+    record[DATA..].chunks(2).take(count).map(be16).collect()
 }
 
 #[derive(Clone, Copy, Debug, PartialEq, Eq)]
@@ -164,9 +182,10 @@ pub struct Outcome {
     pub answer: Answer,
     /// Begin's id, precommit's csn, restart's count of transactions undone,
     /// the Adler-32 of read's part, the log end that the first groups reach,
-    /// else 0.
+    /// the count of groups that outcomes walk over, else 0.
     pub value: u32,
-    /// The stores made; of the first groups the last csn reached.
+    /// The stores made; of the first groups the last csn reached, of outcomes
+    /// the Adler-32 of their list.
     pub stores: usize,
     /// Of a restart that is done: why the log ended where it did.
     pub stop: Option<Stop>,
@@ -340,6 +359,14 @@ impl World {
                     stores: result.map_or(0, |reached| reached.csn.0 as usize),
                     lent: Some(adler32(&lent)),
                     ..Outcome::of_value(result.map(|reached| reached.log_end as u32))
+                })
+            }
+            Call::Outcomes { ids, length } => {
+                let mut lent = vec![JUNK; *length];
+                let result = outcomes(&self.disk, ids, &mut lent);
+                Some(Outcome {
+                    stores: adler32(&lent) as usize,
+                    ..Outcome::of_value(result.map(|groups| groups as u32))
                 })
             }
             Call::OnePage { page } => {

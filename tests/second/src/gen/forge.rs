@@ -69,11 +69,12 @@ impl RawImage {
 impl Generator {
     /// Forged disks by turns: an image with a log, a damaged live disk.
     pub fn damage(&mut self) {
-        match self.rng.below(7) {
+        match self.rng.below(8) {
             0..=2 => self.forged_disk(),
             3 => self.damaged_live_disk(),
             4 => self.damaged_pointer(),
             5 => self.broken_off(),
+            6 => self.several_groups_of_an_id(),
             _ => self.counters_at_their_end(),
         }
     }
@@ -81,10 +82,11 @@ impl Generator {
     /// Everything, in a fixed round; after the first part, each from an
     /// emptied log.
     pub fn mixed(&mut self) {
-        let parts: [(usize, Scene); 16] = [
+        let parts: [(usize, Scene); 17] = [
             (180, Generator::plain),
             (12, Generator::unrecovered),
             (80, Generator::broken_off),
+            (60, Generator::several_groups_of_an_id),
             (700, Generator::forged_disk),
             (80, Generator::counters_at_their_end),
             (80, Generator::damaged_pointer),
@@ -167,6 +169,48 @@ impl Generator {
         self.put(POINTER, &[1]);
         self.recover(25);
         self.live_call(&PLAIN);
+    }
+
+    /// A log, read from its first byte, with several groups of few ids, and an
+    /// image whose place is behind some of them; the office asks.
+    fn several_groups_of_an_id(&mut self) {
+        let mut last = Csn(0);
+        let mut groups = Vec::new();
+        for _ in 0..self.rng.between(3, 8) {
+            let id = TxId(self.rng.pick(&[1, 2, 3, 257, 258]));
+            let next = last.next().filter(|_| self.rng.percent(50));
+            groups.push(match next {
+                Some(csn) => {
+                    last = csn;
+                    let writes = Vec::new();
+                    Group::Commit { id, csn, writes }
+                }
+                None => Group::Abort { id },
+            });
+        }
+        let before = &groups[..self.rng.below(groups.len())];
+        let on_disk = before.iter().filter_map(Group::csn).next_back();
+        let on_disk = on_disk.unwrap_or(Csn(0)).0;
+        let image = RawImage {
+            log_end: before.iter().map(Group::size).sum::<usize>() as u16,
+            on_disk,
+            assigned: on_disk,
+            last_id: 258,
+            count: 0,
+            txs: Vec::new(),
+        };
+        let fault = self.rng.percent(30);
+        let mut log = self.forged_log(Csn(0), &groups, fault);
+        log.extend([0; 8]);
+        self.put(IMAGE_A, &image.header());
+        self.put(LOG, &log);
+        let pointer = self.rng.pick(&[0, 1, 1, 2, 3]);
+        self.put(POINTER, &[pointer]);
+        for _ in 0..3 {
+            self.ask_for_outcomes();
+        }
+        self.recover(20);
+        self.ask_for_outcomes();
     }
 
     fn near_full(&mut self) {

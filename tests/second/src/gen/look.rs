@@ -1,9 +1,13 @@
-//! Looks at the disk without a state: document 02, A.3 and A.6.
+//! Looks at the disk without a state: document 02, A.3, A.6 and A.8.
+
+use std::collections::BTreeSet;
 
 use super::Generator;
-use crate::layout::PAGES;
+use crate::layout::{LOG, PAGES};
+use crate::log::{read_log, Csn, Group, TxId};
 use crate::needs::groups_to_restart;
-use crate::trace::Call;
+use crate::restart::recover;
+use crate::trace::{Call, MAX_IDS};
 
 impl Generator {
     /// With the given chance, a look at the disk as it stands.
@@ -17,12 +21,14 @@ impl Generator {
     pub fn look_every_way(&mut self) {
         self.look_at_first_groups();
         self.look_at_pages();
+        self.ask_for_outcomes();
     }
 
     pub fn look(&mut self) {
-        match self.rng.below(2) {
+        match self.rng.below(3) {
             0 => self.look_at_first_groups(),
-            _ => self.look_at_pages(),
+            1 => self.look_at_pages(),
+            _ => self.ask_for_outcomes(),
         }
     }
 
@@ -48,5 +54,53 @@ impl Generator {
         for page in [page, page + 1].iter().take(self.rng.between(1, 2)) {
             self.emit(Call::OnePage { page: *page });
         }
+    }
+
+    /// Ids of the log and about, in rising order; now and then one of them twice
+    /// or out of order, or a list of outcomes of another length.
+    pub fn ask_for_outcomes(&mut self) {
+        let mut ids = self.ids_to_ask_for();
+        let mut length = ids.len();
+        match self.rng.below(12) {
+            0 if ids.len() > 1 => {
+                let place = self.rng.below(ids.len() - 1);
+                ids[place + 1] = ids[place];
+            }
+            1 if ids.len() > 1 => {
+                let place = self.rng.below(ids.len() - 1);
+                ids.swap(place, place + 1);
+            }
+            2 => length = self.rng.below(MAX_IDS + 1),
+            // A length above 20 counts as 20.
+            3 if length == MAX_IDS => length = self.rng.between(MAX_IDS, 70_000),
+            _ => {}
+        }
+        let asked = Call::Outcomes { ids, length };
+        self.emit(asked);
+    }
+
+    /// Most of transactions that the log has, or that a restart would undo.
+    fn ids_to_ask_for(&mut self) -> Vec<u16> {
+        let log = read_log(&self.world.disk[LOG..], Csn(0));
+        let count = self.rng.pick(&[0, 1, 3, 8, 19, 20, 20]);
+        let mut ids = BTreeSet::new();
+        let last = self.world.state.last_id.0;
+        let undone = recover(&self.world.disk).map_or(Vec::new(), |found| found.undone);
+        let ids_read = log.groups.iter().map(Group::id);
+        let found: Vec<TxId> = ids_read.chain(undone).collect();
+        for _ in 0..4 * count {
+            if ids.len() == count {
+                break;
+            }
+            let any = self.rng.draw() as u16;
+            let about = last.wrapping_add(self.rng.below(4) as u16).wrapping_sub(2);
+            let known = self.rng.percent(60) && !found.is_empty();
+            ids.insert(if known {
+                self.rng.pick(&found).0
+            } else {
+                self.rng.pick(&[0, 1, about, about, any, u16::MAX])
+            });
+        }
+        ids.into_iter().collect()
     }
 }

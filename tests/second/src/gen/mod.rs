@@ -14,7 +14,7 @@ use std::collections::BTreeMap;
 use crate::layout::LOG_LEN;
 use crate::needs::stores_needed;
 use crate::rng::Rng;
-use crate::trace::{Answer, Call, Outcome, World, DATA, MAX_DATA, RECORD_LEN};
+use crate::trace::{Answer, Call, Outcome, World, DATA, MAX_DATA, MAX_IDS, RECORD_LEN};
 
 /// What a stream is about.
 #[derive(Clone, Copy, Debug, PartialEq, Eq)]
@@ -199,48 +199,38 @@ impl Generator {
         let noise = self.rng.bytes(RECORD_LEN);
         let mut record: [u8; RECORD_LEN] = noise.try_into().expect("64 bytes");
         record[0] = call.number();
-        let mut put = |at: usize, value: usize| {
-            record[at..at + 4].copy_from_slice(&(value as u32).to_be_bytes());
-        };
-        match call {
-            Call::Write { address, .. } | Call::Damage { address, .. } => put(4, *address),
-            Call::Read {
-                address, length, ..
-            }
-            | Call::CheckRead {
-                address, length, ..
-            } => {
-                put(4, *address);
-                put(8, *length);
-            }
-            Call::Flush { groups, allowed } => {
-                put(12, *groups);
-                put(16, *allowed);
-            }
-            Call::Checkpoint { allowed } | Call::Restart { allowed } => put(16, *allowed),
-            Call::FirstGroups { groups } => put(12, *groups),
-            Call::OnePage { page } => put(4, *page),
-            _ => {}
-        }
+        put_numbers(call, &mut record);
         if let Call::SetSavepoint { name, .. } | Call::GoBack { name, .. } = call {
             record[1] = *name;
         }
         if let Some(id) = id_of(call) {
             record[2..4].copy_from_slice(&id.to_be_bytes());
         }
-        if let Call::Write { bytes, .. } | Call::Damage { bytes, .. } = call {
-            let count = bytes.len();
-            record[DATA..DATA + count].copy_from_slice(bytes);
-            // A count above 40 counts as 40.
-            let above = count == MAX_DATA && self.rng.percent(50);
-            let shown = if above {
-                self.rng.between(MAX_DATA, 255)
-            } else {
-                count
-            };
-            record[1] = shown as u8;
+        match call {
+            Call::Write { bytes, .. } | Call::Damage { bytes, .. } => {
+                record[DATA..DATA + bytes.len()].copy_from_slice(bytes);
+                record[1] = self.shown(bytes.len(), MAX_DATA);
+            }
+            Call::Outcomes { ids, .. } => {
+                let bytes = ids.iter().flat_map(|id| id.to_be_bytes());
+                let bytes: Vec<u8> = bytes.collect();
+                record[DATA..DATA + bytes.len()].copy_from_slice(&bytes);
+                record[1] = self.shown(ids.len(), MAX_IDS);
+            }
+            _ => {}
         }
         record
+    }
+
+    /// A count as a record has it: one above the most counts as the most.
+    fn shown(&mut self, count: usize, most: usize) -> u8 {
+        let above = count == most && self.rng.percent(50);
+        let shown = if above {
+            self.rng.between(most, 255)
+        } else {
+            count
+        };
+        shown as u8
     }
 
     /// Stores allowed to a call that needs so many: with the given chance too
@@ -277,7 +267,7 @@ impl Generator {
     }
 
     fn restart(&mut self, cut: usize) -> Outcome {
-        self.maybe_look(35);
+        self.maybe_look(40);
         let allowed = self.allowance(&Call::Restart { allowed: 0 }, cut);
         self.emit(Call::Restart { allowed })
     }
@@ -301,10 +291,38 @@ impl Generator {
         let mut bytes = self.out.concat();
         if self.rng.percent(70) {
             let count = self.rng.between(1, RECORD_LEN - 1);
-            bytes.push(self.rng.between(1, 18) as u8);
+            bytes.push(self.rng.between(1, 19) as u8);
             bytes.extend(self.rng.bytes(count - 1));
         }
         bytes
+    }
+}
+
+/// Address, length, groups and stores allowed, in the four bytes of each.
+fn put_numbers(call: &Call, record: &mut [u8; RECORD_LEN]) {
+    let mut put = |at: usize, value: usize| {
+        record[at..at + 4].copy_from_slice(&(value as u32).to_be_bytes());
+    };
+    match call {
+        Call::Write { address, .. } | Call::Damage { address, .. } => put(4, *address),
+        Call::Read {
+            address, length, ..
+        }
+        | Call::CheckRead {
+            address, length, ..
+        } => {
+            put(4, *address);
+            put(8, *length);
+        }
+        Call::Flush { groups, allowed } => {
+            put(12, *groups);
+            put(16, *allowed);
+        }
+        Call::Checkpoint { allowed } | Call::Restart { allowed } => put(16, *allowed),
+        Call::FirstGroups { groups } => put(12, *groups),
+        Call::OnePage { page } => put(4, *page),
+        Call::Outcomes { length, .. } => put(8, *length),
+        _ => {}
     }
 }
 

@@ -6,6 +6,7 @@ mod inspect;
 mod ledger;
 mod number2;
 mod order;
+mod outcomes;
 mod pages;
 mod reads;
 mod restart;

@@ -1,0 +1,2 @@
+-- That the outcomes told and the ledger agree.
+pub mod Agreeing
