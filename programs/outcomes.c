@@ -32,25 +32,44 @@ static long id_of(const char *argument, long before)
     return id;
 }
 
+/* What was read is what a disk has and at most one byte more, so that an input too long is refused as one too short is. */
+static size_t read_disk(unsigned char *disk)
+{
+    size_t length = fread(disk, 1, LUPPANETH_DISK_LEN + 1, stdin);
+    if (ferror(stdin)) {
+        fprintf(stderr, "outcomes: standard input can't be read\n");
+        exit(FAILED);
+    }
+    return length;
+}
+
+static void print_lines(const uint16_t *ids, const unsigned char *outcomes, size_t count)
+{
+    static const char *const words[] = {[LUPPANETH_NEITHER] = "neither", [LUPPANETH_COMMITTED] = "committed", [LUPPANETH_ABORTED] = "aborted"};
+    size_t i;
+    for (i = 0; i < count; i++)
+        printf("%u %s\n", ids[i], words[outcomes[i]]);
+}
+
 int main(int argc, char **argv)
 {
-    /* One byte more than a disk has, so that an input too long is refused as one too short is. */
     static unsigned char disk[LUPPANETH_DISK_LEN + 1], outcomes[IDS];
     static uint16_t ids[IDS];
-    static const char *const words[] = {[LUPPANETH_NEITHER] = "neither", [LUPPANETH_COMMITTED] = "committed", [LUPPANETH_ABORTED] = "aborted"};
     struct luppaneth_outcomes_reply r;
-    size_t count = 0, length, i;
+    size_t count, length;
     long id = -1;
-    for (; count + 1 < (size_t)argc; count++) {
+    for (count = 0; count + 1 < (size_t)argc; count++) {
         id = id_of(argv[count + 1], id);
         ids[count] = (uint16_t)id;
     }
-    length = fread(disk, 1, sizeof disk, stdin);
+    length = read_disk(disk);
     r = luppaneth_outcomes(disk, length, ids, count, outcomes, count);
-    if (r.number != 0)
+    if (r.number == 0) {
+        print_lines(ids, outcomes, count);
+    } else {
         printf("refused=%u\n", r.number);
-    for (i = 0; r.number == 0 && i < count; i++)
-        printf("%u %s\n", ids[i], words[outcomes[i]]);
+        fprintf(stderr, "outcomes: standard input is no disk: a disk has %d bytes\n", LUPPANETH_DISK_LEN);
+    }
     if (fflush(stdout) != 0 || ferror(stdout)) {
         fprintf(stderr, "outcomes: what it has to tell can't be written\n");
         return FAILED;

@@ -1,30 +1,22 @@
--- Document 02, A.8, with demand 3: what a restart keeps and what the office is told agree. On demand 3's lists the walk is done for every rising list of
+-- What document 02's A.8 comes to on demand 3's lists: what a restart keeps and what the office is told agree. The walk is done for every rising list of
 -- ids, and of each it tells 1 exactly if the last group of that id is the commit of a durable transaction; and of every durable one it tells 1.
 use Prim.Native.Nat.{ℕ, _<_}
-use mathlib.Core.Bool.{true, cond}
-use mathlib.Core.List.{List, [], _∷_, List·Memᴰ}
-use mathlib.Core.Option.{Option, none, some}
+use mathlib.Core.Bool.{true}
+use mathlib.Core.List.{List, List·Memᴰ}
+use mathlib.Core.Option.{some}
 use mathlib.Core.Path.{_≡_}
 use lib.ListN.{length, getD}
-use lib.Dec.{eqb}
-use Rattle.recovery.specs.Group.{Group, committed}
-use Rattle.recovery.specs.Lists.{orElse}
-use Rattle.recovery.specs.Restart.{groupId}
+use Rattle.recovery.specs.Group.{committed}
 use Rattle.recovery.specs.Ledger.{Commit}
 use Rattle.store.specs.Answer.{done}
-use Rattle.inspect.specs.Outcomes.{rising, OutcomesLeft, groupsOn, outcomesOf}
+use Rattle.inspect.specs.Outcomes.{lastGroup, rising, OutcomesLeft, groupsOn, outcomesOf}
 use Rattle.history.specs.Demand.{Happening, Watched, happenAll, opening}
 
--- the last group of an id
-abbrev pub lastGroup : ℕ → List Group → Option Group
-lastGroup id [] = none
-lastGroup id (g ∷ gs) = orElse (lastGroup id gs) (cond (eqb id (groupId g)) (some g) none)
-
--- it is the commit of a transaction of that id which the ledger has as durable (document 01: kept)
+-- the last group of an id is the commit of a transaction of that id which the ledger has as durable (document 01: kept)
 pub record DurableLast (id : ℕ) (k : Watched) : Type 0 where
   pub commit : Commit
   pub own : commit .id ≡ id
-  pub last : lastGroup id (groupsOn (k .world .disk)) ≡ some (committed (commit .id) (commit .csn) (commit .writes))
+  pub last : lastGroup (groupsOn (k .world .disk)) id ≡ some (committed (commit .id) (commit .csn) (commit .writes))
   pub durable : List·Memᴰ commit (k .ledger .durable)
 
 -- what is told of a list of ids, and left of a list of outcomes, on the disk of a store
@@ -43,9 +35,9 @@ pub record Agree (k : Watched) (ids out : List ℕ) : Type 0 where
   pub places : length (leftOn k ids out .outcomes) ≡ length ids
   -- 1 exactly if the last group of the id is a durable transaction's commit
   pub sound : (i : ℕ) → i < length ids → outcomeAt k ids out i ≡ 1 → DurableLast (getD ids i 0) k
-  pub last : (i : ℕ) → i < length ids → DurableLast (getD ids i 0) k → outcomeAt k ids out i ≡ 1
+  pub complete : (i : ℕ) → i < length ids → DurableLast (getD ids i 0) k → outcomeAt k ids out i ≡ 1
   -- and 1 of every durable transaction: no group of its id comes after its commit
-  pub kept : (i : ℕ) → i < length ids → (c : Commit) → List·Memᴰ c (k .ledger .durable) → c .id ≡ getD ids i 0 → outcomeAt k ids out i ≡ 1
+  pub durable : (i : ℕ) → i < length ids → (c : Commit) → List·Memᴰ c (k .ledger .durable) → c .id ≡ getD ids i 0 → outcomeAt k ids out i ≡ 1
 
 -- after every list of calls and failures of the current, for every rising list of ids and every list of outcomes of its length
 abbrev pub OutcomesAgree : Type 0

@@ -2,23 +2,23 @@
 use Prim.Native.Nat.{ℕ, zero, suc, _+_, _-_, _/_, _≤_, _<_}
 use native.Mathlib.Numerals.{add-one}
 use native.Mathlib.Omega.{arith}
-use mathlib.Core.Bool.{Bool, true, false, cond, _&&_}
+use mathlib.Core.Bool.{Bool, true, false, cond}
 use mathlib.Core.List.{List, [], _∷_, map}
 use mathlib.Core.Option.{Option, none, some}
 use mathlib.Core.Path.{_≡_, refl, sym, ap, ap₂, _∙_}
 use lib.ListN.{length, getD, set, drop, replicate, drop-of-length-le, length-set, length-drop, length-replicate}
-use lib.Seq.{drop-cons, drop-drop, getD-set-same, getD-set-other, set-getD, ext-getD}
+use lib.Seq.{drop-cons, drop-drop, getD-set-same, getD-set-other, ext-getD}
 use lib.Dec.{eqb, ltb}
 use borrow.Author.Tests.{eq-eqb, ne-eqb, eqb-true, eqb-false, lt-ltb, le-ltb, ltb-true, ltb-false}
 use Rattle.recovery.specs.Group.{Group, committed, aborted, groupSize, csnAfter}
+use Rattle.recovery.specs.Lists.{orElse}
 use Rattle.recovery.specs.Restart.{groupId}
-use Rattle.log.specs.Group.{readGroup}
 use Rattle.log.specs.Log.{readLog}
 use Rattle.log.proofs.Basics.{and-left, and-right}
 use Rattle.log.proofs.GroupLaws.{group-within}
 use Rattle.log.proofs.LogLaws.{log-none, log-more}
 use Rattle.inspect.specs.declared.outcomes.Walk.{Walk}
-use Rattle.inspect.specs.Outcomes.{outcomeOf, orOutcome, lastOutcome, risingAfter, rising, WalkTold, OutcomesLeft, refusedOutcomes, groupsOn, walkedLog, outcomesOf}
+use Rattle.inspect.specs.Outcomes.{lastGroup, outcomeOf, outcomeBy, lastOutcome, risingAfter, rising, WalkTold, OutcomesLeft, refusedOutcomes, groupsOn, walkedLog, outcomesOf}
 use Rattle.inspect.specs.Walk.{beside, notedAt, notedIn, groupAt, pastGroup, walkStep, noteGroup, groupNoted, walkedOver}
 use Rattle.inspect.proofs.Applying.{and-no}
 
@@ -143,10 +143,6 @@ module _ (ids out : List ℕ) (id outcome : ℕ) (l : length out ≡ length ids)
       here : (k : ℕ) → k < length out → getD (set out i outcome) k 0 ≡ getD (beside (notedAt id outcome) ids out) k 0
       here k u = one k (omega arith) (eqb k i) refl ∙ sym (beside-at (notedAt id outcome) ids out k l (omega arith))
 
-  -- and stays what it was there, if that is the outcome
-  pub note-told : rising ids ≡ true → (i : ℕ) → i < length ids → getD ids i 0 ≡ id → getD out i 0 ≡ outcome → out ≡ notedIn ids id outcome out
-  note-told r i h e s = sym (set-getD out i 0) ∙ ap (set out i) s ∙ note-at r i h e
-
   -- or in none
   pub note-nowhere : ((i : ℕ) → i < length ids → getD ids i 0 ≡ id → ⊥) → out ≡ notedIn ids id outcome out
   unfolding notedIn
@@ -160,30 +156,33 @@ module _ (ids out : List ℕ) (id outcome : ℕ) (l : length out ≡ length ids)
 
 -- ---- all groups noted: each id has the outcome of its last one
 
+-- the outcome of a group that was found, else what stood there
+abbrev foundOr : Option Group → ℕ → ℕ
+foundOr none x = x
+foundOr (some g) x = outcomeOf g
+
 walked-beside : (ids : List ℕ) (gs : List Group) (out : List ℕ) → length out ≡ length ids
-    → walkedOver ids gs out ≡ beside (λ i x. orOutcome (lastOutcome gs i) x) ids out
+    → walkedOver ids gs out ≡ beside (λ i x. foundOr (lastGroup gs i) x) ids out
 unfolding notedIn
 walked-beside ids [] out l = sym (beside-left ids out l)
 walked-beside ids (g ∷ gs) out l =
     walked-beside ids gs (notedIn ids (groupId g) (outcomeOf g) out) (noted-length ids out (groupId g) (outcomeOf g) l ∙ l)
-    ∙ beside-both (λ i x. orOutcome (lastOutcome gs i) x) (notedAt (groupId g) (outcomeOf g)) (λ i x. orOutcome (lastOutcome (g ∷ gs) i) x)
-    (λ i x. both g (lastOutcome gs i) (eqb (lastOutcome gs i) 0) refl (eqb i (groupId g)) x) ids out
+    ∙ beside-both (λ i x. foundOr (lastGroup gs i) x) (notedAt (groupId g) (outcomeOf g)) (λ i x. foundOr (lastGroup (g ∷ gs) i) x)
+    (λ i x. both (lastGroup gs i) (eqb i (groupId g)) x) ids out
   where
-    both : (g : Group) (n : ℕ) (b : Bool) → eqb n 0 ≡ b → (c : Bool) (x : ℕ)
-        → cond b (cond c (outcomeOf g) x) n ≡ orOutcome (cond b (cond c (outcomeOf g) 0) n) x
-    both (committed i k ws) n true e true x = refl
-    both (aborted i) n true e true x = refl
-    both g n true e false x = refl
-    both g n false e c x = rw e
+    both : (later : Option Group) (own : Bool) (x : ℕ) → foundOr later (cond own (outcomeOf g) x) ≡ foundOr (orElse later (cond own (some g) none)) x
+    both none true x = refl
+    both none false x = refl
+    both (some h) own x = refl
 
 pub walked-zeros : (ids : List ℕ) (gs : List Group) (n : ℕ) → length ids ≡ n → walkedOver ids gs (replicate n 0) ≡ map (lastOutcome gs) ids
 walked-zeros ids gs n l =
     walked-beside ids gs (replicate n 0) (length-replicate {A = ℕ} n 0 ∙ sym l)
-    ∙ beside-zeros (λ i x. orOutcome (lastOutcome gs i) x) (lastOutcome gs) (λ i. own (lastOutcome gs i) (eqb (lastOutcome gs i) 0) refl) ids n l
+    ∙ beside-zeros (λ i x. foundOr (lastGroup gs i) x) (lastOutcome gs) (λ i. over-zero (lastGroup gs i)) ids n l
   where
-    own : (n : ℕ) (b : Bool) → eqb n 0 ≡ b → cond b 0 n ≡ n
-    own n true e = sym (eqb-true n 0 e)
-    own n false e = refl
+    over-zero : (last : Option Group) → foundOr last 0 ≡ outcomeBy last
+    over-zero none = refl
+    over-zero (some g) = refl
 
 -- ---- the walk, a group at a time
 

@@ -4,11 +4,13 @@
 use Prim.Native.Nat.{ℕ}
 use mathlib.Core.Bool.{Bool, true, cond, _&&_}
 use mathlib.Core.List.{List, [], _∷_, map}
+use mathlib.Core.Option.{Option, none, some}
 use lib.ListN.{length}
 use lib.Dec.{eqb, ltb}
 use Rattle.layout.specs.{diskLen}
 use Rattle.layout.specs.Parts.{logPart}
 use Rattle.recovery.specs.Group.{Group, committed, aborted}
+use Rattle.recovery.specs.Lists.{orElse}
 use Rattle.recovery.specs.Restart.{groupId}
 use Rattle.log.specs.Log.{readLog}
 use Rattle.store.specs.Answer.{Word, done, refused, word}
@@ -16,18 +18,23 @@ use Rattle.inspect.specs.declared.outcomes.Walked.{Walked}
 
 -- ---- the outcome of an id in a log
 
+-- "its last": the last group of an id
+abbrev pub lastGroup : List Group → ℕ → Option Group
+lastGroup [] id = none
+lastGroup (g ∷ gs) id = orElse (lastGroup gs id) (cond (eqb id (groupId g)) (some g) none)
+
+-- "1 committed, 2 aborted"
 abbrev pub outcomeOf : Group → ℕ
 outcomeOf (committed id csn ws) = 1
 outcomeOf (aborted id) = 2
 
--- one that was found, else another
-abbrev pub orOutcome : ℕ → ℕ → ℕ
-orOutcome found other = cond (eqb found 0) other found
+-- "0 neither found"
+abbrev pub outcomeBy : Option Group → ℕ
+outcomeBy none = 0
+outcomeBy (some g) = outcomeOf g
 
--- "its last counts"
 abbrev pub lastOutcome : List Group → ℕ → ℕ
-lastOutcome [] id = 0
-lastOutcome (g ∷ gs) id = orOutcome (lastOutcome gs id) (cond (eqb id (groupId g)) (outcomeOf g) 0)
+lastOutcome gs id = outcomeBy (lastGroup gs id)
 
 -- ---- the call
 

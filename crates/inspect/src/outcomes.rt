@@ -12,7 +12,6 @@ ghost use mathlib.Core.Bool.{true};
 ghost use mathlib.Core.Path.{_≡_};
 ghost use Prim.Native.Nat.{_≤_};
 ghost use lib.ListN.{length};
-ghost use Rattle.recovery.specs.Group.{committed};
 ghost use Rattle.log.specs.Log.{readLog};
 ghost use Rattle.inspect.specs.Outcomes.{rising, ofWalked, refusedWalk, outcomesOf};
 ghost use Rattle.inspect.specs.Walk.{FoundAs, notedIn, groupNoted, walkStep, walkedOver};
@@ -91,7 +90,7 @@ fn find(ids: &[u16], id: u16) -> Place
     Place::Nowhere
 }
 
-// A group of this id: its outcome takes the place of an earlier one, and is stored only where it is another.
+// A group of this id: its outcome takes the place of an earlier one.
 fn note(ids: &[u16], out: &mut [u8], id: TxId, outcome: u8)
     requires { ⌜ (rising (now ids) ≡ true) × (length (now out) ≡ length (now ids)) ⌝ }
     ensures { λ _. ⌜ now (out .exit) ≡ notedIn (now (ids .entry)) (id .0) outcome (now (out .entry)) ⌝ }
@@ -100,10 +99,6 @@ fn note(ids: &[u16], out: &mut [u8], id: TxId, outcome: u8)
     let Place::At(i) = place else {
         return;
     };
-    let before = out[i];
-    if before == outcome {
-        return;
-    }
     out[i] = outcome;
 }
 

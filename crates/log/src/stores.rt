@@ -60,7 +60,7 @@ pub fn shift_down(b: &mut [u8], n: usize)
     move_down(b, n);
 }
 
-fn least(a: usize, b: usize) -> usize
+pub fn least(a: usize, b: usize) -> usize
     ensures { λ r. ⌜ r ≡ min a b ⌝ }
 {
     if a < b {

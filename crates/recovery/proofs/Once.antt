@@ -1,25 +1,24 @@
 -- Each id has one group at most in the whole history: ids are given in rising order, and after a restart they go on above all that image and groups have.
 use mathlib.Core.Path.{_≡_, refl, sym, ap, _∙_, subst}
 use mathlib.Core.Logic.{_≢_}
-use mathlib.Core.Bool.{Bool, true, false, not}
+use mathlib.Core.Bool.{true, false}
 use mathlib.Core.List.{List, [], _∷_, _++_, append-assoc, append-nil, reverse}
 use Prim.Native.Nat.{ℕ, suc, _≤_}
 use native.Mathlib.Omega.{arith}
-use lib.Dec.{ltb}
 use lib.ListN.{length, take, drop, take-append-drop}
 use borrow.Author.Tests.{ltb-true, lt-ltb, not-true}
 use Rattle.recovery.specs.Group.{Group, committed, aborted, lastCsn, fitting}
 use Rattle.recovery.specs.Lists.{All, nil, cons, has}
 use Rattle.recovery.specs.Transaction.{Tx, committing, edit}
 use Rattle.recovery.specs.Replay.{oldBytes, oldsOf}
-use Rattle.recovery.specs.Restart.{groupId, finished, above, sortDesc, undoOrder, aborts}
+use Rattle.recovery.specs.Restart.{groupId, finished, above, undoOrder}
 use Rattle.recovery.specs.Ledger.{Event, Ledger}
-use Rattle.recovery.specs.Machine.{Opening, Disk, historyOf, Live, System, down, up, diskOf, openingDisk, Listed, lastAssigned, newTx, withWrite}
-use Rattle.recovery.specs.Machine.{withSavepoint, inCommit, withoutRedo, storing, undoneBy, afterBegin, afterGoBack, afterFlush, afterCheckpoint, afterRestart}
+use Rattle.recovery.specs.Machine.{Opening, Disk, historyOf, Live, System, down, up, diskOf, Listed, lastAssigned, newTx, withWrite}
+use Rattle.recovery.specs.Machine.{withSavepoint, inCommit, withoutRedo, storing, undoneBy, afterCheckpoint, afterRestart}
 use Rattle.recovery.specs.Machine.{Step, stays, begins, writes, setsSavepoint, goesBack, precommits, rollsBack, flushes, flushIsCut, settles, checkpoints}
 use Rattle.recovery.specs.Machine.{checkpointIsCut, restarts, restartIsCut, Run, opened, next}
 use Rattle.recovery.proofs.Bool.{opposed}
-use Rattle.recovery.proofs.Lists.{all-mapped, all-map, all-zip, all-append, all-left, all-right, all-here, all-less, all-more, all-edit, all-reverse, all-swap}
+use Rattle.recovery.proofs.Lists.{all-mapped, all-map, all-zip, all-append, all-left, all-here, all-less, all-more, all-edit, all-reverse, all-swap}
 use Rattle.recovery.proofs.Lists.{all-unfilter, all-passing, all-filter, all-passed}
 use Rattle.recovery.proofs.Distinct.{Distinct, empty, distinct-append, distinct-left, distinct-apart, distinct-filter, distinct-more, distinct-others}
 use Rattle.recovery.proofs.Transactions.{Found, find, isRunning, isCommitting, isAbove, isUnfinished}
@@ -47,7 +46,7 @@ LateOf n gs txs = All (λ t. isCommitting t ≡ true → isAbove n t ≡ true �
 -- of the disk
 pub record LoggedOnce (d : Disk) : Type 0 where
   pub once : Distinct groupId (historyOf d)
-  -- the image's last id is above those of the groups before it
+  -- no group before the image has an id above the image's last
   pub seen : All (λ g. groupId g ≤ d .image .lastId) (d .before)
   -- what a restart may undo has no group there
   pub free : FreeOf (d .before) (d .image .txs)

@@ -28,7 +28,7 @@ pub record Opening : Type 0 where
 abbrev pub freshOpening : ℕ → ℕ → Opening
 freshOpening size capacity = record { size = size; capacity = capacity; memory = replicate size 0; csn = 0; sized = length-replicate size 0 }
 
--- what recovery needs of a checkpoint image; csn: the last commit number on disk; lastId: the last id given
+-- what recovery needs of a checkpoint image; csn: the last commit number on disk; lastId: the last id given, 0 where none was since the opening
 pub record Image : Type 0 where
   pub txs : List Tx
   pub memory : List ℕ

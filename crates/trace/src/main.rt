@@ -12,7 +12,6 @@ use crate::record::data_of;
 use crate::record::ids_count;
 use crate::record::ids_of;
 use crate::record::read_record;
-use crate::record::smaller;
 use disk::call::restart;
 use disk::equal::equal;
 use inspect::groups::first_groups;
@@ -25,6 +24,7 @@ use layout::TAIL_LEN;
 use libc::STDIN_FILENO;
 use log::stores::copy;
 use log::stores::fill;
+use log::stores::least;
 use store::Answer;
 use store::State;
 ghost use mathlib.Core.Path.{_≡_};
@@ -105,12 +105,12 @@ fn page_call(r: Record, s: State, disk: &[u8], seen: &mut [u8]) -> Report {
     Report::stored(answer, 0, 0, s)
 }
 
-// The outcomes of the record's ids, into a list of the stream's own of that length or, where it hasn't so many, all of it. Value and stores are the
-// groups walked and the list's checksum.
+// The outcomes of the record's ids. They go into the first len places of the list, or into all of it where it has fewer. The line's value and stores
+// are the groups walked and the checksum of these places.
 fn outcomes_call(bytes: &[u8], s: State, disk: &[u8], list: &mut [u8], len: usize) -> Report {
     let ids = ids_of(bytes);
     let count = ids_count(bytes);
-    let room = smaller(len, list.len());
+    let room = least(len, list.len());
     let x = outcomes(disk, &ids[..count], &mut list[..room]);
     let answer = x.answer;
     Report::stored(answer, x.groups, adler(&list[..room]) as usize, s)

@@ -2,7 +2,7 @@
 use log::TxId;
 use log::number::be16;
 use log::number::be32;
-ghost use Prim.Native.Nat.{min};
+use log::stores::least;
 ghost use mathlib.Core.Path.{_≡_};
 ghost use Rattle.trace.specs.Record.{recordOf, dataOf, idsCount, idsOf};
 
@@ -67,7 +67,7 @@ pub(crate) fn ids_count(b: &[u8]) -> usize
     if b.len() != 64 {
         return 0;
     }
-    smaller(wide(b[1]), IDS)
+    least(wide(b[1]), IDS)
 }
 
 // All that the data has room for. Zeros, where the bytes are not 64.
@@ -84,15 +84,6 @@ pub(crate) fn ids_of(b: &[u8]) -> [u16; IDS]
         i += 1;
     }
     ids
-}
-
-pub(crate) fn smaller(a: usize, b: usize) -> usize
-    ensures { λ r. ⌜ r ≡ min a b ⌝ }
-{
-    if a < b {
-        return a;
-    }
-    b
 }
 
 fn wide(x: u8) -> usize

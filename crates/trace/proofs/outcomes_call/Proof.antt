@@ -15,11 +15,11 @@ counted c =
     let b = c .before .before .before .before .before .args .bytes .now in
     omega (arith, c .ids-count .ensures, count-few b, ids-length b, ap length (c .before .ids-of .ensures))
 
-abbrev entry : tie.After-smaller → tie.Start
+abbrev entry : tie.After-least → tie.Start
 entry c = c .before .before .before .before .before .before
 
-short : (c : tie.After-smaller) → c .smaller .result ≤ length (entry c .args .list .now)
-short c = omega (arith, c .smaller .ensures)
+short : (c : tie.After-least) → c .least .result ≤ length (entry c .args .list .now)
+short c = omega (arith, c .least .ensures)
 
 ids-of-requires : tie.Need-ids-of-requires
 ids-of-requires c κs = search needs
@@ -27,8 +27,8 @@ ids-of-requires c κs = search needs
 ids-count-requires : tie.Need-ids-count-requires
 ids-count-requires c κs = search needs
 
-smaller-requires : tie.Need-smaller-requires
-smaller-requires c κs = search needs
+least-requires : tie.Need-least-requires
+least-requires c κs = search needs
 
 array-share-prefix-ids : tie.Need-array-share-prefix-ids
 array-share-prefix-ids c = counted (c .before)
@@ -51,7 +51,7 @@ slice-reshare-prefix-adler c = search needs
 slice-aggregate-adler : tie.Need-slice-aggregate-adler
 slice-aggregate-adler c =
     let l = c .before .before .before .before .before .before in
-    let m = length-take-le (l .smaller .result) (entry l .args .list .now) (short l) in
+    let m = length-take-le (l .least .result) (entry l .args .list .now) (short l) in
     sym (length-take-le _ _ (simp length-append (omega (arith, c .before .before .before .outcomes .kept .1 .1 .0, m))))
 
 adler-requires : tie.Need-adler-requires
@@ -75,7 +75,7 @@ outcomes-call-spec =
     (tie.spec
     ids-of-requires
     ids-count-requires
-    smaller-requires
+    least-requires
     array-share-prefix-ids
     slice-aggregate-outcomes
     slice-relend-prefix-outcomes

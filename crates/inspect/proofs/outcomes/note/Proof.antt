@@ -3,7 +3,7 @@ use borrow.Author.Needs.{needs}
 use mathlib.Core.Path.{subst}
 use Rattle.inspect.specs.declared.outcomes.Place.the-variants.{At}
 use Rattle.inspect.specs.Walk.{FoundAs}
-use Rattle.inspect.proofs.Walking.{note-at, note-told, note-nowhere}
+use Rattle.inspect.proofs.Walking.{note-at, note-nowhere}
 use Rattle.inspect.proofs.outcomes.note.Statement.{statement}
 use Rattle.inspect.proofs.outcomes.note.Tie as tie
 
@@ -34,26 +34,15 @@ returns c =
     note-nowhere (a .ids .now) (a .out .now) (a .id .0) (a .outcome) (entry f .pre .1)
     (subst (FoundAs (a .ids .now) (a .id .0)) (c .enum-told .given .1) (f .find .ensures))
 
-slice-read-before : tie.Need-slice-read-before
-slice-read-before c = omega (arith, placed (c .before .before) .0, entry (c .before .before .before .before) .pre .1)
-
-returns-2 : tie.Need-returns-2
-returns-2 c =
-    let f = c .before .before .before in
-    let s = entry (f .before .before) in
-    let a = s .args in
-    let p = placed f in
-    note-told (a .ids .now) (a .out .now) (a .id .0) (a .outcome) (s .pre .1) (s .pre .0) _ (p .0) (p .1) (c .if1 .taken)
-
 slice-write-out : tie.Need-slice-write-out
-slice-write-out c = let f = c .before .before .before in omega (arith, placed f .0, entry (f .before .before) .pre .1)
+slice-write-out c = let f = c .before in omega (arith, placed f .0, entry (f .before .before) .pre .1)
 
 same-length : tie.Need-same-length
 same-length c = search needs
 
-returns-3 : tie.Need-returns-3
-returns-3 c =
-    let f = c .before .before .before in
+returns-2 : tie.Need-returns-2
+returns-2 c =
+    let f = c .before in
     let s = entry (f .before .before) in
     let a = s .args in
     let p = placed f in
@@ -67,8 +56,6 @@ note-spec =
     enum-known-place
     enum-told
     returns
-    slice-read-before
-    returns-2
     slice-write-out
     same-length
-    returns-3)
+    returns-2)

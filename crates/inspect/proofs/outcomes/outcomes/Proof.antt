@@ -1,25 +1,16 @@
 use Prim.Native.Nat.{ℕ}
 use native.Mathlib.Omega.{arith}
 use borrow.Author.Needs.{needs}
-use mathlib.Core.Bool.{Bool, true, false, not}
-use mathlib.Core.List.{List}
+use borrow.Author.Tests.{not-true, not-false}
+use mathlib.Core.Bool.{true}
 use mathlib.Core.Path.{_≡_, refl, sym, ap, _∙_}
-use lib.ListN.{length, replicate}
-use Rattle.log.proofs.Basics.{clash}
+use lib.ListN.{length}
 use Rattle.store.specs.Answer.{done}
 use Rattle.inspect.specs.Outcomes.{rising, WalkTold, groupsOn}
 use Rattle.inspect.specs.Walk.{walkedOver}
 use Rattle.inspect.proofs.Walking.{walked-zeros, as-outcomes, outcomes-no-disk, outcomes-unequal, outcomes-unsorted, outcomes-done}
 use Rattle.inspect.proofs.outcomes.outcomes.Statement.{statement}
 use Rattle.inspect.proofs.outcomes.outcomes.Tie as tie
-
-no-true : (b : Bool) → not b ≡ true → b ≡ false
-no-true true e = clash (cc)
-no-true false e = refl
-
-no-false : (b : Bool) → not b ≡ false → b ≡ true
-no-false true e = refl
-no-false false e = clash (cc)
 
 refused-requires : tie.Need-refused-requires
 refused-requires c κs = search needs
@@ -48,7 +39,7 @@ returns-3 c =
     let r = c .before .before in
     let a = r .before .before .before .before .before .before .args in
     as-outcomes
-    (outcomes-unsorted (a .disk .now) (a .ids .now) (a .out .now) (r .before .before .if1 .left) (sym (r .is-rising .ensures) ∙ no-true _ (c .before .if3 .taken)))
+    (outcomes-unsorted (a .disk .now) (a .ids .now) (a .out .now) (r .before .before .if1 .left) (sym (r .is-rising .ensures) ∙ not-true _ (c .before .if3 .taken)))
     (c .refused3 .ensures) refl
 
 fill-zero-requires : tie.Need-fill-zero-requires
@@ -74,7 +65,7 @@ entry f = f .before .before .before .before .before .before .before .before .bef
 sorted : (f : tie.After-fill-zero) → rising (entry f .args .ids .now) ≡ true
 sorted f =
     let e = f .before .before in
-    sym (e .before .is-rising .ensures) ∙ no-false _ (e .if3 .left)
+    sym (e .before .is-rising .ensures) ∙ not-false _ (e .if3 .left)
 
 equal : (f : tie.After-fill-zero) → length (entry f .args .ids .now) ≡ length (entry f .args .out .now)
 equal f = f .before .before .before .before .if2 .left

@@ -17,16 +17,16 @@ shared-slice-read-wide c = search needs
 wide-requires : tie.Need-wide-requires
 wide-requires c κs = search needs
 
-smaller-requires : tie.Need-smaller-requires
-smaller-requires c κs = search needs
+least-requires : tie.Need-least-requires
+least-requires c κs = search needs
 
 returns-2 : tie.Need-returns-2
 unfolding idsCount
 returns-2 c =
     let w = c .before in
     rw (eq-eqb (length (w .before .before .before .before .args .b .now)) 64 (w .before .before .if1 .left))
-    (c .smaller .ensures ∙ ap (λ (k : ℕ). min k 20) (w .wide .ensures))
+    (c .least .ensures ∙ ap (λ (k : ℕ). min k 20) (w .wide .ensures))
 
 pub ids-count-spec : {M : Type 1} → statement M
 ids-count-spec =
-    tie.close (tie.spec returns shared-slice-read-wide wide-requires smaller-requires returns-2)
+    tie.close (tie.spec returns shared-slice-read-wide wide-requires least-requires returns-2)
