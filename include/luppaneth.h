@@ -6,7 +6,7 @@
  *   lup_*        the same calls over a `struct luppaneth` that holds state and buffers; each returns one int. Most programs want these alone.
  *
  * What the caller owes, since no proof reaches it:
- * - A pointer points to at least as many bytes as the length beside it says, and is not NULL, even beside a length of 0.
+ * - A pointer points to at least as many bytes as the length beside it says (of ids: as many numbers, aligned), and is not NULL, even beside a length of 0.
  * - A buffer that a call may change overlaps no other argument, and nobody else touches the buffers during a call.
  * - Each call is handed the state and the buffers that the call before it left. A state's bytes are not for reading, comparing or changing.
  * - The disk buffer stands for the disk: bytes that a call changed in it have to reach the real one, in the order stated at `luppaneth_flush`,
@@ -205,7 +205,8 @@ struct luppaneth_groups_reply luppaneth_first_groups(const unsigned char *disk, 
 uint8_t luppaneth_read_page(const unsigned char *disk, size_t disk_len, unsigned char *buffer, size_t buffer_len, size_t page);
 
 /* Of each id its enum luppaneth_outcome, in the same place of the second list: by one walk over the log from its first byte, whatever the images
- * hold. The ids have to rise, each above the one before it. Refused by 1 or 20, the list of outcomes stays. */
+ * hold. The ids have to rise, each above the one before it. Refused by 1 or 20, the list of outcomes stays. An id that was lost in a power cut is
+ * given out again: ask before the next begin, or the answer may be of another transaction. */
 struct luppaneth_outcomes_reply luppaneth_outcomes(const unsigned char *disk, size_t disk_len, const uint16_t *ids, size_t ids_len,
                                                    unsigned char *outcomes, size_t outcomes_len);
 

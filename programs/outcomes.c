@@ -1,5 +1,6 @@
 /* For the office: what became of transactions, by the log of a disk on standard input. One line for each id: the id, a blank, and committed, aborted or
  * neither. The disk is only read, so it may be one that a power cut has left. An input that is no disk gives refused=1, as disklist does.
+ * Ask before the bench books again: an id that was lost is given out anew, and then its line is of another booking.
  *
  *   rt staticlib embed
  *   cc -std=c11 -Iinclude programs/outcomes.c target/staticlib/libembed.a -o outcomes

@@ -1,4 +1,4 @@
-//! What document 02, A.8, claims on demand 3's lists: what the office is told
+//! What document 02's A.8 comes to on demand 3's lists: what the office is told
 //! and what restart keeps agree.
 
 use std::collections::BTreeSet;
