@@ -349,7 +349,7 @@ fn outcomes() -> Vec<Row> {
             ids,
         },
         world: logged(false, groups, 0),
-        tuned_goal: false,
+        tuned_goal: true,
     };
     vec![
         row("2,033 empty groups, no id", EMPTY_GROUPS, Vec::new()),
