@@ -10,7 +10,7 @@ use lib.ListN.{length, getD, set, drop, replicate, drop-of-length-le, length-set
 use lib.Seq.{drop-cons, drop-drop, getD-set-same, getD-set-other, ext-getD}
 use lib.Dec.{eqb, ltb}
 use borrow.Author.Tests.{eq-eqb, ne-eqb, eqb-true, eqb-false, lt-ltb, le-ltb, ltb-true, ltb-false}
-use Rattle.recovery.specs.Group.{Group, committed, aborted, groupSize, csnAfter}
+use Rattle.recovery.specs.Group.{Group, groupSize, csnAfter}
 use Rattle.recovery.specs.Lists.{orElse}
 use Rattle.recovery.specs.Restart.{groupId}
 use Rattle.log.specs.Log.{readLog}
