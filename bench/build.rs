@@ -9,9 +9,9 @@ fn main() {
     let Ok(folder) = std::env::var("LUPPANETH_LIB") else {
         return;
     };
-    let archive = Path::new(&folder).join("libembed.a");
+    let archive = Path::new(&folder).join("libluppaneth.a");
     println!("cargo::rerun-if-changed={}", archive.display());
     println!("cargo::rustc-link-search=native={folder}");
-    println!("cargo::rustc-link-lib=static=embed");
+    println!("cargo::rustc-link-lib=static=luppaneth");
     println!("cargo::rustc-cfg=proved");
 }

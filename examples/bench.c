@@ -1,6 +1,6 @@
 /* A bench that books on a file: each step takes one pane, one lead strip and one colour name, the three together or none of them.
  *
- *   cc -std=c11 -Iinclude examples/bench.c target/staticlib/libembed.a -o bench
+ *   cc -std=c11 -Iinclude examples/bench.c target/staticlib/libluppaneth.a -o bench
  *   ./bench pattern.disk 20        books 20 steps
  *   kill it, at any moment, and
  *   ./bench pattern.disk           tells what is there: each step that was reported, whole, and at most one more

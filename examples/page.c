@@ -1,7 +1,7 @@
 /* A rack terminal: shows one page of a pattern's file, as a restart would leave it. The file is only read, so it may stand on a disk that was just
  * taken out of a machine whose current failed.
  *
- *   cc -std=c11 -Iinclude examples/page.c target/staticlib/libembed.a -o page
+ *   cc -std=c11 -Iinclude examples/page.c target/staticlib/libluppaneth.a -o page
  *   ./page pattern.disk 3          shows page 3 of the sixteen, 16 bytes on a line, with the address of the first */
 #define _POSIX_C_SOURCE 200809L
 

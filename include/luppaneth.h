@@ -1,7 +1,7 @@
 /* Luppaneth for C: a main-memory transaction store that survives a power cut.
  *
  * A program keeps a pattern of 4,096 bytes in memory and books several writes together or none. Two layers:
- *   luppaneth_*  the library's own calls (libembed.a; crates/embed/src has the contract that each is proved against). The state between calls
+ *   luppaneth_*  the library's own calls (libluppaneth.a; crates/luppaneth/src has the contract that each is proved against). The state between calls
  *                goes in by value and comes back in the reply.
  *   lup_*        the same calls over a `struct luppaneth` that holds state and buffers; each returns one int. Most programs want these alone.
  *

@@ -2,8 +2,8 @@
  * neither. The disk is only read, so it may be one that a power cut has left. An input that is no disk gives refused=1, as disklist does.
  * Ask before the bench books again: an id that was lost is given out anew, and then its line is of another booking.
  *
- *   rt staticlib embed
- *   cc -std=c11 -Iinclude programs/outcomes.c target/staticlib/libembed.a -o outcomes
+ *   rt staticlib luppaneth
+ *   cc -std=c11 -Iinclude programs/outcomes.c target/staticlib/libluppaneth.a -o outcomes
  *   ./outcomes 3 5 7 < pattern.disk
  *
  * In C, since it has to end with a status and a program of the toolchain has none. */

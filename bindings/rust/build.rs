@@ -1,4 +1,4 @@
-//! Links the proved library: `libembed.a` in target/staticlib of the repository's root, or in the folder that LUPPANETH_LIB names.
+//! Links the proved library: `libluppaneth.a` in target/staticlib of the repository's root, or in the folder that LUPPANETH_LIB names.
 
 use std::env;
 use std::path::{Path, PathBuf};
@@ -13,13 +13,13 @@ fn built() -> PathBuf {
 fn main() {
     println!("cargo::rerun-if-env-changed=LUPPANETH_LIB");
     let folder = env::var_os("LUPPANETH_LIB").map_or_else(built, PathBuf::from);
-    let archive = folder.join("libembed.a");
+    let archive = folder.join("libluppaneth.a");
     println!("cargo::rerun-if-changed={}", archive.display());
     if !archive.is_file() {
         let place = archive.display();
-        println!("cargo::error=the proved library {place} is missing: run `rt staticlib embed` at the root first");
+        println!("cargo::error=the proved library {place} is missing: run `rt staticlib luppaneth` at the root first");
         return;
     }
     println!("cargo::rustc-link-search=native={}", folder.display());
-    println!("cargo::rustc-link-lib=static=embed");
+    println!("cargo::rustc-link-lib=static=luppaneth");
 }

@@ -1,5 +1,5 @@
 //! The proved library's C interface, as `include/luppaneth.h` declares it. Each function is total: whatever it is handed, it ends, touches
-//! nothing outside the buffers lent, and answers what its contract says (crates/embed).
+//! nothing outside the buffers lent, and answers what its contract says (crates/luppaneth).
 
 use std::mem::{align_of, size_of};
 

@@ -14,7 +14,7 @@
 //! ```
 //!
 //! Whoever uses these calls owns the buffers and brings the disk's new bytes to the device; [`Store`](crate::Store) does both. The calls
-//! are those of document 01, and the contract of each, for every input, is in crates/embed.
+//! are those of document 01, and the contract of each, for every input, is in crates/luppaneth.
 
 use std::fmt;
 

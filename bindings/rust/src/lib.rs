@@ -27,7 +27,7 @@
 //! - [`calls`] has the proved calls themselves, for a host that owns the buffers; [`inspect`] those that look at a disk without a state.
 //!
 //! docs/EMBEDDING.md says what a host owes for the theorem to hold, and what a file adds to that. The crate needs the proved library: run
-//! `rt staticlib embed` at the repository's root first.
+//! `rt staticlib luppaneth` at the repository's root first.
 
 #![warn(missing_docs)]
 

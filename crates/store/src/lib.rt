@@ -23,7 +23,7 @@ pub(crate) const COUNT_MAX: u8 = MAX_TXS as u8;
 pub(crate) const RECORDS_MAX: u8 = MAX_RECORDS as u8;
 
 // Transactions in order of begin, in the first count slots. Laid out as C does it, with all that it holds, for hosts in other languages
-// (crate `embed`).
+// (crate `luppaneth`).
 #[repr(C)]
 pub struct State {
     pub recovered: bool,

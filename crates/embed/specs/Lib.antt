@@ -1,3 +1,0 @@
--- What the exported calls answer with, in the calls' own words.
-pub mod Reply
-pub mod Looks
