@@ -10,6 +10,7 @@ use luppaneth::calls::{Memory, MEMORY_LEN};
 use luppaneth::{Device, Error, Store};
 
 /// SplitMix64.
+#[derive(Clone)]
 pub struct Rng(pub u64);
 
 impl Rng {
