@@ -34,7 +34,8 @@ fn nonzero(bytes: &[u8]) -> usize {
 
 /// The state and the buffers that go with it.
 struct Working {
-    state: State,
+    /// Boxed, so that a store is small where it is handed over.
+    state: Box<State>,
     disk: Box<Disk>,
     memory: Box<Memory>,
     tail: Box<Tail>,
@@ -54,7 +55,7 @@ impl Restarted {
             return Err(Error::WrongLibrary);
         }
         let mut w = Working {
-            state: State::unrecovered(),
+            state: Box::new(State::unrecovered()),
             disk: zeros(),
             memory: zeros(),
             tail: zeros(),
