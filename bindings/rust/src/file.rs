@@ -3,9 +3,9 @@
 use std::error;
 use std::ffi::OsString;
 use std::fmt;
-use std::fs::{self, File, OpenOptions, TryLockError};
+use std::fs::{self, File, Metadata, OpenOptions, TryLockError};
 use std::io::{self, ErrorKind};
-use std::os::unix::fs::{FileExt, MetadataExt};
+use std::os::unix::fs::{fchown, FileExt, MetadataExt};
 use std::path::{Path, PathBuf};
 
 use crate::calls::{Disk, DISK_LEN, POINTER};
@@ -160,10 +160,10 @@ impl FileDevice {
     /// ```
     pub fn renew(store: &mut Store<FileDevice>) -> Result<(), Error> {
         let path = store.device().path.clone();
-        let fresh = FileDevice::successor(&path)?.keep_torn(store.device().keep_torn);
+        let fresh = store.device().successor()?;
         let over = fresh.path.clone();
         let renewed = store.renew(fresh).and_then(|renewed| {
-            fs::rename(&over, &path).map_err(failed(&over, "renaming it over the old file"))?;
+            store.device().replaced_by(&over)?;
             Ok(renewed)
         });
         let mut renewed = match renewed {
@@ -180,42 +180,57 @@ impl FileDevice {
         store.bring(|_, _| sync_directory(&path))
     }
 
-    /// The new file of a renewal, locked and all zeros.
-    fn successor(path: &Path) -> io::Result<FileDevice> {
-        let path = with_ending(path, ".renew");
+    /// The new file of a renewal, locked and all zeros, for those who may use the old one.
+    fn successor(&self) -> io::Result<FileDevice> {
+        let path = with_ending(&self.path, ".renew");
         let mut options = OpenOptions::new();
         options.read(true).write(true).create(true).truncate(false);
-        let device = FileDevice::locked(&path, &options, false)?;
-        // What a renewal that was killed has left has a disk's length and no image.
-        let mut pointer = [0];
-        let left = match device.len()? {
-            0 => true,
-            len => {
-                let read = device.file.read_exact_at(&mut pointer, POINTER as u64);
-                read.map_err(failed(&path, "reading"))?;
-                len == DISK_LEN as u64 && pointer == [0]
-            }
-        };
-        if !left {
+        let device = FileDevice::locked(&path, &options, false)?.keep_torn(self.keep_torn);
+        if !device.left_by_a_renewal()? {
             let text = "it is in the way of a renewal and not left by one; move it away";
             return Err(wrong(&path, ErrorKind::AlreadyExists, text));
         }
+        let old = self
+            .file
+            .metadata()
+            .map_err(failed(&self.path, "looking at it"))?;
+        // Where it is not ours to give away, it stays ours.
+        let _ = fchown(&device.file, Some(old.uid()), Some(old.gid()));
+        let allowed = device.file.set_permissions(old.permissions());
+        allowed.map_err(failed(&path, "making it"))?;
         device.make_fresh()?;
         Ok(device)
+    }
+
+    /// Empty, or a disk without an image: a renewal that was killed leaves no other.
+    fn left_by_a_renewal(&self) -> io::Result<bool> {
+        let len = self.len()?;
+        let mut pointer = [0];
+        if len > 0 {
+            let read = self.file.read_exact_at(&mut pointer, POINTER as u64);
+            read.map_err(failed(&self.path, "reading"))?;
+        }
+        Ok(len == 0 || len == DISK_LEN as u64 && pointer == [0])
+    }
+
+    /// Another file takes this one's name, unless somebody has given that to a third one meanwhile.
+    fn replaced_by(&self, over: &Path) -> io::Result<()> {
+        if !leads_to(&self.path, &self.file)? {
+            let text = "it is no longer the file that is open";
+            return Err(wrong(&self.path, ErrorKind::NotFound, text));
+        }
+        fs::rename(over, &self.path).map_err(failed(over, "renaming it over the old file"))
     }
 
     /// Opens and locks the file that the path leads to now.
     fn locked(path: &Path, options: &OpenOptions, looking: bool) -> io::Result<FileDevice> {
         loop {
-            let file = options.open(path).map_err(failed(path, "opening"))?;
-            let found = file.metadata().map_err(failed(path, "opening"))?;
-            if !found.is_file() {
-                return Err(wrong(
-                    path,
-                    ErrorKind::InvalidInput,
-                    "it is no regular file",
-                ));
+            // Before it is opened: a pipe would be waited for.
+            if let Ok(found) = fs::metadata(path) {
+                is_regular(path, &found)?;
             }
+            let file = options.open(path).map_err(failed(path, "opening"))?;
+            is_regular(path, &file.metadata().map_err(failed(path, "opening"))?)?;
             lock(&file, path, looking)?;
             if leads_to(path, &file)? {
                 let path = path.canonicalize().map_err(failed(path, "opening"))?;
@@ -294,6 +309,18 @@ fn synced(path: PathBuf) -> io::Result<PathBuf> {
         .map_err(failed(&path, "fsync"))?;
     sync_directory(&path)?;
     Ok(path)
+}
+
+/// No drive, whose length is told as 0, no pipe and no folder.
+fn is_regular(path: &Path, found: &Metadata) -> io::Result<()> {
+    match found.is_file() {
+        true => Ok(()),
+        false => Err(wrong(
+            path,
+            ErrorKind::InvalidInput,
+            "it is no regular file",
+        )),
+    }
 }
 
 fn lock(file: &File, path: &Path, looking: bool) -> io::Result<()> {

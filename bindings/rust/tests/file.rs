@@ -3,7 +3,7 @@
 use std::env;
 use std::fs::{self, File};
 use std::io;
-use std::os::unix::fs::symlink;
+use std::os::unix::fs::{symlink, MetadataExt, PermissionsExt};
 use std::path::{Path, PathBuf};
 use std::process::Command;
 use std::thread;
@@ -113,7 +113,11 @@ fn what_is_no_regular_file_is_refused() {
         assert_eq!(error.kind(), io::ErrorKind::InvalidInput);
         assert!(error.to_string().ends_with("it is no regular file"));
     }
-    assert!(FileDevice::open(path.parent().unwrap()).is_err());
+    // Looking does not wait for a pipe either.
+    for path in [&path, path.parent().unwrap()] {
+        let error = FileDevice::look(path).err().unwrap();
+        assert_eq!(error.kind(), io::ErrorKind::InvalidInput);
+    }
 }
 
 #[test]
@@ -220,6 +224,33 @@ fn a_store_is_renewed_in_its_place() {
         store = open(&path).unwrap();
         assert_eq!(store.pattern().unwrap()[..], old);
     }
+}
+
+/// A file that somebody has put in the place of the one that is open is not the store's to replace.
+#[test]
+fn a_renewal_replaces_the_file_that_is_open_alone() {
+    let path = path("moved");
+    let mut store = open(&path).unwrap();
+    store.book(|tx| tx.write(0, b"ruby")).unwrap();
+    fs::set_permissions(&path, fs::Permissions::from_mode(0o600)).unwrap();
+    FileDevice::renew(&mut store).unwrap();
+    assert_eq!(fs::metadata(&path).unwrap().mode() & 0o777, 0o600);
+    fs::rename(&path, beside(&path, ".away")).unwrap();
+    for other in [None, Some(b"a letter")] {
+        other.inspect(|bytes| fs::write(&path, bytes).unwrap());
+        let error = FileDevice::renew(&mut store).unwrap_err();
+        assert!(error.to_string().contains("no longer the file"), "{error}");
+        assert_eq!(
+            fs::read(&path).ok().as_deref(),
+            other.map(|bytes| &bytes[..])
+        );
+        assert!(!beside(&path, ".renew").exists());
+    }
+    drop(store);
+    assert_eq!(
+        open(beside(&path, ".away")).unwrap().read(0, 4).unwrap(),
+        b"ruby"
+    );
 }
 
 #[test]
