@@ -12,7 +12,7 @@
 #include <sys/mman.h>
 #include <unistd.h>
 
-enum { NAME_LEN = 32, NAMES = 80, PENDING = 32, OBJECTS = 128, VERSIONS = 4096, FILES = 256, NOTHING = -1, THE_FOLDER = -2, PAGE = 4096 };
+enum { NAME_LEN = 32, NAMES = 80, PENDING = 32, OBJECTS = 128, VERSIONS = 4096, FILES = 256, NOTHING = -1, THE_FOLDER = -2, PAGE = 4096 /* the largest */ };
 
 struct name {
     char text[NAME_LEN];
@@ -261,17 +261,24 @@ static void new_version(int object, size_t sector)
     memcpy(v->bytes, m->objects[object].now + sector * drive->sector, sector_len(sector));
 }
 
+static void make_dirty(int object, size_t page)
+{
+    size_t at, end = smaller((page + 1) * drive->page, LUPPANETH_DISK_LEN);
+    for (at = page * drive->page; at < end; at += drive->sector)
+        new_version(object, at / drive->sector);
+}
+
 /* Into the kernel's memory. */
 static void store(int object, const unsigned char *bytes, size_t len, size_t at)
 {
     struct object *o = &m->objects[object];
     size_t from, to;
     for (from = at; from < at + len; from = to) {
-        to = smaller((from / drive->sector + 1) * drive->sector, at + len);
+        to = smaller((from / drive->page + 1) * drive->page, at + len);
         if (drive->same_is_clean && memcmp(o->now + from, bytes + (from - at), to - from) == 0)
             continue;
         memcpy(o->now + from, bytes + (from - at), to - from);
-        new_version(object, from / drive->sector);
+        make_dirty(object, from / drive->page);
     }
     o->last_at = at;
 }
@@ -554,7 +561,7 @@ static void close_all(void)
         m->of[file] = NOTHING;
 }
 
-void drive_new(const char *folder, size_t sector, uint64_t seed)
+void drive_new(const char *folder, size_t sector, size_t page, uint64_t seed)
 {
     if (m == NULL) {
         m = mmap(NULL, sizeof *m, PROT_READ | PROT_WRITE, MAP_SHARED | MAP_ANONYMOUS, -1, 0);
@@ -567,7 +574,7 @@ void drive_new(const char *folder, size_t sector, uint64_t seed)
     snprintf(m->folder, sizeof m->folder, "%s", folder);
     m->rng = seed;
     m->now.count = m->synced.count = m->pending_count = m->version_count = 0;
-    *drive = (struct settings){.sector = sector, .left = DRIVE_FOREVER, .calls = DRIVE_FOREVER, .eio = DRIVE_FOREVER, .kill = DRIVE_FOREVER};
+    *drive = (struct settings){.sector = sector, .page = page, .left = DRIVE_FOREVER, .calls = DRIVE_FOREVER, .eio = DRIVE_FOREVER, .kill = DRIVE_FOREVER};
 }
 
 void drive_phase(enum phase phase)

@@ -38,7 +38,8 @@ bool one_in(uint64_t *rng, size_t n);
 
 /* What the model is set to. Shared with children. */
 struct settings {
-    size_t sector;
+    size_t sector; /* what the drive writes as a whole */
+    size_t page;   /* what the kernel hands it when a byte of it was written: a multiple */
     long left;          /* stores that change a byte, syncs, names until everything stops; or DRIVE_FOREVER */
     long calls;         /* the same in calls */
     bool stopped;       /* then every call fails and does nothing */
@@ -54,7 +55,7 @@ struct settings {
 extern struct settings *drive;
 
 /* A drive without files, over a folder that has none. */
-void drive_new(const char *folder, size_t sector, uint64_t seed);
+void drive_new(const char *folder, size_t sector, size_t page, uint64_t seed);
 
 void drive_phase(enum phase phase);
 

@@ -385,7 +385,7 @@ static enum end live(struct work *w)
 
 struct search {
     const char *name;
-    size_t sector;
+    size_t sector, page;
     unsigned skipped;
     bool kills, fails, renews;
     bool nothing_again; /* what an opening writes again makes nothing dirty */
@@ -422,7 +422,7 @@ static const char *lives(const struct search *s, struct seen *seen, uint64_t see
     w.rng = w.doings = seed;
     w.renews = s->renews;
     w.fails = s->fails;
-    drive_new(folder, s->sector, seed + 1);
+    drive_new(folder, s->sector, s->page, seed + 1);
     drive->skipped = s->skipped;
     drive->same_is_clean = s->nothing_again;
     while (end != FULL && w.wrong == NULL && seen->failures < failures) {
@@ -454,8 +454,9 @@ static void find_nothing(const struct search *s, unsigned long failures)
 {
     struct seen seen;
     const char *found = go(s, &seen, failures);
-    printf("%s, sectors of %zu: %lu disks, %lu power failures, %lu kills, %lu failed calls; %lu of them at an opening, %lu at a store; %lu renewals, %lu torn\n",
-           s->name, s->sector, seen.disks, seen.failures, seen.killed, seen.failed, seen.opening, seen.storing, seen.renewals, seen.torn);
+    printf("%s, sectors of %zu in pages of %zu: %lu disks, %lu power failures, %lu kills, %lu failed calls; %lu of them at an opening, %lu at a store; "
+           "%lu renewals, %lu torn\n",
+           s->name, s->sector, s->page, seen.disks, seen.failures, seen.killed, seen.failed, seen.opening, seen.storing, seen.renewals, seen.torn);
     if (found != NULL)
         wrong(s->name, found);
     if (seen.opening == 0 || seen.storing == 0 || seen.killed == 0 || seen.torn == 0 || (s->fails && seen.failed == 0))
@@ -468,7 +469,7 @@ static void find_fault(const struct search *fault)
     struct search s = *fault;
     struct seen seen;
     const char *found;
-    s.sector = 512;
+    s.sector = s.page = 512;
     found = go(&s, &seen, 40000);
     if (found == NULL)
         wrong(s.name, "the fault is not found");
@@ -478,10 +479,12 @@ static void find_fault(const struct search *fault)
 static void searches(unsigned long factor)
 {
     static const struct search nothing[] = {
-        {.name = "the current", .sector = 512, .kills = true, .renews = true},
-        {.name = "the current", .sector = 4096, .kills = true, .renews = true},
-        {.name = "failing writes and syncs", .sector = 512, .kills = true, .fails = true, .renews = true},
-        {.name = "failing writes and syncs", .sector = 4096, .kills = true, .fails = true, .renews = true},
+        {.name = "the current", .sector = 512, .page = 512, .kills = true, .renews = true},
+        {.name = "the current", .sector = 512, .page = 4096, .kills = true, .renews = true},
+        {.name = "the current", .sector = 4096, .page = 4096, .kills = true, .renews = true},
+        {.name = "failing writes and syncs", .sector = 512, .page = 512, .kills = true, .fails = true, .renews = true},
+        {.name = "failing writes and syncs", .sector = 512, .page = 4096, .kills = true, .fails = true, .renews = true},
+        {.name = "failing writes and syncs", .sector = 4096, .page = 4096, .kills = true, .fails = true, .renews = true},
     };
     static const struct search faults[] = {
         {.name = "nothing written again at an opening", .kills = true, .fails = true, .nothing_again = true},
@@ -536,7 +539,7 @@ static unsigned stopped_after(uint64_t seed, long left)
     memset(&w, 0, sizeof w);
     w.rng = seed << 32 | (uint64_t)left;
     w.renews = true;
-    drive_new(folder, 512, w.rng);
+    drive_new(folder, 512, 4096, w.rng);
     drive->left = left;
     go_on(&w, open_again(&w), &stops);
     for (acts = 0; acts < 14; acts++)
@@ -573,7 +576,7 @@ static void some_work(struct work *w, uint64_t seed)
     memset(w, 0, sizeof *w);
     w->rng = seed;
     w->renews = true;
-    drive_new(folder, 512, seed);
+    drive_new(folder, 512, 4096, seed);
     must(open_again(w), w, "work");
     for (i = 0; i < 7; i++) {
         must(act_book(w, &doings), w, "work");
@@ -640,7 +643,7 @@ static bool killed_in_sync(struct work *w, long n, unsigned skipped)
     int status;
     memset(w, 0, sizeof *w);
     w->rng = (uint64_t)n;
-    drive_new(folder, 512, (uint64_t)n);
+    drive_new(folder, 512, 4096, (uint64_t)n);
     fflush(stdout);
     pid = fork();
     if (pid == 0)
@@ -663,12 +666,12 @@ static bool killed_in_sync(struct work *w, long n, unsigned skipped)
 static void kills(void)
 {
     struct work *w = mmap(NULL, sizeof *w, PROT_READ | PROT_WRITE, MAP_SHARED | MAP_ANONYMOUS, -1, 0);
-    long n = 0, lost = 0;
+    long n = 0, i, lost = 0;
     if (w == MAP_FAILED)
         wrong("kills", "no memory");
     while (killed_in_sync(w, n, 0))
         n++;
-    for (long i = 0; i < n; i++) {
+    for (i = 0; i < n; i++) {
         killed_in_sync(w, i, OPEN_LOG | OPEN_IMAGE | OPEN_POINTER);
         lost += w->wrong != NULL;
     }
@@ -698,7 +701,7 @@ static bool foreign_cut(const unsigned char *bytes, long calls, uint64_t seed)
 {
     size_t len = 0;
     int answer;
-    drive_new(folder, 512, seed);
+    drive_new(folder, 512, 4096, seed);
     drive_put("disk", bytes, LUPPANETH_DISK_LEN);
     drive->calls = calls;
     drive_phase(OPENING);
