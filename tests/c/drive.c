@@ -658,7 +658,7 @@ void drive_forget(const char *name)
     __real_unlink(path_of(name));
 }
 
-void drive_put(const char *name, const unsigned char *bytes, size_t len)
+void drive_put(const char *name, const unsigned char *bytes, size_t len, bool lasts)
 {
     int object = new_object(name);
     add_name(&m->now, name, object);
@@ -666,5 +666,7 @@ void drive_put(const char *name, const unsigned char *bytes, size_t len)
     store(object, bytes, len, 0);
     m->objects[object].len = len;
     sync_object(object);
+    if (!lasts)
+        memset(m->objects[object].synced, 0, len);
     make_real(&m->now);
 }

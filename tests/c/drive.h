@@ -71,7 +71,7 @@ const unsigned char *drive_file(const char *name, size_t *len);
 /* Takes a file away as if it had never been. */
 void drive_forget(const char *name);
 
-/* A file that is there, and lasts. */
-void drive_put(const char *name, const unsigned char *bytes, size_t len);
+/* A file that is there. It lasts; or the drive has zeros for its bytes, and nobody was told when they could not be written. */
+void drive_put(const char *name, const unsigned char *bytes, size_t len, bool lasts);
 
 #endif

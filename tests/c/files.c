@@ -286,6 +286,7 @@ static void test_renew(void)
     expect(has("renewed.renew", (const unsigned char *)"mine", 4), "it is as it was");
     make_file("renewed.renew", (const unsigned char *)"", 0);
     expect(lup_file_renew(&f) == 0, "a renew over what a killed one left");
+    expect(lup_file_open(&g, "renewed") == LUP_TAKEN, "the lock after a renew");
     expect(unlink("renewed.renew") != 0 && symlink("elsewhere", "renewed.renew") == 0, "a symlink");
     renew_is_hindered("a symlink that is in the way");
     expect(unlink("renewed.renew") == 0 && mkdir("renewed.renew", 0755) == 0, "a folder");
