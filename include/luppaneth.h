@@ -1,16 +1,19 @@
 /* Luppaneth for C: a main-memory transaction store that survives a power cut.
  *
- * A program keeps a pattern of 4,096 bytes in memory and books several writes together or none. Two layers:
+ * A program keeps a pattern of 4,096 bytes in memory and books several writes together or none. Two layers, and a third beside them:
  *   luppaneth_*  the library's own calls (libluppaneth.a; crates/luppaneth/src has the contract that each is proved against). The state between calls
  *                goes in by value and comes back in the reply.
- *   lup_*        the same calls over a `struct luppaneth` that holds state and buffers; each returns one int. Most programs want these alone.
+ *   lup_*        the same calls over a `struct luppaneth` that holds state and buffers; each returns one int.
+ *   lup_file_*   a store in a file, with all that a power cut asks of it: luppaneth_file.h. Most programs want these and a few lup_*.
+ *
+ * Threads: one store is used by one thread at a time; two stores share nothing, so each may have its own.
  *
  * What the caller owes, since no proof reaches it:
  * - A pointer points to at least as many bytes as the length beside it says (of ids: as many numbers, aligned), and is not NULL, even beside a length of 0.
  * - A buffer that a call may change overlaps no other argument, and nobody else touches the buffers during a call.
  * - Each call is handed the state and the buffers that the call before it left. A state's bytes are not for reading, comparing or changing.
  * - The disk buffer stands for the disk: bytes that a call changed in it have to reach the real one, in the order stated at `luppaneth_flush`,
- *   `luppaneth_checkpoint` and `luppaneth_restart` (examples/bench.c shows it for a file).
+ *   `luppaneth_checkpoint` and `luppaneth_restart` (src/luppaneth_file.c does it for a file).
  * Wrong lengths, addresses, ids and disks are no fault of that kind: the call refuses them by a number.
  *
  * A call takes up to about 100 KB of stack. It keeps nothing between calls, uses no heap, and calls nothing but memcpy, memmove and memset.
@@ -28,6 +31,17 @@
 extern "C" {
 #endif
 
+/* ---- The version of header and archive: major * 10,000 + minor * 100 + patch. They have to be of one: a state of another size is no error that a linker
+ * sees. So the archive has a function whose name has the number; lup_init calls it, and does not link with an archive of another version. */
+
+#define LUPPANETH_VERSION 800
+
+#define LUPPANETH_PASTED(name, number) name##number
+#define LUPPANETH_NUMBERED(name, number) LUPPANETH_PASTED(name, number)
+
+uint32_t luppaneth_version(void);
+uint32_t LUPPANETH_NUMBERED(luppaneth_version_, LUPPANETH_VERSION)(void);
+
 /* ---- Sizes. The library tells the same numbers: luppaneth_disk_len() and its like. */
 
 #define LUPPANETH_MEMORY_LEN 4096
@@ -40,6 +54,7 @@ extern "C" {
 #define LUPPANETH_IMAGE_A 1
 #define LUPPANETH_IMAGE_B 8654
 #define LUPPANETH_LOG 17307
+#define LUPPANETH_LOG_LEN 16384
 
 /* The pattern's pages. */
 #define LUPPANETH_PAGE_LEN 256
@@ -222,13 +237,22 @@ size_t luppaneth_disk_len(void);
 size_t luppaneth_memory_len(void);
 size_t luppaneth_tail_len(void);
 size_t luppaneth_text_len(void);
+size_t luppaneth_state_len(void);
 
 /* ---- The layer that holds state and buffers
  *
- * Each call returns 0 for done, a luppaneth_number (1 to 20) where refused, or LUP_CUT, which none gives with LUPPANETH_ALL stores allowed. What is
- * handed out through a pointer is 0 (for read NULL) unless the call is done. A `struct luppaneth` has 63,736 bytes: keep it static or on the heap. */
+ * Each call returns 0 for done, a luppaneth_number (1 to 20) where refused, or a number below 0; any but 0 is an error, also one that the caller does not
+ * know. What is handed out through a pointer is 0 (for read NULL) unless the call is done. A `struct luppaneth` has 63,736 bytes: keep it static or on
+ * the heap. */
 
-#define LUP_CUT (-1)
+#define LUP_CUT (-1)       /* the stores allowed ran out; never with LUPPANETH_ALL */
+#define LUP_MISMATCH (-2)  /* lup_init: header and archive are of two versions */
+#define LUP_NOT_FRESH (-3) /* lup_renew: the disk is not all zero */
+/* Of luppaneth_file.h alone. */
+#define LUP_FILE_FAILED (-4) /* the system refused a call on the file, or its drive failed */
+#define LUP_POISONED (-5)    /* the file is not open, or failed earlier */
+#define LUP_TAKEN (-6)       /* somebody else has the file open */
+#define LUP_NO_DISK (-7)     /* it is no regular file, or has another length than a disk */
 
 struct luppaneth {
     struct luppaneth_state state;
@@ -247,11 +271,14 @@ static inline int lup_take(struct luppaneth *l, const struct luppaneth_reply *r)
     return r->answer == LUPPANETH_ANSWER_CUT ? LUP_CUT : r->number;
 }
 
-/* An all-zero disk, unrecovered: read the real disk into l->disk and restart. */
-static inline void lup_init(struct luppaneth *l)
+/* An all-zero disk, unrecovered: read the real disk into l->disk and restart. Where it answers LUP_MISMATCH no other call may be made. */
+static inline int lup_init(struct luppaneth *l)
 {
     memset(l, 0, sizeof *l);
+    if (LUPPANETH_NUMBERED(luppaneth_version_, LUPPANETH_VERSION)() != LUPPANETH_VERSION || luppaneth_state_len() != LUPPANETH_STATE_LEN)
+        return LUP_MISMATCH;
     l->state = luppaneth_unrecovered();
+    return 0;
 }
 
 static inline int lup_restart(struct luppaneth *l, size_t allowed, uint32_t *undone)
@@ -363,6 +390,66 @@ static inline int lup_checkpoint(struct luppaneth *l, size_t allowed)
     return lup_take(l, &r);
 }
 
+/* The bytes up to the last that isn't 0. */
+static inline size_t lup_used(const unsigned char *bytes, size_t len)
+{
+    while (len > 0 && bytes[len - 1] == 0)
+        len--;
+    return len;
+}
+
+/* Bytes of the log that are left, those of the tail taken off. A booking takes 8, and 7 and its bytes for each write; one that is given up takes 4. */
+static inline size_t lup_log_left(const struct luppaneth *l)
+{
+    /* a group's last byte is never 0, and behind the groups stand zeros */
+    return LUPPANETH_LOG_LEN - lup_used(l->disk + LUPPANETH_LOG, LUPPANETH_LOG_LEN) - lup_used(l->tail, sizeof l->tail);
+}
+
+/* What is booked in l, flushed or not, without what running transactions wrote. l is worked on and has to be made anew. */
+static inline int lup_booked(struct luppaneth *l, unsigned char pattern[LUPPANETH_MEMORY_LEN])
+{
+    int answer = lup_flush(l, LUPPANETH_ALL, LUPPANETH_ALL);
+    size_t page;
+    for (page = 0; answer == 0 && page < LUPPANETH_PAGES; page++)
+        answer = lup_read_page(l, page, pattern + page * LUPPANETH_PAGE_LEN);
+    return answer;
+}
+
+/* Books as many bytes as one transaction takes, from an address on; zeros are there already. */
+static inline int lup_book_part(struct luppaneth *l, const unsigned char pattern[LUPPANETH_MEMORY_LEN], size_t from)
+{
+    uint16_t id;
+    uint32_t csn;
+    size_t at, to = from + LUPPANETH_MAX_WRITES * LUPPANETH_MAX_WRITE;
+    int answer = lup_begin(l, &id);
+    for (at = from; answer == 0 && at < to; at += LUPPANETH_MAX_WRITE)
+        if (lup_used(pattern + at, LUPPANETH_MAX_WRITE) != 0)
+            answer = lup_write(l, id, at, pattern + at, LUPPANETH_MAX_WRITE);
+    return answer == 0 ? lup_precommit(l, id, &csn) : answer;
+}
+
+/* For when the log is full: books what `from` has booked, flushed or not, on a fresh disk, in eight bookings; a flush of `fresh` then makes them durable.
+ * fresh->disk has to be all zero, else LUP_NOT_FRESH and nothing is changed; it is restarted here. After another refusal `fresh` is of no use. What
+ * running transactions of `from` wrote is not carried over. Ids and commit numbers start anew. */
+static inline int lup_renew(const struct luppaneth *from, struct luppaneth *fresh)
+{
+    unsigned char pattern[LUPPANETH_MEMORY_LEN];
+    uint32_t undone;
+    size_t part;
+    int answer;
+    if (lup_used(fresh->disk, sizeof fresh->disk) != 0)
+        return LUP_NOT_FRESH;
+    *fresh = *from; /* room to work in: `from` stays as it is */
+    answer = lup_booked(fresh, pattern);
+    if (answer == 0)
+        answer = lup_init(fresh);
+    if (answer == 0)
+        answer = lup_restart(fresh, LUPPANETH_ALL, &undone);
+    for (part = 0; answer == 0 && part < LUPPANETH_MEMORY_LEN; part += LUPPANETH_MAX_WRITES * LUPPANETH_MAX_WRITE)
+        answer = lup_book_part(fresh, pattern, part);
+    return answer;
+}
+
 /* What a lup_ call returned, in words. */
 static inline const char *lup_text(int answer)
 {
@@ -389,8 +476,17 @@ static inline const char *lup_text(int answer)
         "the transaction has four savepoints, or the name is 0",
         "the ids do not rise, or the lists have two lengths",
     };
-    if (answer == LUP_CUT)
-        return "cut short";
+    static const char *const negative[] = {
+        "cut short",
+        "the header and the archive are of two versions",
+        "the disk to renew on is not all zero",
+        "a call on the file failed",
+        "the file is not open, or failed earlier: open it again",
+        "somebody else has the file open",
+        "the file is no disk",
+    };
+    if (answer < 0 && answer >= LUP_NO_DISK)
+        return negative[-answer - 1];
     if (answer < 0 || (size_t)answer >= sizeof texts / sizeof texts[0])
         return "no answer of this store";
     return texts[answer];

@@ -1,21 +1,32 @@
-/* For the office: what became of transactions, by the log of a disk on standard input. One line for each id: the id, a blank, and committed, aborted or
- * neither. The disk is only read, so it may be one that a power cut has left. An input that is no disk gives refused=1, as disklist does.
+/* For the office: what became of transactions, by the log of a disk in a file or on standard input. One line for each id: the id, a blank, and committed,
+ * aborted or neither. The disk is only read, so it may be one that a power cut has left. An input that is no disk gives refused=1, as disklist does.
  * Ask before the bench books again: an id that was lost is given out anew, and then its line is of another booking.
  *
  *   rt staticlib luppaneth
- *   cc -std=c11 -Iinclude programs/outcomes.c target/staticlib/libluppaneth.a -o outcomes
+ *   cc -std=c11 -Iinclude programs/outcomes.c src/luppaneth_file.c target/staticlib/libluppaneth.a -o outcomes
+ *   ./outcomes -f pattern.disk 3 5 7
  *   ./outcomes 3 5 7 < pattern.disk
  *
- * In C, since it has to end with a status and a program of the toolchain has none. */
-#include "luppaneth.h"
+ * By name the file is locked while it is read, so that no bench can be writing it. In C, since it has to end with a status and a program of the toolchain
+ * has none. */
+#include "luppaneth_file.h"
 
 #include <stdio.h>
 #include <stdlib.h>
 
 /* Exit statuses. */
-enum { OK = 0, FAILED = 1, BAD_USAGE = 2 };
+enum { DONE = 0, FAILED = 1, BAD_USAGE = 2 };
 
 enum { IDS = 65536 };
+
+static int usage(FILE *to, int status)
+{
+    fprintf(to, "usage: outcomes [-f FILE] [ID]...\n"
+                "Tells what became of transactions, by the log of the disk in FILE, or on standard input. The ids are numbers from 0 to 65535, each\n"
+                "above the one before it. One line each: the id, and committed, aborted or neither. No disk: refused=1.\n"
+                "Exit status: 0 done; 1 refused, or the disk can't be read; 2 usage.\n");
+    return status;
+}
 
 /* The id that an argument names; it has to be above the one before it (-1: there is none). */
 static long id_of(const char *argument, long before)
@@ -34,7 +45,7 @@ static long id_of(const char *argument, long before)
 }
 
 /* What was read is what a disk has and at most one byte more, so that an input too long is refused as one too short is. */
-static size_t read_disk(unsigned char *disk)
+static size_t read_input(unsigned char *disk)
 {
     size_t length = fread(disk, 1, LUPPANETH_DISK_LEN + 1, stdin);
     if (ferror(stdin)) {
@@ -42,6 +53,18 @@ static size_t read_disk(unsigned char *disk)
         exit(FAILED);
     }
     return length;
+}
+
+static size_t read_file(const char *path, unsigned char *disk)
+{
+    static struct lup_file f;
+    int answer = lup_file_look(&f, path);
+    if (answer != 0)
+        fprintf(stderr, "outcomes: %s\n", lup_file_error(&f));
+    if (answer != 0 && answer != LUP_NO_DISK)
+        exit(FAILED);
+    memcpy(disk, f.store.disk, LUPPANETH_DISK_LEN);
+    return answer == 0 ? LUPPANETH_DISK_LEN : 0;
 }
 
 static void print_lines(const uint16_t *ids, const unsigned char *outcomes, size_t count)
@@ -57,23 +80,34 @@ int main(int argc, char **argv)
     static unsigned char disk[LUPPANETH_DISK_LEN + 1], outcomes[IDS];
     static uint16_t ids[IDS];
     struct luppaneth_outcomes_reply r;
-    size_t count, length;
+    const char *path = NULL;
+    size_t count = 0, length;
     long id = -1;
-    for (count = 0; count + 1 < (size_t)argc; count++) {
-        id = id_of(argv[count + 1], id);
-        ids[count] = (uint16_t)id;
+    int next = 1;
+    if (argc == 2 && strcmp(argv[1], "--help") == 0)
+        return usage(stdout, DONE);
+    if (argc > 1 && strcmp(argv[1], "-f") == 0) {
+        if (argc == 2)
+            return usage(stderr, BAD_USAGE);
+        path = argv[2];
+        next = 3;
     }
-    length = read_disk(disk);
+    for (; next < argc; next++) {
+        id = id_of(argv[next], id);
+        ids[count++] = (uint16_t)id;
+    }
+    length = path == NULL ? read_input(disk) : read_file(path, disk);
     r = luppaneth_outcomes(disk, length, ids, count, outcomes, count);
     if (r.number == 0) {
         print_lines(ids, outcomes, count);
     } else {
         printf("refused=%u\n", r.number);
-        fprintf(stderr, "outcomes: standard input is no disk: a disk has %d bytes\n", LUPPANETH_DISK_LEN);
+        if (path == NULL)
+            fprintf(stderr, "outcomes: standard input is no disk: a disk has 33,691 bytes\n");
     }
     if (fflush(stdout) != 0 || ferror(stdout)) {
         fprintf(stderr, "outcomes: what it has to tell can't be written\n");
         return FAILED;
     }
-    return r.number == 0 ? OK : FAILED;
+    return r.number == 0 ? DONE : FAILED;
 }
