@@ -1,5 +1,5 @@
-/* Luppaneth in a file (include/luppaneth_file.h). Not proved, but tortured: tests/c. What it believes of the drive: a sector is old or new, never torn, and
- * what a sync that returned 0 has covered stays. Everything else is done here, in an order that docs/EMBEDDING.md explains. */
+/* Luppaneth in a file (include/luppaneth_file.h). No proof reaches this; tests/c tortures it. What it believes of the drive: a sector is old or new, never
+ * torn, and what a sync that returned 0 has covered stays. docs/EMBEDDING.md explains the order of what it does. */
 #define _DEFAULT_SOURCE
 
 #include "luppaneth_file.h"
@@ -193,7 +193,7 @@ static bool is_named(struct lup_file *f, const char *path)
         return false;
     if (open_one.st_dev != named.st_dev || open_one.st_ino != named.st_ino)
         return false;
-    memcpy(f->path, real, sizeof real);
+    strcpy(f->path, real);
     return true;
 }
 
@@ -279,9 +279,11 @@ static int find(struct lup_file *f)
     luppaneth_list(copy, LUPPANETH_DISK_LEN, (unsigned char *)text);
     free(copy);
     answer = read_listing(&f->found, text);
+    if (answer != 0)
+        return answered(f, "restart", answer);
     end = LUPPANETH_LOG + f->found.log_end;
     f->found.cleared = count_bytes(f->store.disk + end, LUPPANETH_DISK_LEN - end);
-    return answered(f, "restart", answer);
+    return 0;
 }
 
 /* ---- what is torn is kept, before it is cleared */
@@ -460,7 +462,7 @@ int lup_file_book(struct lup_file *f, const struct lup_write *writes, size_t cou
     if (answer == 0)
         answer = lup_precommit(&f->store, made.id, &made.csn);
     if (answer != 0) {
-        lup_abort(&f->store, made.id); /* where begin was refused there is no id 0 to abort */
+        lup_abort(&f->store, made.id); /* where begin was refused, id 0, which nobody has */
         made.id = 0;
     }
     if (booking != NULL)
@@ -559,12 +561,13 @@ static int fill_renewed(struct lup_file *next, const struct lup_file *f)
     return bring_log(next) == 0 ? 0 : system_failed(next, "flush");
 }
 
-/* FILE may have been moved away meanwhile: another file that has its name by now is not ours to replace. */
+/* FILE may have been moved away meanwhile: another file that has its name by now is not ours to replace. A rename that fails may have been done all the
+ * same, and then the old file has no name any more: what is booked on it would be lost. */
 static int rename_renewed(struct lup_file *next, struct lup_file *f)
 {
     if (!is_named(f, f->path))
         return wrong(next, LUP_FILE_FAILED, "rename: %s is no longer the file that is open", f->path);
-    return rename(next->path, f->path) == 0 ? 0 : system_failed(next, "rename");
+    return rename(next->path, f->path) == 0 ? 0 : poison(f, "rename of the renewed file");
 }
 
 /* The handle goes over to the new file, whose lock it has. Until the folder is synced a power failure can bring the old one back. */
@@ -594,12 +597,12 @@ int lup_file_renew(struct lup_file *f)
         if (answer != 0)
             unlink(next->path);
     }
-    if (answer == 0) {
+    if (answer == 0)
         answer = go_over(f, next);
-    } else {
-        memcpy(f->error, next->error, sizeof f->error);
+    else
         lup_file_close(next);
-    }
+    if (f->state == OPEN)
+        strcpy(f->error, next->error);
     free(next);
     return answer;
 }

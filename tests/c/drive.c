@@ -509,16 +509,24 @@ int __wrap_fdatasync(int file)
 int __wrap_rename(const char *from, const char *to)
 {
     const char *old = inside(from), *new = inside(to);
+    bool fails;
     int object;
     if (old == NULL || new == NULL)
         return __real_rename(from, to);
     if (!may())
         return -1;
+    fails = fails_now();
+    errno = EIO;
+    if (fails && one_in(&m->rng, 2))
+        return -1;
     object = m->now.list[place_of(&m->now, old)].object;
     drop_name(&m->now, old);
     add_name(&m->now, new, object);
     names_changed();
-    return __real_rename(from, to);
+    if (__real_rename(from, to) != 0)
+        broken("a real file");
+    errno = EIO;
+    return fails ? -1 : 0; /* done all the same */
 }
 
 int __wrap_unlink(const char *path)

@@ -43,7 +43,7 @@ struct settings {
     long left;          /* stores that change a byte, syncs, names until everything stops; or DRIVE_FOREVER */
     long calls;         /* the same in calls */
     bool stopped;       /* then every call fails and does nothing */
-    long eio;           /* writes and syncs until one fails, once; or DRIVE_FOREVER */
+    long eio;           /* writes, syncs and renames until one fails, once; or DRIVE_FOREVER */
     bool failed;        /* one has */
     long kill;          /* syncs until the process is killed in one; or DRIVE_FOREVER */
     unsigned skipped;   /* these syncs answer that they are done, and do nothing */

@@ -640,7 +640,7 @@ static void child(struct work *w, long n)
 static bool killed_in_sync(struct work *w, long n, unsigned skipped)
 {
     pid_t pid;
-    int status;
+    int status = 0;
     memset(w, 0, sizeof *w);
     w->rng = (uint64_t)n;
     drive_new(folder, 512, 4096, (uint64_t)n);
