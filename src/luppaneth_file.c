@@ -97,11 +97,12 @@ static int put_falling(int file, const unsigned char *disk, size_t from)
     return 0;
 }
 
-static int get(int file, unsigned char *disk)
+/* The file's first bytes. */
+static int get(int file, unsigned char *bytes, size_t len)
 {
     size_t at = 0;
-    while (at < LUPPANETH_DISK_LEN) {
-        ssize_t n = pread(file, disk + at, LUPPANETH_DISK_LEN - at, (off_t)at);
+    while (at < len) {
+        ssize_t n = pread(file, bytes + at, len - at, (off_t)at);
         if (n < 0 && errno == EINTR)
             continue;
         if (n == 0)
@@ -240,7 +241,7 @@ static int load(struct lup_file *f)
         return system_failed(f, "fstat");
     if (found.st_size != LUPPANETH_DISK_LEN)
         return wrong(f, LUP_NO_DISK, "it has %jd bytes, and a disk has 33,691", (intmax_t)found.st_size);
-    return get(f->file, f->store.disk) == 0 ? 0 : system_failed(f, "read");
+    return get(f->file, f->store.disk, LUPPANETH_DISK_LEN) == 0 ? 0 : system_failed(f, "read");
 }
 
 /* ---- what a disk holds */
@@ -315,7 +316,7 @@ static bool has_torn(struct lup_file *f)
     unsigned char *copy = malloc(LUPPANETH_DISK_LEN);
     int file = open(f->torn, O_RDWR | O_NONBLOCK | O_NOFOLLOW | O_CLOEXEC);
     struct stat found;
-    bool same = copy != NULL && file >= 0 && fstat(file, &found) == 0 && found.st_size == LUPPANETH_DISK_LEN && get(file, copy) == 0 &&
+    bool same = copy != NULL && file >= 0 && fstat(file, &found) == 0 && found.st_size == LUPPANETH_DISK_LEN && get(file, copy, LUPPANETH_DISK_LEN) == 0 &&
                 memcmp(copy, f->store.disk, LUPPANETH_DISK_LEN) == 0 && put(file, copy, 0, LUPPANETH_DISK_LEN) == 0 && sync_all(file) == 0;
     free(copy);
     shut(file);
@@ -541,7 +542,7 @@ static int open_renewed(struct lup_file *next, const struct lup_file *f)
         answer = open_locked(next, path, O_RDWR | O_CREAT | O_NOFOLLOW, LOCK_EX);
     if (answer != 0)
         return answer;
-    if (fstat(f->file, &old) != 0 || fstat(next->file, &found) != 0 || pread(next->file, &first, 1, 0) < 0)
+    if (fstat(f->file, &old) != 0 || fstat(next->file, &found) != 0 || (found.st_size != 0 && get(next->file, &first, 1) != 0))
         return system_failed(next, "read");
     if ((found.st_size != 0 && found.st_size != LUPPANETH_DISK_LEN) || first != 0)
         return wrong(next, LUP_NO_DISK, "it is there, and no renew has left it");

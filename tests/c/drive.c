@@ -77,6 +77,11 @@ size_t below(uint64_t *rng, size_t bound)
     return (size_t)(draw(rng) % bound);
 }
 
+size_t between(uint64_t *rng, size_t low, size_t high)
+{
+    return low + below(rng, high - low + 1);
+}
+
 bool one_in(uint64_t *rng, size_t n)
 {
     return below(rng, n) == 0;
@@ -490,6 +495,11 @@ ssize_t __wrap_pread(int file, void *bytes, size_t len, off_t at)
     if ((size_t)at >= m->objects[object].len)
         return 0;
     len = smaller(len, m->objects[object].len - (size_t)at);
+    errno = EINTR;
+    if (drive->disturb && one_in(&m->rng, 4))
+        return -1;
+    if (drive->disturb && one_in(&m->rng, 4))
+        len = between(&m->rng, 1, len);
     memcpy(bytes, m->objects[object].now + at, len);
     return (ssize_t)len;
 }
