@@ -114,21 +114,12 @@ static int get(int file, unsigned char *bytes, size_t len)
     return 0;
 }
 
-static int sync_data(int file)
+/* By fdatasync; or by fsync, with the length, or of a folder the names. */
+static int synced(int (*call)(int), int file)
 {
     int answer;
     do
-        answer = fdatasync(file);
-    while (answer != 0 && errno == EINTR);
-    return answer;
-}
-
-/* With the length, or of a folder the names. */
-static int sync_all(int file)
-{
-    int answer;
-    do
-        answer = fsync(file);
+        answer = call(file);
     while (answer != 0 && errno == EINTR);
     return answer;
 }
@@ -155,7 +146,7 @@ static int sync_folder(const char *path)
     file = open(folder, O_RDONLY | O_DIRECTORY | O_CLOEXEC);
     if (file < 0)
         return -1;
-    answer = sync_all(file);
+    answer = synced(fsync, file);
     shut(file);
     return answer;
 }
@@ -231,7 +222,7 @@ static int make_fresh(struct lup_file *f)
 {
     if (ftruncate(f->file, LUPPANETH_DISK_LEN) != 0 || put(f->file, f->store.disk, 0, LUPPANETH_DISK_LEN) != 0)
         return -1;
-    return sync_all(f->file);
+    return synced(fsync, f->file);
 }
 
 static int load(struct lup_file *f)
@@ -317,7 +308,7 @@ static bool has_torn(struct lup_file *f)
     int file = open(f->torn, O_RDWR | O_NONBLOCK | O_NOFOLLOW | O_CLOEXEC);
     struct stat found;
     bool same = copy != NULL && file >= 0 && fstat(file, &found) == 0 && found.st_size == LUPPANETH_DISK_LEN && get(file, copy, LUPPANETH_DISK_LEN) == 0 &&
-                memcmp(copy, f->store.disk, LUPPANETH_DISK_LEN) == 0 && put(file, copy, 0, LUPPANETH_DISK_LEN) == 0 && sync_all(file) == 0;
+                memcmp(copy, f->store.disk, LUPPANETH_DISK_LEN) == 0 && put(file, copy, 0, LUPPANETH_DISK_LEN) == 0 && synced(fsync, file) == 0;
     free(copy);
     shut(file);
     return same;
@@ -334,7 +325,7 @@ static int write_torn(struct lup_file *f)
     if (file < 0)
         return -1;
     if (put(file, f->store.disk, 0, LUPPANETH_DISK_LEN) == 0)
-        answer = sync_all(file);
+        answer = synced(fsync, file);
     shut(file);
     if (answer != 0) {
         int kept = errno;
@@ -382,11 +373,11 @@ static int write_again(struct lup_file *f)
     const size_t image = disk[0] == 2 ? LUPPANETH_IMAGE_B : LUPPANETH_IMAGE_A;
     if (put(f->file, disk, LUPPANETH_LOG, LUPPANETH_LOG + f->brought) != 0 || put_falling(f->file, disk, LUPPANETH_LOG + f->brought) != 0)
         return -1;
-    if (sync_data(f->file) != 0)
+    if (synced(fdatasync, f->file) != 0)
         return -1;
-    if (disk[0] != 0 && (put(f->file, disk, image, image + LUPPANETH_IMAGE_B - LUPPANETH_IMAGE_A) != 0 || sync_data(f->file) != 0))
+    if (disk[0] != 0 && (put(f->file, disk, image, image + LUPPANETH_IMAGE_B - LUPPANETH_IMAGE_A) != 0 || synced(fdatasync, f->file) != 0))
         return -1;
-    return put(f->file, disk, 0, 1) != 0 ? -1 : sync_data(f->file);
+    return put(f->file, disk, 0, 1) != 0 ? -1 : synced(fdatasync, f->file);
 }
 
 /* Of a file that is open and locked. */
@@ -490,7 +481,7 @@ static int bring_log(struct lup_file *f)
     size_t end = lup_used(f->store.disk + LUPPANETH_LOG, LUPPANETH_LOG_LEN); /* a record's last byte is not 0 */
     if (end == f->brought)
         return 0;
-    if (put(f->file, f->store.disk, from, LUPPANETH_LOG + end) != 0 || sync_data(f->file) != 0)
+    if (put(f->file, f->store.disk, from, LUPPANETH_LOG + end) != 0 || synced(fdatasync, f->file) != 0)
         return -1;
     settle(f, from, LUPPANETH_LOG + end);
     f->brought = end;
@@ -520,9 +511,9 @@ int lup_file_checkpoint(struct lup_file *f)
     if (answer != 0)
         return answer;
     /* the last store is the pointer byte's */
-    if (put(f->file, disk, image, image + f->store.stores - 1) != 0 || sync_data(f->file) != 0)
+    if (put(f->file, disk, image, image + f->store.stores - 1) != 0 || synced(fdatasync, f->file) != 0)
         return poison(f, "checkpoint");
-    if (put(f->file, disk, 0, 1) != 0 || sync_data(f->file) != 0)
+    if (put(f->file, disk, 0, 1) != 0 || synced(fdatasync, f->file) != 0)
         return poison(f, "checkpoint");
     return 0;
 }

@@ -384,6 +384,9 @@ static int sync_file(int object, bool data)
         raise(SIGKILL);
     if (!may())
         return -1;
+    errno = EINTR;
+    if (drive->disturb && one_in(&m->rng, 16))
+        return -1;
     if (object == THE_FOLDER)
         return sync_names();
     if (fails_now()) {

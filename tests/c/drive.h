@@ -49,7 +49,7 @@ struct settings {
     long kill;          /* syncs until the process is killed in one; or DRIVE_FOREVER */
     unsigned skipped;   /* these syncs answer that they are done, and do nothing */
     bool same_is_clean; /* a write that changes nothing makes nothing dirty: as if an opening wrote nothing again */
-    bool disturb;       /* writes and reads are short or interrupted now and then */
+    bool disturb;       /* writes and reads are short, and they and syncs interrupted, now and then */
     enum phase phase;
     unsigned folder_syncs; /* of the phase */
 };
