@@ -648,11 +648,23 @@ void drive_power_fails(void)
     drive_process_dies(false);
 }
 
+/* The kernel forgets pages that it takes for clean, and will read them from the drive again. */
+static void evict(int object)
+{
+    struct object *o = &m->objects[object];
+    size_t at;
+    for (at = 0; at < LUPPANETH_DISK_LEN; at += drive->sector)
+        if (one_in(&m->rng, 3) && count_versions(object, at / drive->sector) == 0)
+            memcpy(o->now + at, o->synced + at, sector_len(at / drive->sector));
+}
+
 void drive_process_dies(bool silently)
 {
     int i;
     for (i = 0; silently && i < m->now.count; i++)
         fail_sectors(m->now.list[i].object, true);
+    for (i = 0; (silently || drive->failed) && i < m->now.count; i++)
+        evict(m->now.list[i].object);
     close_all();
     drive->stopped = drive->failed = false;
     drive->left = drive->calls = drive->eio = drive->kill = DRIVE_FOREVER;

@@ -63,7 +63,8 @@ void drive_phase(enum phase phase);
 /* The current fails: what is not synced is chosen at random. */
 void drive_power_fails(void);
 
-/* The process is gone and the machine goes on. Silently: some dirty sectors could not be written, and nobody is told. */
+/* The process is gone and the machine goes on. Silently: some dirty sectors could not be written, and nobody is told. Then, or where a call has failed, some
+ * of what is in the kernel's memory alone is forgotten there too. */
 void drive_process_dies(bool silently);
 
 /* The bytes of a file by its name in the folder, and its length; NULL if there is none. */
