@@ -1,6 +1,6 @@
-/* Luppaneth in a file: a store whose disk is a file of 33,691 bytes that one program has open at a time. It brings to the file what a call changed, in
- * the order that the proof asks for, waits for the drive before it answers, and keeps that order through kills, power failures and failed syncs
- * (docs/EMBEDDING.md says how, and what is believed of the drive). Compile src/luppaneth_file.c beside your program.
+/* Luppaneth in a file: a store whose disk is a file of 33,691 bytes that one program has open at a time. It brings to the file what a call changed and waits
+ * for the drive before it answers, so that no kill, power failure or failed sync takes what was reported as flushed (docs/EMBEDDING.md says how, and what is
+ * believed of the drive; no proof reaches this layer). Compile src/luppaneth_file.c beside your program.
  *
  *   static struct lup_file f;
  *   const struct lup_write step[] = {{0, "pane 7", 6}, {64, "strip 12", 8}, {128, "ruby", 4}};

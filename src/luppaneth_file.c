@@ -97,11 +97,12 @@ static int put_falling(int file, const unsigned char *disk, size_t from)
     return 0;
 }
 
-static int get(int file, unsigned char *disk)
+/* The file's first bytes. */
+static int get(int file, unsigned char *bytes, size_t len)
 {
     size_t at = 0;
-    while (at < LUPPANETH_DISK_LEN) {
-        ssize_t n = pread(file, disk + at, LUPPANETH_DISK_LEN - at, (off_t)at);
+    while (at < len) {
+        ssize_t n = pread(file, bytes + at, len - at, (off_t)at);
         if (n < 0 && errno == EINTR)
             continue;
         if (n == 0)
@@ -113,21 +114,12 @@ static int get(int file, unsigned char *disk)
     return 0;
 }
 
-static int sync_data(int file)
+/* By fdatasync; or by fsync, with the length, or of a folder the names. */
+static int synced(int (*call)(int), int file)
 {
     int answer;
     do
-        answer = fdatasync(file);
-    while (answer != 0 && errno == EINTR);
-    return answer;
-}
-
-/* With the length, or of a folder the names. */
-static int sync_all(int file)
-{
-    int answer;
-    do
-        answer = fsync(file);
+        answer = call(file);
     while (answer != 0 && errno == EINTR);
     return answer;
 }
@@ -154,7 +146,7 @@ static int sync_folder(const char *path)
     file = open(folder, O_RDONLY | O_DIRECTORY | O_CLOEXEC);
     if (file < 0)
         return -1;
-    answer = sync_all(file);
+    answer = synced(fsync, file);
     shut(file);
     return answer;
 }
@@ -230,7 +222,7 @@ static int make_fresh(struct lup_file *f)
 {
     if (ftruncate(f->file, LUPPANETH_DISK_LEN) != 0 || put(f->file, f->store.disk, 0, LUPPANETH_DISK_LEN) != 0)
         return -1;
-    return sync_all(f->file);
+    return synced(fsync, f->file);
 }
 
 static int load(struct lup_file *f)
@@ -240,7 +232,7 @@ static int load(struct lup_file *f)
         return system_failed(f, "fstat");
     if (found.st_size != LUPPANETH_DISK_LEN)
         return wrong(f, LUP_NO_DISK, "it has %jd bytes, and a disk has 33,691", (intmax_t)found.st_size);
-    return get(f->file, f->store.disk) == 0 ? 0 : system_failed(f, "read");
+    return get(f->file, f->store.disk, LUPPANETH_DISK_LEN) == 0 ? 0 : system_failed(f, "read");
 }
 
 /* ---- what a disk holds */
@@ -315,8 +307,8 @@ static bool has_torn(struct lup_file *f)
     unsigned char *copy = malloc(LUPPANETH_DISK_LEN);
     int file = open(f->torn, O_RDWR | O_NONBLOCK | O_NOFOLLOW | O_CLOEXEC);
     struct stat found;
-    bool same = copy != NULL && file >= 0 && fstat(file, &found) == 0 && found.st_size == LUPPANETH_DISK_LEN && get(file, copy) == 0 &&
-                memcmp(copy, f->store.disk, LUPPANETH_DISK_LEN) == 0 && put(file, copy, 0, LUPPANETH_DISK_LEN) == 0 && sync_all(file) == 0;
+    bool same = copy != NULL && file >= 0 && fstat(file, &found) == 0 && found.st_size == LUPPANETH_DISK_LEN && get(file, copy, LUPPANETH_DISK_LEN) == 0 &&
+                memcmp(copy, f->store.disk, LUPPANETH_DISK_LEN) == 0 && put(file, copy, 0, LUPPANETH_DISK_LEN) == 0 && synced(fsync, file) == 0;
     free(copy);
     shut(file);
     return same;
@@ -333,7 +325,7 @@ static int write_torn(struct lup_file *f)
     if (file < 0)
         return -1;
     if (put(file, f->store.disk, 0, LUPPANETH_DISK_LEN) == 0)
-        answer = sync_all(file);
+        answer = synced(fsync, file);
     shut(file);
     if (answer != 0) {
         int kept = errno;
@@ -381,11 +373,11 @@ static int write_again(struct lup_file *f)
     const size_t image = disk[0] == 2 ? LUPPANETH_IMAGE_B : LUPPANETH_IMAGE_A;
     if (put(f->file, disk, LUPPANETH_LOG, LUPPANETH_LOG + f->brought) != 0 || put_falling(f->file, disk, LUPPANETH_LOG + f->brought) != 0)
         return -1;
-    if (sync_data(f->file) != 0)
+    if (synced(fdatasync, f->file) != 0)
         return -1;
-    if (disk[0] != 0 && (put(f->file, disk, image, image + LUPPANETH_IMAGE_B - LUPPANETH_IMAGE_A) != 0 || sync_data(f->file) != 0))
+    if (disk[0] != 0 && (put(f->file, disk, image, image + LUPPANETH_IMAGE_B - LUPPANETH_IMAGE_A) != 0 || synced(fdatasync, f->file) != 0))
         return -1;
-    return put(f->file, disk, 0, 1) != 0 ? -1 : sync_data(f->file);
+    return put(f->file, disk, 0, 1) != 0 ? -1 : synced(fdatasync, f->file);
 }
 
 /* Of a file that is open and locked. */
@@ -489,7 +481,7 @@ static int bring_log(struct lup_file *f)
     size_t end = lup_used(f->store.disk + LUPPANETH_LOG, LUPPANETH_LOG_LEN); /* a record's last byte is not 0 */
     if (end == f->brought)
         return 0;
-    if (put(f->file, f->store.disk, from, LUPPANETH_LOG + end) != 0 || sync_data(f->file) != 0)
+    if (put(f->file, f->store.disk, from, LUPPANETH_LOG + end) != 0 || synced(fdatasync, f->file) != 0)
         return -1;
     settle(f, from, LUPPANETH_LOG + end);
     f->brought = end;
@@ -519,9 +511,9 @@ int lup_file_checkpoint(struct lup_file *f)
     if (answer != 0)
         return answer;
     /* the last store is the pointer byte's */
-    if (put(f->file, disk, image, image + f->store.stores - 1) != 0 || sync_data(f->file) != 0)
+    if (put(f->file, disk, image, image + f->store.stores - 1) != 0 || synced(fdatasync, f->file) != 0)
         return poison(f, "checkpoint");
-    if (put(f->file, disk, 0, 1) != 0 || sync_data(f->file) != 0)
+    if (put(f->file, disk, 0, 1) != 0 || synced(fdatasync, f->file) != 0)
         return poison(f, "checkpoint");
     return 0;
 }
@@ -541,7 +533,7 @@ static int open_renewed(struct lup_file *next, const struct lup_file *f)
         answer = open_locked(next, path, O_RDWR | O_CREAT | O_NOFOLLOW, LOCK_EX);
     if (answer != 0)
         return answer;
-    if (fstat(f->file, &old) != 0 || fstat(next->file, &found) != 0 || pread(next->file, &first, 1, 0) < 0)
+    if (fstat(f->file, &old) != 0 || fstat(next->file, &found) != 0 || (found.st_size != 0 && get(next->file, &first, 1) != 0))
         return system_failed(next, "read");
     if ((found.st_size != 0 && found.st_size != LUPPANETH_DISK_LEN) || first != 0)
         return wrong(next, LUP_NO_DISK, "it is there, and no renew has left it");
