@@ -537,6 +537,9 @@ static int open_renewed(struct lup_file *next, const struct lup_file *f)
         return system_failed(next, "read");
     if ((found.st_size != 0 && found.st_size != LUPPANETH_DISK_LEN) || first != 0)
         return wrong(next, LUP_NO_DISK, "it is there, and no renew has left it");
+    /* for those who may use the old one; where it is not ours to give away it stays ours */
+    if (fchown(next->file, old.st_uid, old.st_gid) != 0)
+        errno = 0;
     if (fchmod(next->file, old.st_mode & 07777) != 0 || make_fresh(next) != 0)
         return system_failed(next, "making a fresh disk");
     return 0;

@@ -184,8 +184,9 @@ impl FileDevice {
         let path = with_ending(&self.path, ".renew");
         let mut options = OpenOptions::new();
         options.read(true).write(true).create(true).truncate(false);
+        let linked = path.is_symlink();
         let device = FileDevice::locked(&path, &options, false)?.keep_torn(self.keep_torn);
-        if !device.left_by_a_renewal()? {
+        if linked || !device.left_by_a_renewal()? {
             let text = "it is in the way of a renewal and not left by one; move it away";
             return Err(wrong(&path, ErrorKind::AlreadyExists, text));
         }
@@ -287,25 +288,28 @@ impl FileDevice {
         let taken = (0..COPIES).take_while(|&number| name(number).symlink_metadata().is_ok());
         let free = taken.count();
         if free > 0 && fs::read(name(free - 1)).is_ok_and(|bytes| bytes == disk) {
-            return synced(name(free - 1));
+            // Its bytes may be in the kernel's memory alone.
+            return kept(name(free - 1), OpenOptions::new().write(true), disk);
         }
         if free == COPIES {
             let text = format!("{COPIES} torn disks are kept beside it already");
             return Err(wrong(&self.path, ErrorKind::AlreadyExists, text));
         }
-        let copy = name(free);
-        let made = OpenOptions::new().write(true).create_new(true).open(&copy);
-        let written = made.and_then(|file| file.write_all_at(disk, 0));
-        written.map_err(failed(&copy, "keeping the torn disk"))?;
-        synced(copy)
+        kept(
+            name(free),
+            OpenOptions::new().write(true).create_new(true),
+            disk,
+        )
     }
 }
 
-/// The file's bytes and its name last.
-fn synced(path: PathBuf) -> io::Result<PathBuf> {
-    let file = File::open(&path);
-    file.and_then(|file| file.sync_all())
-        .map_err(failed(&path, "fsync"))?;
+/// A copy that lasts, with its name.
+fn kept(path: PathBuf, options: &OpenOptions, disk: &Disk) -> io::Result<PathBuf> {
+    let written = options.open(&path).and_then(|file| {
+        file.write_all_at(disk, 0)?;
+        file.sync_all()
+    });
+    written.map_err(failed(&path, "keeping the torn disk"))?;
     sync_directory(&path)?;
     Ok(path)
 }
