@@ -9,7 +9,7 @@ use lib.Seq.{sets}
 use lib.Dec.{eqb}
 use borrow.Author.Tests.{eq-eqb, ne-eqb}
 use Rattle.log.specs.Number.{be16}
-use Rattle.trace.specs.Record.{idsCount, idsFrom, idsOf}
+use Rattle.report.specs.Record.{idsCount, idsFrom, idsOf}
 
 pub ids-none : (b : List ℕ) → (length b ≡ 64 → ⊥) → replicate 20 0 ≡ idsOf b
 unfolding idsOf

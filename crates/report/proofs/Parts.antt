@@ -4,7 +4,7 @@ use mathlib.Core.List.{List, []}
 use mathlib.Core.Path.{_≡_, ap}
 use lib.ListN.{length, getD, take, drop}
 use borrow.Author.Tests.{eq-eqb, ne-eqb}
-use Rattle.trace.specs.Record.{dataOf}
+use Rattle.report.specs.Record.{dataOf}
 
 pub data-none : (b : List ℕ) → (length b ≡ 64 → ⊥) → dataOf b ≡ []
 unfolding dataOf

@@ -5,7 +5,7 @@ use mathlib.Core.List.{List, [], _∷_}
 use lib.ListN.{length, getD, take, drop, replicate}
 use lib.Dec.{eqb}
 use Rattle.log.specs.Number.{be16, be32}
-use Rattle.trace.specs.declared.record.Record.{Record}
+use Rattle.report.specs.declared.record.Record.{Record}
 
 -- all zero, which is no call, where the bytes are not 64
 unfoldable pub recordOf : List ℕ → Record

@@ -3,10 +3,10 @@ use native.Mathlib.Omega.{arith}
 use mathlib.Core.Path.{_≡_, refl, sym, ap, _∙_}
 use lib.ListN.{length, drop}
 use borrow.Author.Needs.{needs}
-use Rattle.trace.specs.Adler.{plusByte, sums, joined, adlerOf}
-use Rattle.trace.proofs.Adler.{sums-more, sums-done}
-use Rattle.trace.proofs.line.adler.Statement.{statement}
-use Rattle.trace.proofs.line.adler.Tie as tie
+use Rattle.report.specs.Adler.{plusByte, sums, joined, adlerOf}
+use Rattle.report.proofs.Adler.{sums-more, sums-done}
+use Rattle.report.proofs.line.adler.Statement.{statement}
+use Rattle.report.proofs.line.adler.Tie as tie
 
 abbrev Inv-loop : tie.InvT-loop
 Inv-loop s a₀ b₀ i₀ a b i = (i ≤ length s) × (a < 65521) × (b < 65521) × (sums (record { s1 = 1; s2 = 0 }) s ≡ sums (record { s1 = a; s2 = b }) (drop i s))

@@ -1,9 +1,9 @@
 use lib.ListN.{length}
 use borrow.Author.Needs.{needs}
 use borrow.Author.Tests.{eq-eqb, ne-eqb}
-use Rattle.trace.specs.Record.{recordOf}
-use Rattle.trace.proofs.record.read_record.Statement.{statement}
-use Rattle.trace.proofs.record.read_record.Tie as tie
+use Rattle.report.specs.Record.{recordOf}
+use Rattle.report.proofs.record.read_record.Statement.{statement}
+use Rattle.report.proofs.record.read_record.Tie as tie
 
 -- places of the code by name
 

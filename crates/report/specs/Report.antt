@@ -10,9 +10,9 @@ use Rattle.store.specs.declared.State.{State}
 use Rattle.store.specs.State.{txsOf}
 use Rattle.disk.specs.declared.call.Stopped.{Stopped}
 use Rattle.disk.specs.declared.call.Stopped.the-variants.{Untold}
-use Rattle.trace.specs.declared.line.Verdict.the-variants.{Answered, Part, Equal}
-use Rattle.trace.specs.declared.line.Report.{Report}
-use Rattle.trace.specs.Adler.{adlerOf}
+use Rattle.report.specs.declared.line.Verdict.the-variants.{Answered, Part, Equal}
+use Rattle.report.specs.declared.line.Report.{Report}
+use Rattle.report.specs.Adler.{adlerOf}
 
 abbrev pub restartedOf : Answer → ℕ → ℕ → Stopped → State → Report
 restartedOf answer value stores stop state = record { verdict = Answered answer; value = value; stores = stores; stop = stop; state = state }

@@ -8,8 +8,8 @@ use store::State;
 use transaction::Tx;
 ghost use mathlib.Core.Path.{_≡_};
 ghost use Prim.Native.Nat.{_≤_};
-ghost use Rattle.trace.specs.Adler.{adlerOf};
-ghost use Rattle.trace.specs.Report.{storedOf, restartedOf, readOf, countIn, countedIn, comparedOf};
+ghost use Rattle.report.specs.Adler.{adlerOf};
+ghost use Rattle.report.specs.Report.{storedOf, restartedOf, readOf, countIn, countedIn, comparedOf};
 
 // A line's second field: a call's answer, the length of read's part, or whether two disks are equal in meaning.
 pub enum Verdict {
@@ -30,7 +30,7 @@ pub struct Report {
 }
 
 impl Report {
-    pub(crate) fn restarted(
+    pub fn restarted(
         answer: Answer,
         value: usize,
         stores: usize,
@@ -49,13 +49,13 @@ impl Report {
     }
 
     // Any call but restart.
-    pub(crate) fn stored(answer: Answer, value: usize, stores: usize, state: State) -> Self
+    pub fn stored(answer: Answer, value: usize, stores: usize, state: State) -> Self
         ensures { λ r. ⌜ r ≡ storedOf answer value stores state ⌝ }
     {
         Report::restarted(answer, value, stores, Stopped::Untold, state)
     }
 
-    pub(crate) fn read(part: &[u8], state: State) -> Self
+    pub fn read(part: &[u8], state: State) -> Self
         ensures { λ r. ⌜ r ≡ readOf (now (part .entry)) state ⌝ }
     {
         Report {
@@ -67,7 +67,7 @@ impl Report {
         }
     }
 
-    pub(crate) fn compared(equal: bool, state: State) -> Self
+    pub fn compared(equal: bool, state: State) -> Self
         ensures { λ r. ⌜ r ≡ comparedOf equal state ⌝ }
     {
         Report {
@@ -87,7 +87,7 @@ fn byte(x: u8) -> u32
 }
 
 // Adler-32 (RFC 1950).
-pub(crate) fn adler(s: &[u8]) -> u32
+pub fn adler(s: &[u8]) -> u32
     ensures { λ r. ⌜ r ≡ adlerOf (now (s .entry)) ⌝ }
 {
     let mut a: u32 = 1;
@@ -119,7 +119,7 @@ fn comma_number(n: usize) {
     number(n);
 }
 
-pub(crate) fn print_unknown() {
+pub fn print_unknown() {
     text(b"unknown\n");
 }
 
@@ -225,7 +225,7 @@ fn print_stop(stopped: Stopped) {
     }
 }
 
-pub(crate) fn print_line(call: u8, out: Report, disk: &[u8], memory: &[u8], tail: &[u8]) {
+pub fn print_line(call: u8, out: Report, disk: &[u8], memory: &[u8], tail: &[u8]) {
     number(call as usize);
     let verdict = out.verdict;
     print_verdict(verdict);

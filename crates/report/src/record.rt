@@ -4,7 +4,7 @@ use log::number::be16;
 use log::number::be32;
 use log::stores::least;
 ghost use mathlib.Core.Path.{_≡_};
-ghost use Rattle.trace.specs.Record.{recordOf, dataOf, idsCount, idsOf};
+ghost use Rattle.report.specs.Record.{recordOf, dataOf, idsCount, idsOf};
 
 pub struct Record {
     pub call: u8,
@@ -17,7 +17,7 @@ pub struct Record {
 }
 
 // All zero, which is no call, where the bytes are not 64.
-pub(crate) fn read_record(b: &[u8]) -> Record
+pub fn read_record(b: &[u8]) -> Record
     ensures { λ r. ⌜ r ≡ recordOf (now (b .entry)) ⌝ }
 {
     if b.len() != 64 {
@@ -43,7 +43,7 @@ pub(crate) fn read_record(b: &[u8]) -> Record
 }
 
 // The data bytes; a count above 40 counts as 40.
-pub(crate) fn data_of(b: &[u8]) -> &[u8]
+pub fn data_of(b: &[u8]) -> &[u8]
     ensures { λ r. ⌜ now r ≡ dataOf (now (b .entry)) ⌝ }
 {
     if b.len() != 64 {
@@ -58,10 +58,10 @@ pub(crate) fn data_of(b: &[u8]) -> &[u8]
 }
 
 // The most ids of a record of call 19, two bytes each: as many as the data has room for.
-pub(crate) const IDS: usize = 20;
+pub const IDS: usize = 20;
 
 // How many of them: a count above 20 counts as 20.
-pub(crate) fn ids_count(b: &[u8]) -> usize
+pub fn ids_count(b: &[u8]) -> usize
     ensures { λ r. ⌜ r ≡ idsCount (now (b .entry)) ⌝ }
 {
     if b.len() != 64 {
@@ -71,7 +71,7 @@ pub(crate) fn ids_count(b: &[u8]) -> usize
 }
 
 // All that the data has room for. Zeros, where the bytes are not 64.
-pub(crate) fn ids_of(b: &[u8]) -> [u16; IDS]
+pub fn ids_of(b: &[u8]) -> [u16; IDS]
     ensures { λ r. ⌜ r ≡ idsOf (now (b .entry)) ⌝ }
 {
     if b.len() != 64 {

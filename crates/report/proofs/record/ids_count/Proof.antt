@@ -3,9 +3,9 @@ use mathlib.Core.Path.{ap, _∙_}
 use lib.ListN.{length}
 use borrow.Author.Needs.{needs}
 use borrow.Author.Tests.{eq-eqb, ne-eqb}
-use Rattle.trace.specs.Record.{idsCount}
-use Rattle.trace.proofs.record.ids_count.Statement.{statement}
-use Rattle.trace.proofs.record.ids_count.Tie as tie
+use Rattle.report.specs.Record.{idsCount}
+use Rattle.report.proofs.record.ids_count.Statement.{statement}
+use Rattle.report.proofs.record.ids_count.Tie as tie
 
 returns : tie.Need-returns
 unfolding idsCount

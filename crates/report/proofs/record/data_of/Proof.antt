@@ -2,9 +2,9 @@ use Prim.Native.Nat.{_+_, _-_}
 use native.Mathlib.Omega.{arith}
 use mathlib.Core.Path.{sym}
 use borrow.Author.Needs.{needs}
-use Rattle.trace.proofs.Parts.{data-none, data-is}
-use Rattle.trace.proofs.record.data_of.Statement.{statement}
-use Rattle.trace.proofs.record.data_of.Tie as tie
+use Rattle.report.proofs.Parts.{data-none, data-is}
+use Rattle.report.proofs.record.data_of.Statement.{statement}
+use Rattle.report.proofs.record.data_of.Tie as tie
 
 sub-result : tie.Need-sub-result
 sub-result c = search needs

@@ -11,9 +11,9 @@ use Rattle.transaction.specs.Flat.{noTx}
 use Rattle.transaction.proofs.Lists.{up-done, sum-turn}
 use Rattle.store.specs.State.{txAt}
 use Rattle.store.proofs.Slots.{length-mapped}
-use Rattle.trace.specs.Report.{countIn, countedIn}
-use Rattle.trace.proofs.line.counted.Statement.{statement}
-use Rattle.trace.proofs.line.counted.Tie as tie
+use Rattle.report.specs.Report.{countIn, countedIn}
+use Rattle.report.proofs.line.counted.Statement.{statement}
+use Rattle.report.proofs.line.counted.Tie as tie
 
 abbrev Inv-loop : tie.InvT-loop
 Inv-loop b s n sum₀ i₀ sum i = (i ≤ n) × (n < 256) × (sum ≤ 255 * i) × (countedIn b s ≡ sum + sumOf (countIn b) (upFrom (txAt s) (n - i) i))

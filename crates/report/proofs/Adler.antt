@@ -5,7 +5,7 @@ use mathlib.Core.List.{List, [], _∷_}
 use mathlib.Core.Path.{_≡_, refl, sym, ap, _∙_}
 use lib.ListN.{length, getD, drop, drop-of-length-le}
 use lib.Seq.{drop-cons}
-use Rattle.trace.specs.Adler.{Sums, plusByte, sums, adlerOf}
+use Rattle.report.specs.Adler.{Sums, plusByte, sums, adlerOf}
 
 pub sums-more : (t : Sums) (s : List ℕ) (i : ℕ) → i < length s → sums t (drop i s) ≡ sums (plusByte t (getD s i 0)) (drop (i + 1) s)
 sums-more t s i h = ap (sums t) (drop-cons s i 0 h) ∙ ap (λ (n : ℕ). sums (plusByte t (getD s i 0)) (drop n s)) (sym (add-one i))

@@ -3,10 +3,10 @@ use native.Mathlib.Omega.{arith}
 use borrow.Author.Needs.{needs}
 use mathlib.Core.Path.{_≡_, refl, sym, ap, _∙_}
 use lib.ListN.{length, set, length-set}
-use Rattle.trace.specs.Record.{idsFrom}
-use Rattle.trace.proofs.Ids.{ids-none, ids-is, laidFrom, laid-start, laid-more, laid-end}
-use Rattle.trace.proofs.record.ids_of.Statement.{statement}
-use Rattle.trace.proofs.record.ids_of.Tie as tie
+use Rattle.report.specs.Record.{idsFrom}
+use Rattle.report.proofs.Ids.{ids-none, ids-is, laidFrom, laid-start, laid-more, laid-end}
+use Rattle.report.proofs.record.ids_of.Statement.{statement}
+use Rattle.report.proofs.record.ids_of.Tie as tie
 
 abbrev Inv-loop : tie.InvT-loop
 Inv-loop b ids₀ i₀ ids i = (i ≤ 20) × (length ids ≡ 20) × (idsFrom b 20 24 ≡ laidFrom b ids i)

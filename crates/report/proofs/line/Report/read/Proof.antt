@@ -1,6 +1,6 @@
 use borrow.Author.Needs.{needs}
-use Rattle.trace.proofs.line.Report.read.Statement.{statement}
-use Rattle.trace.proofs.line.Report.read.Tie as tie
+use Rattle.report.proofs.line.Report.read.Statement.{statement}
+use Rattle.report.proofs.line.Report.read.Tie as tie
 
 adler-requires : tie.Need-adler-requires
 adler-requires c κs = search needs
