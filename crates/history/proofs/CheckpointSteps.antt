@@ -8,12 +8,13 @@ use mathlib.Core.Path.{_≡_, refl, sym, ap, _∙_, subst}
 use lib.ListN.{length, take, drop}
 use Rattle.layout.specs.Parts.{part, pointerOf, imagePart}
 use Rattle.layout.specs.declared.Form.the-variants.{One}
-use Rattle.recovery.specs.Group.{groupsSize}
+use Rattle.recovery.specs.Group.{Group, groupsSize}
 use Rattle.recovery.specs.Machine.{Disk, standingBefore, standingIn, numberBefore, Live, down, up, checkpoints, checkpointIsCut, afterCheckpoint, withoutRedo}
 use Rattle.recovery.proofs.Log.{checkpoint-stands, checkpoint-number}
 use Rattle.log.specs.Log.{readLog}
 use Rattle.log.specs.Stores.{apply}
 use Rattle.log.proofs.StoreLaws.{length-apply}
+use Rattle.log.proofs.Ended.{Groupless}
 use Rattle.transaction.specs.View.{viewOf}
 use Rattle.image.specs.Slots.{slotAt}
 use Rattle.image.specs.Content.{Content, contentOf, transactionsIn}
@@ -29,6 +30,7 @@ use Rattle.store.proofs.Fits.{fit}
 use Rattle.store.proofs.Storing.{diskNumber, stored-cut, stored-done}
 use Rattle.store.proofs.Checkpointing.{checkpoint-length, kept-log, kept-pointer, kept-image, new-pointer, new-image}
 use Rattle.store.proofs.Stepping.{same-or-other}
+use Rattle.disk.specs.Layout.{logFrom}
 use Rattle.disk.specs.Open.{Loaded, imageNamed, loadOf, OpenedDisk, openedBy, openOf}
 use Rattle.disk.proofs.Loading.{load-image}
 use Rattle.disk.proofs.Opened.{open-is, open-inv, open-alike}
@@ -63,6 +65,9 @@ module _ {from : Start} (w : World) (d : Disk) (l : Live) (o : OnDisk from (w .d
   same-groups : (n : ℕ) → groupsFrom n left ≡ groupsFrom n (w .disk)
   same-groups n = ap (readLog n) (kept-log s (w .disk) m t a z)
 
+  same-end : (gs : List Group) → Groupless (logFrom (groupsSize gs) (w .disk)) → Groupless (logFrom (groupsSize gs) left)
+  same-end gs h = subst Groupless (ap (drop (groupsSize gs)) (sym (kept-log s (w .disk) m t a z))) h
+
   -- ---- cut: the image in use is the old one
 
   module _ (h : a ≤ imageSize (imageOf s)) where
@@ -70,7 +75,7 @@ module _ {from : Start} (w : World) (d : Disk) (l : Live) (o : OnDisk from (w .d
     shows-cut =
         same-opened (w .disk) left d d o left-length
         (open-alike left (w .disk) (kept-pointer s (w .disk) m t a z h) (kept-image s (w .disk) m t a z h (open-inv (w .disk) (o .opened) .low))) refl refl
-        (same-groups (numberBefore (opens from) d) ∙ o .log)
+        (same-groups (numberBefore (opens from) d) ∙ o .log) (same-end (standingIn d) (o .ended))
 
     cut-follows : FollowsBy from (up d l) (checkpoint a) (stepOf (checkpoint a) w)
     unfolding stepOf checkpointOf
@@ -150,6 +155,8 @@ module _ {from : Start} (w : World) (d : Disk) (l : Live) (o : OnDisk from (w .d
               ∙ same-groups (numberBefore (opens from) d)
               ∙ o .log
               ∙ sym same-stands;
+          ended =
+              subst (λ (gs : List Group). Groupless (logFrom (groupsSize gs) left)) (sym same-stands) (same-end (standingIn d) (o .ended));
         }
 
     done-follows : FollowsBy from (up d l) (checkpoint a) (stepOf (checkpoint a) w)

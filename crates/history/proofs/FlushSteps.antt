@@ -2,6 +2,7 @@
 use Prim.Native.Nat.{ℕ, _+_, _-_, _≤_, _<_}
 use native.Mathlib.Decide.{decLe}
 use native.Mathlib.Omega.{arith}
+use mathlib.Core.Bool.{true}
 use mathlib.Core.List.{List, _++_, append-assoc}
 use mathlib.Core.Path.{_≡_, refl, sym, ap, ap₂, _∙_, subst}
 use lib.ListN.{length, take, drop, replicate, length-take, length-append, take-append-drop}
@@ -11,7 +12,7 @@ use Rattle.recovery.specs.Ledger as ledger
 use Rattle.recovery.specs.Machine.{Disk, standingIn, numberBefore, Live, down, up, flushes, flushIsCut, storing, afterFlush}
 use Rattle.recovery.proofs.Groups.{groupsSize-append, fitting-all}
 use Rattle.recovery.proofs.Log.{stored-before, stored-stands, stored-number}
-use Rattle.log.specs.Log.{readLog, encodeLog}
+use Rattle.log.specs.Log.{readLog, encodeLog, wellFormedLog}
 use Rattle.log.specs.Stores.{Store, apply, copies, shifted}
 use Rattle.log.proofs.Parts.{encode-append, formed-first}
 use Rattle.log.proofs.PartLaws.{copies-moved, part-copied, within-copies}
@@ -19,6 +20,7 @@ use Rattle.log.proofs.RoundTrip.{length-log, log-same}
 use Rattle.log.proofs.Soundness.{log-formed}
 use Rattle.log.proofs.StoreLaws.{drop-zeros, length-apply, length-shifted}
 use Rattle.log.proofs.Torn.{log-cut}
+use Rattle.log.proofs.Ended.{Groupless, cut-ended}
 use Rattle.store.specs.declared.State.{State}
 use Rattle.store.specs.Flush.{firstGroups, firstSize, flushedState, flushedTail, flushStores, flushPlan, flushOf}
 use Rattle.store.specs.View.{live}
@@ -125,6 +127,10 @@ module _ {from : Start} (w : World) (d : Disk) (l : Live) (o : OnDisk from (w .d
         ∙ ap (λ (x : List ℕ). new ++ x)
         (sym (drop-drop (length new) (s .logend) log) ∙ ap (drop (length new)) (v .zeros) ∙ drop-zeros (length new) (16384 - s .logend))
 
+    -- the first groups are well formed
+    firsts-formed : wellFormedLog (s .ondisk .0) firsts ≡ true
+    firsts-formed = formed-first k (s .ondisk .0) groups (log-formed (s .ondisk .0) groups t refl)
+
     -- the groups that were stored whole are read after those that stood there
     log-left : groupsFrom (numberBefore (opens from) d) left ≡ standingIn d ++ fitting n firsts
     log-left =
@@ -137,13 +143,23 @@ module _ {from : Start} (w : World) (d : Disk) (l : Live) (o : OnDisk from (w .d
         log-same (numberBefore (opens from) d) gs log (wholeLog left) (o .log) same
         ∙ ap (λ (hs : List Group). gs ++ hs)
         (ap₂ readLog number (ap (λ (j : ℕ). logFrom j left) (sym (v .end)) ∙ behind)
-        ∙ log-cut (s .ondisk .0) firsts n (16384 - s .logend - length new) (formed-first k (s .ondisk .0) groups (log-formed (s .ondisk .0) groups t refl)))
+        ∙ log-cut (s .ondisk .0) firsts n (16384 - s .logend - length new) firsts-formed)
+
+    -- and no whole group stands behind them
+    ended-left : Groupless (logFrom (s .logend + groupsSize (fitting n firsts)) left)
+    ended-left =
+        let j = groupsSize (fitting n firsts) in
+        subst Groupless (sym (sym (drop-drop j (s .logend) (wholeLog left)) ∙ ap (drop j) behind))
+        (cut-ended (s .ondisk .0) firsts n (16384 - s .logend - length new) firsts-formed)
 
     left-alike : OpenAlike left (w .disk)
     left-alike =
         subst (λ (ss : List Store). OpenAlike (apply (take n ss) (w .disk)) (w .disk)) (sym (copies-moved 17307 (s .logend) (take size t)))
         (log-stores-alike n (copies (s .logend) (take size t)) (w .disk)
         (within-copies 16384 (s .logend) (take size t) (omega (arith, length-take size t, room))))
+
+    ends : (gs : List Group) → fitting n firsts ≡ gs → s .logend + groupsSize (fitting n firsts) ≡ groupsSize (standingIn (storing gs d))
+    ends gs e = omega (arith, v .end, ap groupsSize e, ap groupsSize (stored-stands gs d) ∙ groupsSize-append (standingIn d) gs)
 
     shows-left : (gs : List Group) → fitting n firsts ≡ gs → OnDisk from left (storing gs d)
     shows-left gs e =
@@ -152,6 +168,7 @@ module _ {from : Start} (w : World) (d : Disk) (l : Live) (o : OnDisk from (w .d
         ∙ log-left
         ∙ ap (λ (hs : List Group). standingIn d ++ hs) e
         ∙ sym (stored-stands gs d))
+        (subst (λ (j : ℕ). Groupless (logFrom j left)) (ends gs e) ended-left)
 
   -- ---- the call
 
@@ -178,6 +195,7 @@ module _ {from : Start} (w : World) (d : Disk) (l : Live) (o : OnDisk from (w .d
   done-follows a z h =
       let e = stored-done s (w .disk) (w .memory) t (flushPlan s (w .memory) t k) a z (omega (arith, flush-length s t k, h)) in
       let gs = take k (l .tail) in
+      let stored-firsts : fitting a firsts ≡ gs = fitting-all a firsts h ∙ firsts-same in
       let enough : groupsSize gs ≤ a = omega (arith, h, ap groupsSize firsts-same) in
       let whole : new a ≡ encodeLog firsts = take-all a (encodeLog firsts) (omega (arith, length-log firsts, h)) in
       let n : length (new a) ≡ size = ap length whole ∙ length-log firsts in
@@ -192,7 +210,7 @@ module _ {from : Start} (w : World) (d : Disk) (l : Live) (o : OnDisk from (w .d
         next = up (storing gs d) (afterFlush k l);
         step = flushes d l k a enough;
         shows = (
-          shows-left a gs (fitting-all a firsts h ∙ firsts-same),
+          shows-left a gs stored-firsts,
           awake (record {
             memory = v .memory;
             tail = length-shifted size t ∙ v .tail;
@@ -208,13 +226,7 @@ module _ {from : Start} (w : World) (d : Disk) (l : Live) (o : OnDisk from (w .d
                   lastId = s .lastid .0;
                 }) (flush-tail s t k)
                 ∙ ap (afterFlush k) (v .view);
-            end =
-                omega (
-                  arith,
-                  v .end,
-                  ap groupsSize (stored-stands gs d) ∙ groupsSize-append (standingIn d) gs,
-                  ap groupsSize firsts-same,
-                );
+            end = omega (arith, ends a gs stored-firsts, ap groupsSize stored-firsts, ap groupsSize firsts-same);
             zeros = zeros;
             neat = neat-after;
           }),

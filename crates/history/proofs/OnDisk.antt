@@ -4,8 +4,8 @@ use Prim.Native.Nat.{ℕ, zero, suc, _+_, _-_, _*_, _≤_}
 use native.Mathlib.Omega.{arith}
 use mathlib.Core.Bool.{true}
 use mathlib.Core.List.{List, [], _∷_, _++_}
-use mathlib.Core.Path.{_≡_, refl, sym, ap, ap₂, _∙_}
-use lib.ListN.{length, take, replicate, length-replicate}
+use mathlib.Core.Path.{_≡_, refl, sym, ap, ap₂, _∙_, subst}
+use lib.ListN.{length, take, drop, replicate, length-replicate}
 use Rattle.layout.specs.declared.Form.the-variants.{One}
 use Rattle.recovery.specs.Group.{Group, groupsSize, lastCsn}
 use Rattle.recovery.specs.Transaction.{Tx}
@@ -18,6 +18,7 @@ use Rattle.log.specs.Log.{readLog, encodeLog}
 use Rattle.log.proofs.Parts.{log-split}
 use Rattle.log.proofs.StoreLaws.{drop-zeros}
 use Rattle.log.proofs.Torn.{log-zeros}
+use Rattle.log.proofs.Ended.{Groupless, zeros-groupless}
 use Rattle.image.specs.declared.Image.{Image}
 use Rattle.image.specs.Pack.{emptyImage}
 use Rattle.image.specs.Rules.{keepsRules}
@@ -62,6 +63,8 @@ pub record OnDisk (from : Start) (disk : List ℕ) (d : Disk) : Type 0 where
   pub last : imageIn disk .lastid .0 ≡ d .image .lastId
   pub place : imageIn disk .logend ≡ groupsSize (standingBefore d)
   pub log : groupsFrom (numberBefore (opens from) d) disk ≡ standingIn d
+  -- where it ends no whole group stands, whatever its number
+  pub ended : Groupless (logFrom (groupsSize (standingIn d)) disk)
 
 -- An all-zero disk: without an image, memory is zero, the last commit number and the last id 0.
 abbrev pub fresh : Start
@@ -71,6 +74,13 @@ take-zeros : (n k : ℕ) → n ≤ k → _≡_ {A = List ℕ} (take n (replicate
 take-zeros zero k h = refl
 take-zeros (suc n) zero h = absurd (omega arith)
 take-zeros (suc n) (suc k) h = ap (λ (l : List ℕ). 0 ∷ l) (take-zeros n k (omega arith))
+
+fresh-log : wholeLog (replicate 33691 0) ≡ replicate 16384 0
+fresh-log = ap (take 16384) (drop-zeros 17307 33691) ∙ take-zeros 16384 16384 (omega arith)
+
+-- nothing stands in the log
+fresh-stands : standingIn (openingDisk (opens fresh)) ≡ []
+fresh-stands = ap (λ (gs : List Group). gs ++ []) (opening-stands (opens fresh))
 
 pub fresh-shows : OnDisk fresh (replicate 33691 0) (openingDisk (opens fresh))
 unfolding openOf loadOf emptyImage
@@ -83,18 +93,19 @@ fresh-shows = record {
   last = refl;
   place = ap groupsSize (sym (opening-stands (opens fresh)));
   log =
-      ap (λ (n : ℕ). groupsFrom n (replicate 33691 0)) (opening-number (opens fresh))
-      ∙ ap (λ (l : List ℕ). readLog 0 (take 16384 l)) (drop-zeros 17307 33691)
-      ∙ ap (readLog 0) (take-zeros 16384 16384 (omega arith))
+      ap₂ readLog (opening-number (opens fresh)) fresh-log
       ∙ log-zeros 0 16384
-      ∙ ap (λ (gs : List Group). gs ++ []) (sym (opening-stands (opens fresh)));
+      ∙ sym fresh-stands;
+  ended =
+      subst Groupless (sym (ap₂ drop (ap groupsSize fresh-stands) fresh-log)) (zeros-groupless 16384);
 }
 
 -- ---- a disk that opens alike
 
 pub same-opened : {from : Start} (x y : List ℕ) (d e : Disk) → OnDisk from x d → length y ≡ 33691 → OpenAlike y x
-    → e .image ≡ d .image → standingBefore e ≡ standingBefore d → groupsFrom (numberBefore (opens from) e) y ≡ standingIn e → OnDisk from y e
-same-opened x y d e o long a i b log = record {
+    → e .image ≡ d .image → standingBefore e ≡ standingBefore d → groupsFrom (numberBefore (opens from) e) y ≡ standingIn e
+    → Groupless (logFrom (groupsSize (standingIn e)) y) → OnDisk from y e
+same-opened x y d e o long a i b log ended = record {
   long = long;
   opened = a .number ∙ o .opened;
   txs = ap transactionsIn (a .image) ∙ o .txs ∙ ap (λ z. z .txs) (sym i);
@@ -103,6 +114,7 @@ same-opened x y d e o long a i b log = record {
   last = ap (λ (z : Image). z .lastid .0) (a .image) ∙ o .last ∙ ap (λ z. z .lastId) (sym i);
   place = ap (λ (z : Image). z .logend) (a .image) ∙ o .place ∙ ap groupsSize (sym b);
   log = log;
+  ended = ended;
 }
 
 -- ---- the groups after the image

@@ -17,6 +17,7 @@ use Rattle.log.specs.Log.{readLog, encodeLog}
 use Rattle.log.specs.Stores.{apply}
 use Rattle.log.proofs.StoreLaws.{length-apply}
 use Rattle.log.proofs.Torn.{log-torn}
+use Rattle.log.proofs.Ended.{Groupless, log-ended}
 use Rattle.transaction.specs.declared.Tx.{Tx as Slot}
 use Rattle.transaction.specs.Flat.{emptyTx}
 use Rattle.image.specs.Content.{transactionsIn}
@@ -25,6 +26,7 @@ use Rattle.restart.proofs.Recovery.{last-above-last, last-above-image, last-abo
 use Rattle.store.specs.declared.State.{State}
 use Rattle.store.specs.View.{live}
 use Rattle.store.proofs.Stepping.{SizedState}
+use Rattle.disk.specs.Layout.{logFrom}
 use Rattle.disk.specs.Examine.{Meaning, stepsOf, examineOf}
 use Rattle.disk.specs.Restart.{recoveredState, clearing, restartOf}
 use Rattle.disk.proofs.Opened.{log-length}
@@ -74,8 +76,15 @@ module _ {from : Start} (disk : List ℕ) (d : Disk) (o : OnDisk from disk d) (n
         ∙ log-torn (numberBefore (opens from) d) (standingIn d) (wholeLog disk) front zeros (o .log)
         ∙ fitting-all front (standingIn d) (omega (arith, ends))
 
+    ended-left : Groupless (logFrom (groupsSize (standingIn d)) left)
+    ended-left =
+        subst Groupless (sym (ap (drop (groupsSize (standingIn d))) left-is))
+        (subst (λ (gs : List Group). Groupless (drop (groupsSize gs) (take front (wholeLog disk) ++ replicate zeros 0)))
+        (fitting-all front (standingIn d) (omega (arith, ends)))
+        (log-ended (numberBefore (opens from) d) (standingIn d) (wholeLog disk) front zeros (o .log) (o .ended)))
+
     shows-left : OnDisk from left d
-    shows-left = same-opened disk left d d o (length-apply (take k (clearing end)) disk ∙ o .long) (cleared-alike k end disk (omega (arith, ends, room))) refl refl log-left
+    shows-left = same-opened disk left d d o (length-apply (take k (clearing end)) disk ∙ o .long) (cleared-alike k end disk (omega (arith, ends, room))) refl refl log-left ended-left
 
   -- ---- the state, memory and tail of a restart that is done
 

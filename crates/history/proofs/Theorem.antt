@@ -17,7 +17,9 @@ use Rattle.recovery.proofs.Numbers.{Numbers}
 use Rattle.recovery.proofs.Log.{number-one, standing-number, form-stays}
 use Rattle.recovery.proofs.Invariant.{Inv}
 use Rattle.recovery.proofs.Theorem.{holds, theorem, settled-found}
+use Rattle.log.specs.Found.{readFound}
 use Rattle.log.proofs.Basics.{clash}
+use Rattle.log.proofs.FoundLaws.{found-same}
 use Rattle.store.specs.Answer.{done}
 use Rattle.store.specs.State.{unrecovered}
 use Rattle.store.specs.Stored.{DiskOutcome}
@@ -26,7 +28,7 @@ use Rattle.disk.specs.Restart.{restartOf}
 use Rattle.disk.specs.Enough.{Enough}
 use Rattle.history.specs.Calls.{Call, begin, write, read, readAnswer, savepoint, goBack, precommit, abort, flush, settle, checkpoint, restart, told, World, stepOf}
 use Rattle.history.specs.Demand.{eventOf, Happening, called, powerFails, Watched, happen, happenAll, opening, LatestDurable, Survives, Demand3}
-use Rattle.history.proofs.OnDisk.{Start, opens, groupsFrom, OnDisk, fresh, fresh-shows, end-shown, memory-shown}
+use Rattle.history.proofs.OnDisk.{Start, opens, wholeLog, groupsFrom, OnDisk, fresh, fresh-shows, end-shown, memory-shown}
 use Rattle.history.proofs.Shows.{LiveOn, Beside, awake, rests, Shows, FollowsBy, refused-follows, read-refuses}
 use Rattle.history.proofs.Shows.{begin-idle, write-idle, answer-idle, savepoint-idle, go-back-idle, precommit-idle, abort-idle, settle-idle, flush-idle, checkpoint-idle}
 use Rattle.history.proofs.MemorySteps.{begin-follows, write-follows, answer-follows, savepoint-follows, go-back-follows, precommit-follows, abort-follows, settle-follows}
@@ -173,6 +175,12 @@ module _ (from : Start) where
   pub log-shown : (k : Watched) (r : Reached k) → groupsFrom (from .csn) (k .world .disk) ≡ standingIn (diskOf (r .system))
   log-shown k r =
       ap (λ (n : ℕ). groupsFrom n (k .world .disk)) (sym (opening-number (r .system) (k .ledger) (r .run))) ∙ r .shows .0 .log
+
+  -- read with its first number as found it is the same
+  pub found-shown : (k : Watched) (r : Reached k) → readFound (wholeLog (k .world .disk)) ≡ groupsFrom (from .csn) (k .world .disk)
+  found-shown k r =
+      found-same (from .csn) (standingIn (diskOf (r .system))) (wholeLog (k .world .disk)) (log-shown k r) (r .shows .0 .ended)
+      ∙ sym (log-shown k r)
 
   pub claimed : (k : Watched) → Reached k → SurvivesFrom k
   claimed k r =
