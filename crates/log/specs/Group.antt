@@ -68,11 +68,11 @@ groupBy next s (some (redo id w)) = committedIf id next (readBody next id s)
 groupBy next s (some (commit id csn)) = committedIf id next (readBody next id s)
 groupBy next s (some (abort id)) = some (aborted id)
 
--- the whole group at the front of s, if there is one, whose commit number, if it has one, is next
+-- the whole group at the front of s, if there is one; where it has a commit, next is the number expected
 unfoldable pub groupWith : ℕ → List ℕ → Option Group
 groupWith next s = groupBy next s (readRecord s)
 
--- after a commit number: "the previous one plus 1"
+-- that after a commit number: "the previous one plus 1"
 unfoldable pub readGroup : ℕ → List ℕ → Option Group
 readGroup prev s = groupWith (prev + 1) s
 

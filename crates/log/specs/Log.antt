@@ -24,11 +24,11 @@ onGroup rest next s (some g) = g ∷ rest (nextAfter next g) (drop (groupSize g)
 abbrev pub logStep : (ℕ → List ℕ → List Group) → ℕ → List ℕ → List Group
 logStep rest next s = onGroup rest next s (groupWith next s)
 
--- the groups of the log that starts at the front of s, of which the first commit number is next
+-- the groups of the log that starts at the front of s, where next is the commit number expected first
 unfoldable pub readLogWith : ℕ → List ℕ → List Group
 readLogWith next s = whole logStep [] next s
 
--- after a commit number
+-- those of the log after a commit number
 unfoldable pub readLog : ℕ → List ℕ → List Group
 readLog prev s = readLogWith (prev + 1) s
 

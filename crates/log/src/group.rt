@@ -75,7 +75,7 @@ fn read_body(s: &[u8], id: TxId, next: u64) -> GroupEnd
     }
 }
 
-// next is the commit number expected: one more than a commit number, which itself may be the highest.
+// next is the commit number expected. Behind the highest one it is 2^32, which no commit has.
 pub fn read_next(s: &[u8], next: u64) -> GroupEnd
     ensures { λ r. ⌜ r ≡ endOf (stopOf (now (s .entry))) (groupWith next (now (s .entry))) ⌝ }
 {
