@@ -1,0 +1,171 @@
+"""A drive with a volatile write cache, as an NBD server in this process.
+
+What was written since the last flush is held by sectors, each with all its versions. When the current fails, each such sector is left as it was or
+as one of its versions. The drive chooses the moment itself, by its plan: at a write, at a flush, or when it is told to.
+"""
+
+import socket
+import struct
+import threading
+from dataclasses import dataclass
+
+SECTOR = 512
+BLOCK = 4096
+EIO = 5
+EINVAL = 22
+
+
+@dataclass(frozen=True)
+class Plan:
+    """When the drive fails. Counted are writes that touch blocks of files, not those of the file system's own blocks, and all flushes; with a
+    write that is answered by an error, from the one after it on."""
+
+    cut: str  # "before write", "after write", "at flush", "at a moment"
+    count: int = 0  # at which write or flush
+    seconds: float = 0  # after which time, for "at a moment"; counted from the drive's first command
+    fail_write: int = 0  # this write is answered by an error and not stored; 0: none
+
+
+class Drive:
+    def __init__(self, image, own_blocks, plan, rng):
+        """image: a bytearray, changed in place. own_blocks: the file system's own, which hold no file's bytes."""
+        self.image = image
+        self.own_blocks = own_blocks
+        self.plan = plan
+        self.rng = rng
+        self.unflushed = {}  # sector -> its versions, the newest last
+        self.writes = self.flushes = self.failed = 0
+        self.used = threading.Event()  # the first command came
+        self.down = threading.Event()  # the current has failed
+        self.lock = threading.Lock()  # commands are carried out whole, or not at all once it is down
+
+    # ---- the current fails
+
+    def cut(self):
+        with self.lock:
+            self.down.set()
+
+    def settle(self):
+        """What is left on the image once the machine is dead: how many sectors were not flushed, and how many of them are new."""
+        share = self.rng.choice([0.0, 0.1, 0.5, 0.5, 0.9, 1.0])
+        kept = [sector for sector in sorted(self.unflushed) if self.rng.random() < share]
+        for sector in kept:
+            self.put(sector, self.rng.choice(self.unflushed[sector]))
+        lost = len(self.unflushed) - len(kept)
+        self.unflushed.clear()
+        return len(kept), lost
+
+    # ---- commands
+
+    def put(self, sector, data):
+        self.image[sector * SECTOR : (sector + 1) * SECTOR] = data
+
+    def read(self, offset, length):
+        data = bytearray(self.image[offset : offset + length])
+        for sector in range(offset // SECTOR, (offset + length) // SECTOR):
+            if sector in self.unflushed:
+                at = sector * SECTOR - offset
+                data[at : at + SECTOR] = self.unflushed[sector][-1]
+        return bytes(data)
+
+    def write(self, offset, data):
+        """Answers 0 or an error's number."""
+        assert offset % SECTOR == 0 and len(data) % SECTOR == 0
+        if self.touches_files(offset, len(data)):
+            if self.plan.fail_write and not self.failed:
+                self.writes += 1
+                if self.writes == self.plan.fail_write:
+                    self.failed, self.writes, self.flushes = 1, 0, 0
+                    return EIO
+            else:
+                self.writes += 1
+                if self.counted("before write", self.writes):
+                    return 0
+        for at in range(0, len(data), SECTOR):
+            versions = self.unflushed.setdefault((offset + at) // SECTOR, [])
+            versions.append(data[at : at + SECTOR])
+        self.counted("after write", self.writes)
+        return 0
+
+    def flush(self):
+        self.flushes += 1
+        if self.counted("at flush", self.flushes):
+            return
+        for sector, versions in self.unflushed.items():
+            self.put(sector, versions[-1])
+        self.unflushed.clear()
+
+    def touches_files(self, offset, length):
+        return any(block not in self.own_blocks for block in range(offset // BLOCK, (offset + length - 1) // BLOCK + 1))
+
+    def counted(self, kind, count):
+        """Whether the plan has the current fail here; then it has failed."""
+        waits = self.plan.fail_write and not self.failed
+        if self.plan.cut == kind and count == self.plan.count and not waits:
+            self.down.set()
+        return self.down.is_set()
+
+    # ---- the NBD protocol
+
+    def serve(self, listener):
+        """Serves one client until it goes or the current fails; after that nothing is answered."""
+        connection, _ = listener.accept()
+        try:
+            self.negotiate(connection)
+            while self.command(connection):
+                pass
+        except (EOFError, ConnectionError):
+            pass
+        return connection
+
+    def command(self, connection):
+        _, _, kind, handle, offset, length = struct.unpack(">IHHQQI", receive(connection, 28))
+        data = receive(connection, length) if kind == 1 else b""
+        self.used.set()
+        with self.lock:
+            if self.down.is_set():
+                return False
+            error, answer = self.carry_out(kind, offset, length, data)
+            if self.down.is_set():
+                return False
+        connection.sendall(struct.pack(">IIQ", 0x67446698, error, handle) + answer)
+        return kind != 2
+
+    def carry_out(self, kind, offset, length, data):
+        if kind == 0:
+            return 0, self.read(offset, length)
+        if kind == 1:
+            return self.write(offset, data), b""
+        if kind == 3:
+            self.flush()
+            return 0, b""
+        return (0 if kind == 2 else EINVAL), b""
+
+    def negotiate(self, connection):
+        flags = 1 | 4  # has flags, takes flushes; no writes through the cache
+        connection.sendall(b"NBDMAGICIHAVEOPT" + struct.pack(">H", 3))
+        receive(connection, 4)
+        while True:
+            _, option, length = struct.unpack(">8sII", receive(connection, 16))
+            receive(connection, length)
+
+            def reply(kind, data=b""):
+                connection.sendall(struct.pack(">QIII", 0x3E889045565A9, option, kind, len(data)) + data)
+
+            if option in (6, 7):
+                reply(3, struct.pack(">HQH", 0, len(self.image), flags))
+                reply(1)
+                if option == 7:
+                    return
+            else:
+                reply(0x80000001)  # not known
+
+
+def receive(connection, length):
+    data = bytearray()
+    while len(data) < length:
+        part = connection.recv(length - len(data))
+        if not part:
+            raise EOFError
+        data += part
+    return bytes(data)
