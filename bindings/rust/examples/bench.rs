@@ -9,7 +9,7 @@ use std::process::ExitCode;
 use std::thread;
 use std::time::Duration;
 
-use luppaneth::{FileDevice, Store};
+use luppaneth::{FileDevice, Store, Torn};
 
 /// Each pane has 32 bytes of the pattern: 1 once it is booked, the strip's number, the colour's name.
 const PANES: usize = 128;
@@ -17,6 +17,9 @@ const PLACE: usize = 32;
 const STRIP: usize = 1;
 const COLOUR: usize = 16;
 const COLOURS: [&[u8]; 4] = [b"ruby", b"cobalt", b"amber", b"sea green"];
+
+/// What a step takes of the log at most: 8 bytes, and 7 and its bytes for each of its three writes.
+const STEP: usize = 8 + (7 + 1) + (7 + 2) + (7 + 9);
 
 /// Books a pane with its strip and its colour, and returns once that is durable.
 fn book_step(store: &mut Store<FileDevice>, pane: usize) -> Result<(), luppaneth::Error> {
@@ -43,12 +46,27 @@ fn booked(store: &Store<FileDevice>) -> Result<usize, luppaneth::Error> {
 fn run() -> Result<(), Box<dyn Error>> {
     let path = env::args().nth(1).ok_or("usage: bench FILE")?;
     let mut store = Store::open(FileDevice::open(&path)?)?;
+    if store.found().cleared > 0 {
+        // What a power cut in the middle of a flush leaves; if it is much, somebody should look at the copy.
+        println!(
+            "{} bytes behind the log's end were cleared",
+            store.found().cleared
+        );
+        match store.device().torn() {
+            Torn::Kept(copy) => println!("the disk as it was is in {}", copy.display()),
+            Torn::NotKept(error) => println!("no copy could be kept: {error}"),
+            Torn::Nothing => {}
+        }
+    }
     let first = booked(&store)?;
     println!(
         "{path}: {first} panes are booked, {} bytes of log are left",
         store.log_left()?
     );
     for pane in first..PANES {
+        if store.log_left()? < STEP {
+            FileDevice::renew(&mut store)?;
+        }
         // If the device fails here, only the next start knows whether this step is booked.
         book_step(&mut store, pane)?;
         println!("pane {pane} is booked");

@@ -90,7 +90,33 @@ pub struct OutcomesReply {
 const _: () = assert!(size_of::<State>() == 9_552 && align_of::<State>() == 4);
 const _: () = assert!(size_of::<Reply>() == 9_568 && align_of::<Reply>() == 8);
 
+/// A part of this crate's version, in digits.
+const fn number(digits: &str) -> u32 {
+    let bytes = digits.as_bytes();
+    let (mut value, mut at) = (0, 0);
+    while at < bytes.len() {
+        value = value * 10 + (bytes[at] - b'0') as u32;
+        at += 1;
+    }
+    value
+}
+
+/// The version of the library that this crate is written for: its own.
+pub const VERSION: u32 = number(env!("CARGO_PKG_VERSION_MAJOR")) * 10_000
+    + number(env!("CARGO_PKG_VERSION_MINOR")) * 100
+    + number(env!("CARGO_PKG_VERSION_PATCH"));
+
+/// Whether the library that is linked is the one that this crate is written for. The state goes by value: with another length of it the first
+/// call would write past its place.
+pub fn library_fits() -> bool {
+    // SAFETY: they take nothing and return a number.
+    let told = unsafe { (luppaneth_version(), luppaneth_state_len()) };
+    told == (VERSION, size_of::<State>())
+}
+
 extern "C" {
+    fn luppaneth_version() -> u32;
+    fn luppaneth_state_len() -> usize;
     pub fn luppaneth_unrecovered() -> State;
     pub fn luppaneth_begin(
         state: State,
@@ -237,6 +263,11 @@ mod tests {
         fn luppaneth_memory_len() -> usize;
         fn luppaneth_tail_len() -> usize;
         fn luppaneth_text_len() -> usize;
+    }
+
+    #[test]
+    fn the_library_is_of_this_version() {
+        assert!(super::library_fits());
     }
 
     #[test]

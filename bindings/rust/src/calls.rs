@@ -37,6 +37,8 @@ pub const IMAGE_B: usize = 8_654;
 pub const LOG_START: usize = 17_307;
 /// Bytes of the log.
 pub const LOG_LEN: usize = DISK_LEN - LOG_START;
+/// Bytes of the place of an image.
+pub const IMAGE_LEN: usize = LOG_START - IMAGE_B;
 
 pub(crate) const TEXT_LEN: usize = 80;
 
@@ -49,6 +51,7 @@ pub type Tail = [u8; TAIL_LEN];
 
 /// A transaction's id, 1 to 65,535.
 #[derive(Clone, Copy, Debug, PartialEq, Eq, PartialOrd, Ord, Hash)]
+#[repr(transparent)]
 pub struct TxId(pub u16);
 
 /// A commit number: bookings are numbered 1, 2, 3 and on, and 0 stands for none. Numbers of lost bookings are given out again.
@@ -103,10 +106,7 @@ pub struct Restarted {
 pub struct State(abi::State);
 
 fn answer(reply: &abi::Reply) -> Result<(), Refusal> {
-    match Refusal::from_number(reply.number) {
-        Some(refusal) => Err(refusal),
-        None => Ok(()),
-    }
+    Refusal::answer(reply.number)
 }
 
 fn stored(reply: &abi::Reply) -> Result<Stored, Refusal> {
@@ -121,7 +121,11 @@ fn stored(reply: &abi::Reply) -> Result<Stored, Refusal> {
 // with its length; what is lent for writing is borrowed alone; and a state comes from the library.
 impl State {
     /// The state that nothing but a restart goes on from: every other call refuses it by 2.
+    ///
+    /// # Panics
+    /// If the library that is linked is of another version than this crate, or has a state of another length.
     pub fn unrecovered() -> State {
+        assert!(abi::library_fits(), "{}", crate::error::WRONG_LIBRARY);
         State(unsafe { abi::luppaneth_unrecovered() })
     }
 

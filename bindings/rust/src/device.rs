@@ -1,5 +1,6 @@
 //! Where the disk's 33,691 bytes last.
 
+use std::fmt;
 use std::io;
 
 use crate::calls::{Disk, DISK_LEN};
@@ -11,7 +12,7 @@ use crate::calls::{Disk, DISK_LEN};
 /// - the stores get there in the order made, or, where only `sync` keeps an order, what docs/EMBEDDING.md says of sectors holds;
 /// - it keeps its bytes, and nobody else writes them.
 ///
-/// After an error the store makes no further store. How many were made until then is left open.
+/// After an error the store makes no further store. How many were made until then is left open: the next opening finds out.
 pub trait Device {
     /// Reads the whole disk.
     fn load(&mut self, disk: &mut Disk) -> io::Result<()>;
@@ -19,8 +20,18 @@ pub trait Device {
     /// Stores one byte.
     fn store(&mut self, at: usize, byte: u8) -> io::Result<()>;
 
-    /// Returns once all that was stored lasts, and what was loaded too.
+    /// Returns once all that was stored lasts.
     fn sync(&mut self) -> io::Result<()>;
+
+    /// Whether `load` reads what lasts, and not a cache above it. Where it does not, an opening stores again all that it trusts, and syncs it:
+    /// after a store that failed a cache may go on showing bytes that are nowhere else, and no sync brings them to the drive any more.
+    fn reads_what_lasts(&self) -> bool {
+        false
+    }
+
+    /// Keeps a copy of a disk of which bytes that aren't zero are about to be cleared, those behind the log's end; on return the copy lasts. A
+    /// device that can't tells its host in a way of its own: an opening must not stand in the way after a power failure.
+    fn set_aside(&mut self, _disk: &Disk) {}
 
     /// Stores bytes from an offset on, the lowest first.
     fn store_rising(&mut self, at: usize, bytes: &[u8]) -> io::Result<()> {
@@ -50,6 +61,14 @@ impl<D: Device + ?Sized> Device for &mut D {
 
     fn sync(&mut self) -> io::Result<()> {
         (**self).sync()
+    }
+
+    fn reads_what_lasts(&self) -> bool {
+        (**self).reads_what_lasts()
+    }
+
+    fn set_aside(&mut self, disk: &Disk) {
+        (**self).set_aside(disk);
     }
 
     fn store_rising(&mut self, at: usize, bytes: &[u8]) -> io::Result<()> {
@@ -104,6 +123,16 @@ impl Device for MemoryDevice {
 
     fn sync(&mut self) -> io::Result<()> {
         Ok(())
+    }
+
+    fn reads_what_lasts(&self) -> bool {
+        true
+    }
+}
+
+impl fmt::Debug for MemoryDevice {
+    fn fmt(&self, f: &mut fmt::Formatter<'_>) -> fmt::Result {
+        f.debug_struct("MemoryDevice").finish_non_exhaustive()
     }
 }
 

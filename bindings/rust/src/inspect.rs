@@ -1,7 +1,7 @@
 //! What can be looked up on a disk without a state. Nothing is stored on it.
 
 use crate::abi;
-use crate::calls::{Csn, Disk, Memory, DISK_LEN, MEMORY_LEN};
+use crate::calls::{Csn, Disk, Memory, TxId, DISK_LEN, MEMORY_LEN};
 use crate::refusal::Refusal;
 
 /// Bytes of a page.
@@ -19,13 +19,6 @@ pub struct FirstGroups {
     pub end: usize,
     /// The last commit number up to there.
     pub csn: Csn,
-}
-
-fn answer(number: u8) -> Result<(), Refusal> {
-    match Refusal::from_number(number) {
-        Some(refusal) => Err(refusal),
-        None => Ok(()),
-    }
 }
 
 /// Makes memory what it is after the first groups of the log from the image's place on, or all if there are fewer, on the way through a
@@ -56,7 +49,7 @@ pub fn first_groups(
             groups,
         )
     };
-    answer(reply.number)?;
+    Refusal::answer(reply.number)?;
     Ok(FirstGroups {
         end: reply.end,
         csn: Csn(reply.csn),
@@ -81,7 +74,7 @@ pub fn read_page(disk: &Disk, page: usize) -> Result<Page, Refusal> {
     let number = unsafe {
         abi::luppaneth_read_page(disk.as_ptr(), DISK_LEN, buffer.as_mut_ptr(), PAGE_LEN, page)
     };
-    answer(number)?;
+    Refusal::answer(number)?;
     Ok(buffer)
 }
 
@@ -121,26 +114,26 @@ pub struct Outcomes {
 /// ```
 /// use luppaneth::calls::DISK_LEN;
 /// use luppaneth::inspect::{outcomes, Outcome};
-/// use luppaneth::Refusal;
+/// use luppaneth::{Refusal, TxId};
 ///
 /// let fresh = [0; DISK_LEN];
-/// assert_eq!(outcomes(&fresh, &[1, 2]).unwrap().outcomes, [Outcome::Neither; 2]);
-/// assert_eq!(outcomes(&fresh, &[2, 2]), Err(Refusal::BadList));
+/// assert_eq!(outcomes(&fresh, &[TxId(1), TxId(2)]).unwrap().outcomes, [Outcome::Neither; 2]);
+/// assert_eq!(outcomes(&fresh, &[TxId(2), TxId(2)]), Err(Refusal::BadList));
 /// ```
-pub fn outcomes(disk: &Disk, ids: &[u16]) -> Result<Outcomes, Refusal> {
+pub fn outcomes(disk: &Disk, ids: &[TxId]) -> Result<Outcomes, Refusal> {
     let mut out = vec![0; ids.len()];
-    // SAFETY: as of `first_groups`.
+    // SAFETY: as of `first_groups`; an id is laid out as its number.
     let reply = unsafe {
         abi::luppaneth_outcomes(
             disk.as_ptr(),
             DISK_LEN,
-            ids.as_ptr(),
+            ids.as_ptr().cast(),
             ids.len(),
             out.as_mut_ptr(),
             out.len(),
         )
     };
-    answer(reply.number)?;
+    Refusal::answer(reply.number)?;
     Ok(Outcomes {
         outcomes: out.into_iter().map(Outcome::from_number).collect(),
         groups: reply.groups,

@@ -14,7 +14,7 @@
 //!     step.write(128, b"ruby")
 //! })?;
 //! store.flush()?; // from here on it is durable
-//! assert!(store.settled(booking)?);
+//! assert!(store.settled(&booking)?);
 //!
 //! let again = Store::open(store.into_device())?;
 //! assert_eq!(again.read(128, 4)?, b"ruby");
@@ -26,8 +26,10 @@
 //!   the new bytes to the device in the order that the theorem speaks of.
 //! - [`calls`] has the proved calls themselves, for a host that owns the buffers; [`inspect`] those that look at a disk without a state.
 //!
-//! docs/EMBEDDING.md says what a host owes for the theorem to hold, and what a file adds to that. The crate needs the proved library: run
-//! `rt staticlib luppaneth` at the repository's root first.
+//! A store is used by one thread at a time (it is `Send`; share it in a `Mutex`), and stores do not know of each other.
+//!
+//! docs/EMBEDDING.md says what a host owes for the theorem to hold, and what a file adds to that. The crate needs the proved library of its own
+//! version: run `rt staticlib luppaneth` at the repository's root first.
 
 #![warn(missing_docs)]
 
@@ -41,10 +43,14 @@ pub mod inspect;
 mod refusal;
 mod store;
 
-pub use calls::{Csn, Stop};
+pub use calls::{Csn, Stop, TxId};
 pub use device::{Device, MemoryDevice};
 pub use error::Error;
 #[cfg(unix)]
-pub use file::FileDevice;
+pub use file::{FileDevice, Torn};
 pub use refusal::Refusal;
-pub use store::{Booking, Store, Tx};
+pub use store::{Booking, Found, Store, Tx};
+
+/// The stack that a thread needs to use a [`Store`], in debug builds too. A main thread has more, and so has one of `std::thread` (2 MiB); say it
+/// where a smaller one is made.
+pub const STACK: usize = 256 * 1024;

@@ -8,51 +8,54 @@ use std::fmt;
 /// The variants stand in the order of their numbers. A call tests them in that order, but for 17 and 20, which come after 1, 18 and 19,
 /// after 7, 16, after 8, and 15, after 9.
 #[derive(Clone, Copy, Debug, PartialEq, Eq, Hash)]
+#[non_exhaustive]
 pub enum Refusal {
     /// 1: a lent buffer hasn't its length. The types of this crate keep it away.
-    WrongLength = 1,
+    WrongLength,
     /// 2: the state is unrecovered or broken, or the lent tail isn't its own.
-    Unfit = 2,
+    Unfit,
     /// 3, restart, `inspect::first_groups` and `read_page`: the pointer byte is above 2.
-    BadPointer = 3,
+    BadPointer,
     /// 4, restart, `inspect::first_groups` and `read_page`: the image that the pointer byte names breaks a rule.
-    BadImage = 4,
+    BadImage,
     /// 5, restart and `inspect::read_page`: the log has no room for the abort records.
-    NoRoomToUndo = 5,
+    NoRoomToUndo,
     /// 6: no transaction has this id.
-    NotListed = 6,
+    NotListed,
     /// 7: the transaction has precommitted.
-    Committing = 7,
+    Committing,
     /// 8: length 0 or above 32, or the range leaves memory.
-    BadRange = 8,
+    BadRange,
     /// 9: another running transaction wrote a byte of the range; for a write also: has read one.
-    Held = 9,
+    Held,
     /// 10: the transaction has 16 writes, or going back would make it more.
-    TooManyWrites = 10,
+    TooManyWrites,
     /// 11: there are 8 transactions.
-    TooManyTransactions = 11,
+    TooManyTransactions,
     /// 12: the last id or the last commit number was given.
-    CounterAtEnd = 12,
+    CounterAtEnd,
     /// 13: the log has no room.
-    LogFull = 13,
+    LogFull,
     /// 14: the transaction is running, or its commit isn't on disk.
-    NotDurable = 14,
+    NotDurable,
     /// 15: the transaction has read 16 ranges.
-    TooManyReads = 15,
+    TooManyReads,
     /// 16, write: the range lies in two pages of 256 bytes.
-    TwoPages = 16,
+    TwoPages,
     /// 17, `inspect::read_page`: the page's number is above 15.
-    BadPage = 17,
+    BadPage,
     /// 18: no savepoint of the transaction has this name.
-    NoSavepoint = 18,
+    NoSavepoint,
     /// 19: the transaction has four savepoints of other names, or the name is 0.
-    TooManySavepoints = 19,
+    TooManySavepoints,
     /// 20: the ids do not rise, each above the one before it, or the two lists differ in length.
-    BadList = 20,
+    BadList,
+    /// A number that this crate does not know. No call of the library that it is written for gives one.
+    Unknown(u8),
 }
 
 impl Refusal {
-    /// All of them, by number.
+    /// All that are known, by number.
     pub const ALL: [Refusal; 20] = [
         Refusal::WrongLength,
         Refusal::Unfit,
@@ -76,15 +79,28 @@ impl Refusal {
         Refusal::BadList,
     ];
 
-    /// The documents' number, 1 to 20.
+    /// The documents' number: 1 to 20 of those that are known.
     pub fn number(self) -> u8 {
-        self as u8
+        match (self, Refusal::ALL.iter().position(|&known| known == self)) {
+            (Refusal::Unknown(number), _) => number,
+            (_, Some(index)) => index as u8 + 1,
+            (_, None) => unreachable!("all that have a name are listed"),
+        }
     }
 
-    /// The refusal with that number.
+    /// The refusal with that number; none for 0, which refuses nothing. Any other number is a refusal, known or not.
     pub fn from_number(number: u8) -> Option<Refusal> {
         let index = usize::from(number).checked_sub(1)?;
-        Refusal::ALL.get(index).copied()
+        let known = Refusal::ALL.get(index).copied();
+        Some(known.unwrap_or(Refusal::Unknown(number)))
+    }
+
+    /// A call's answer by its number.
+    pub(crate) fn answer(number: u8) -> Result<(), Refusal> {
+        match Refusal::from_number(number) {
+            Some(refusal) => Err(refusal),
+            None => Ok(()),
+        }
     }
 
     fn wrong(self) -> &'static str {
@@ -113,6 +129,7 @@ impl Refusal {
                 "the transaction has four savepoints already, or the name is 0"
             }
             Refusal::BadList => "the ids do not rise, or the two lists differ in length",
+            Refusal::Unknown(_) => "the library refuses by a number that this crate does not know",
         }
     }
 
@@ -142,6 +159,7 @@ impl Refusal {
             Refusal::NoSavepoint => "go back to a name that was set in this step",
             Refusal::TooManySavepoints => "use a name from 1 to 255; in place of a fifth, move one of the four",
             Refusal::BadList => "sort the ids and leave out those that are there twice",
+            Refusal::Unknown(_) => "build library and crate from one version",
         }
     }
 }

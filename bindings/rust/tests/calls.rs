@@ -420,5 +420,13 @@ fn refusals_by_name_and_number() {
             "{text}"
         );
     }
-    assert_eq!([0, 21].map(Refusal::from_number), [None, None]);
+    // 0 refuses nothing; any other number is an error, known or not.
+    assert_eq!(Refusal::from_number(0), None);
+    for number in 21..=u8::MAX {
+        let refusal = Refusal::from_number(number).unwrap();
+        assert_eq!(
+            (refusal, refusal.number()),
+            (Refusal::Unknown(number), number)
+        );
+    }
 }

@@ -256,7 +256,7 @@ fn the_last_group_of_an_id_counts() {
         &abort(5),
         &commit(5, 3),
     ]);
-    let found = outcomes(&disk, &[0, 3, 5, 7, 8, 9, 65_535]).unwrap();
+    let found = outcomes(&disk, &[0, 3, 5, 7, 8, 9, 65_535].map(TxId)).unwrap();
     assert_eq!(found.groups, 6);
     assert_eq!(
         found.outcomes,
@@ -269,10 +269,13 @@ fn the_last_group_of_an_id_counts() {
 #[test]
 fn ids_have_to_rise() {
     let disk = logged(&[]);
-    assert_eq!(outcomes(&disk, &[4, 4]), Err(Refusal::BadList));
-    assert_eq!(outcomes(&disk, &[4, 3]), Err(Refusal::BadList));
-    assert_eq!(outcomes(&disk, &[3, 4, 9, 5]), Err(Refusal::BadList));
-    let all: Vec<u16> = (0..=65_535).collect();
+    assert_eq!(outcomes(&disk, &[4, 4].map(TxId)), Err(Refusal::BadList));
+    assert_eq!(outcomes(&disk, &[4, 3].map(TxId)), Err(Refusal::BadList));
+    assert_eq!(
+        outcomes(&disk, &[3, 4, 9, 5].map(TxId)),
+        Err(Refusal::BadList)
+    );
+    let all: Vec<TxId> = (0..=65_535).map(TxId).collect();
     assert_eq!(
         outcomes(&disk, &all).unwrap().outcomes,
         [Outcome::Neither; 65_536]
@@ -289,7 +292,7 @@ fn a_booking_that_was_cut_off_is_neither() {
     b.precommit(two);
     let (d, m, t) = (&mut b.disk, &mut b.memory, &mut b.tail);
     assert!(b.state.flush(d, m, t, ALL, 31).unwrap().cut);
-    let found = outcomes(&b.disk, &[one.0, two.0]).unwrap();
+    let found = outcomes(&b.disk, &[one, two]).unwrap();
     assert_eq!(
         (found.groups, found.outcomes),
         (1, vec![Outcome::Committed, Outcome::Neither])

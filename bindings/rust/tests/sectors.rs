@@ -17,11 +17,14 @@ use common::{any_lengths, asked, book, lengths_by_eight, step_of, Ledger, Rng, S
 use luppaneth::calls::{Disk, DISK_LEN, LOG_START, POINTER};
 use luppaneth::{Device, Error, MemoryDevice, Refusal, Store};
 
+/// The error of a drive that could not store.
+const EIO: i32 = 5;
+
 /// Where the store syncs. The first is the creation of the file, before any store is opened on it.
 #[derive(Clone, Copy, Debug, PartialEq, Eq)]
 enum Point {
     Creation,
-    Clearing,
+    Opening,
     Flush,
     Image,
     Pointer,
@@ -41,6 +44,15 @@ struct Sectors {
     /// The sync that is left out, and what the next one is for.
     skipped: Option<Point>,
     next: Point,
+    /// From the loading of the disk until its pointer byte is stored again and synced.
+    opening: bool,
+    /// Syncs until one fails by an error of the drive. Which sectors it does not store is drawn from this.
+    error: Rc<Cell<Option<usize>>>,
+    drive: Rng,
+    /// An opening that does not store again what it trusts.
+    trusting: bool,
+    /// Errors that the drive has answered.
+    answered: u64,
 }
 
 impl Sectors {
@@ -54,6 +66,11 @@ impl Sectors {
             left: Rc::new(Cell::new(usize::MAX)),
             skipped,
             next: Point::Creation,
+            opening: false,
+            error: Rc::new(Cell::new(None)),
+            drive: Rng(size as u64),
+            trusting: false,
+            answered: 0,
         };
         sectors.run(0, &[0; DISK_LEN], Point::Creation).unwrap();
         sectors.sync().unwrap();
@@ -64,6 +81,22 @@ impl Sectors {
         let left = self.left.get().checked_sub(1);
         self.left.set(left.ok_or(io::Error::other("no current"))?);
         Ok(())
+    }
+
+    /// The drive does not store some of the sectors, one at least. The cache goes on showing their bytes and takes them for stored, as the kernel
+    /// does.
+    fn drive_fails(&mut self) -> io::Error {
+        let unsynced: Vec<usize> = self.versions.keys().copied().collect();
+        let chosen = self.drive.below(unsynced.len());
+        for (index, &sector) in unsynced.iter().enumerate() {
+            if index != chosen && !self.drive.one_in(4) {
+                let place = self.place(sector);
+                self.synced[place.clone()].copy_from_slice(&self.now[place]);
+            }
+        }
+        self.versions.clear();
+        self.answered += 1;
+        io::Error::from_raw_os_error(EIO)
     }
 
     /// Stores a run of bytes; each sector changes once.
@@ -90,21 +123,25 @@ impl Sectors {
             }
         }
         self.now = self.synced.clone();
-        self.left.set(usize::MAX);
-        self.next = Point::Clearing;
+        self.process_dies();
     }
 
     /// The process is killed and the machine goes on: nothing is lost, and nothing is synced.
     fn process_dies(&mut self) {
         self.left.set(usize::MAX);
-        self.next = Point::Clearing;
+        self.error.set(None);
     }
 }
 
 impl Device for Sectors {
     fn load(&mut self, disk: &mut Disk) -> io::Result<()> {
         disk.copy_from_slice(&*self.now);
+        self.opening = true;
         Ok(())
+    }
+
+    fn reads_what_lasts(&self) -> bool {
+        self.trusting
     }
 
     fn store(&mut self, at: usize, byte: u8) -> io::Result<()> {
@@ -114,10 +151,25 @@ impl Device for Sectors {
 
     fn sync(&mut self) -> io::Result<()> {
         self.tick()?;
-        let what = std::mem::replace(&mut self.next, Point::Clearing);
+        if let Some(left) = self.error.get() {
+            self.error.set(left.checked_sub(1));
+            if left == 0 && !self.versions.is_empty() {
+                return Err(self.drive_fails());
+            }
+        }
+        let what = if self.opening {
+            Point::Opening
+        } else {
+            self.next
+        };
+        // An opening's last sync is that of the pointer byte; a trusting one has no other.
+        self.opening = self.opening && self.next != Point::Pointer && !self.trusting;
         if self.skipped != Some(what) {
-            self.versions.clear();
-            self.synced = self.now.clone();
+            // What the cache takes for stored is not stored by this.
+            for sector in std::mem::take(&mut self.versions).into_keys() {
+                let place = self.place(sector);
+                self.synced[place.clone()].copy_from_slice(&self.now[place]);
+            }
         }
         Ok(())
     }
@@ -132,7 +184,7 @@ impl Device for Sectors {
     }
 
     fn store_falling(&mut self, at: usize, bytes: &[u8]) -> io::Result<()> {
-        self.run(at, bytes, Point::Clearing)
+        self.run(at, bytes, Point::Opening)
     }
 }
 
@@ -196,7 +248,7 @@ impl Work {
                 let step = self.step(doings);
                 let gave_up = store.book(|tx| {
                     tx.write(step[0].0, &step[0].1)?;
-                    Err(Error::step("of no use"))
+                    Err::<(), _>(Error::step("of no use"))
                 });
                 assert!(gave_up.is_err());
             }
@@ -232,11 +284,15 @@ impl End {
     }
 }
 
-/// Opens the disk, holds it against the ledger and works on it.
-fn live(work: &mut Work, device: &mut Sectors) -> Result<(), End> {
+/// Opens the disk, holds it against the ledger and works on it; the drive may answer an error.
+fn live(work: &mut Work, device: &mut Sectors, errors: bool) -> Result<(), End> {
     let left = Rc::clone(&device.left);
+    let error = Rc::clone(&device.error);
     if work.rng.one_in(4) {
-        left.set(work.rng.below(2));
+        left.set(work.rng.below(7));
+    }
+    if errors && work.rng.one_in(8) {
+        error.set(Some(work.rng.below(3)));
     }
     let mut store = Store::open(device).map_err(|error| End::by(error, End::Opening))?;
     work.ledger.reopened(&store).map_err(End::Wrong)?;
@@ -246,6 +302,7 @@ fn live(work: &mut Work, device: &mut Sectors) -> Result<(), End> {
     } else {
         usize::MAX
     });
+    error.set((errors && doings.one_in(4)).then(|| doings.below(6)));
     for _ in 0..doings.below(12) {
         let acted = work.act(&mut doings, &mut store);
         acted.map_err(|error| End::by(error, End::Storing))?;
@@ -262,6 +319,7 @@ struct Seen {
     opening: u64,
     storing: u64,
     killed: u64,
+    errors: u64,
 }
 
 /// Disks of sectors, each with life after life until its log is full.
@@ -271,6 +329,8 @@ struct Search {
     skipped: Option<Point>,
     /// Of six failures one is a killed process, the others of the current; else all are of the current.
     kills: bool,
+    /// The drive answers errors, after which the store is opened again in the same run of the machine; and whether it trusts what it reads.
+    errors: Option<bool>,
 }
 
 impl Search {
@@ -278,7 +338,8 @@ impl Search {
         let mut work = Work::seeded(seed);
         seen.disks += 1;
         loop {
-            match live(&mut work, &mut device) {
+            let answered = device.answered;
+            match live(&mut work, &mut device, self.errors.is_some()) {
                 Ok(()) => {}
                 Err(End::Opening) => seen.opening += 1,
                 Err(End::Storing) => seen.storing += 1,
@@ -286,7 +347,10 @@ impl Search {
                 Err(End::Wrong(what)) => return Err(format!("disk {seed}: {what}")),
             }
             seen.failures += 1;
-            if self.kills && work.rng.one_in(6) {
+            if device.answered > answered {
+                seen.errors += 1;
+                device.process_dies();
+            } else if self.kills && work.rng.one_in(6) {
                 seen.killed += 1;
                 device.process_dies();
             } else {
@@ -300,7 +364,9 @@ impl Search {
         let used = used_disk();
         let mut seen = Seen::default();
         for seed in 0.. {
-            let device = Sectors::created(&used, self.size, self.skipped);
+            let mut device = Sectors::created(&used, self.size, self.skipped);
+            device.trusting = self.errors == Some(true);
+            device.drive = Rng(seed);
             let found = self.lives(&mut seen, seed, device);
             if found.is_err() || seen.failures >= failures {
                 return (seen, found);
@@ -328,11 +394,12 @@ fn nothing_is_found(size: usize) {
         size,
         skipped: None,
         kills: true,
+        errors: Some(false),
     };
     let (seen, found) = search.go(asked("LUPPANETH_FAILURES", 20_000));
     println!("sectors of {size} bytes: {seen:?}");
     assert_eq!(found, Ok(()));
-    assert!(seen.opening > 0 && seen.storing > 0 && seen.killed > 0);
+    assert!(seen.opening > 0 && seen.storing > 0 && seen.killed > 0 && seen.errors > 0);
 }
 
 #[test]
@@ -356,6 +423,7 @@ fn is_found_without(sync: Point, kills: bool) {
         size: 512,
         skipped: Some(sync),
         kills,
+        errors: None,
     };
     let (seen, found) = search.go(20_000);
     let wrong = found.expect_err("the fault is not found");
@@ -371,14 +439,31 @@ fn a_fault_is_found_without_the_sync_of_a_new_disk() {
 }
 
 #[test]
-fn a_fault_is_found_without_the_sync_of_the_clearing() {
-    is_found_without(Point::Clearing, false);
+fn a_fault_is_found_without_the_syncs_of_an_opening() {
+    is_found_without(Point::Opening, false);
 }
 
 /// What a killed process left is read from the cache: the opening has to sync it, also where nothing is to be cleared.
 #[test]
-fn a_fault_is_found_without_the_sync_of_what_a_killed_process_left() {
-    is_found_without(Point::Clearing, true);
+fn a_fault_is_found_without_the_syncs_of_what_a_killed_process_left() {
+    is_found_without(Point::Opening, true);
+}
+
+/// After an error of the drive the cache shows bytes that are nowhere else, and takes them for stored: syncing it does not help.
+#[test]
+fn a_fault_is_found_if_an_opening_trusts_what_it_reads() {
+    let search = Search {
+        size: 512,
+        skipped: None,
+        kills: true,
+        errors: Some(true),
+    };
+    let (seen, found) = search.go(20_000);
+    let wrong = found.expect_err("the fault is not found");
+    println!(
+        "nothing stored again: after {} failures, {} errors of the drive, {wrong}",
+        seen.failures, seen.errors
+    );
 }
 
 #[test]
@@ -456,6 +541,7 @@ fn sectors_of_32_bytes_are_too_small() {
         size: 32,
         skipped: None,
         kills: false,
+        errors: None,
     };
     let (seen, found) = search.go(100_000);
     println!(

@@ -135,7 +135,7 @@ impl Run<'_> {
                 let gave_up = store.book(|tx| {
                     step.iter()
                         .try_for_each(|(at, bytes)| tx.write(*at, bytes))?;
-                    Err(Error::step("of no use"))
+                    Err::<(), _>(Error::step("of no use"))
                 });
                 assert!(gave_up.is_err());
             }

@@ -1,13 +1,11 @@
-//! What a store on a device answers: all or none, durable after a flush, poisoned after a failure, a full log carried over, files.
+//! What a store on a device answers: all or none, durable after a flush, poisoned after a failure, a full log carried over.
 
-use std::fs;
 use std::io;
 use std::panic::{catch_unwind, AssertUnwindSafe};
-use std::path::PathBuf;
 
-use luppaneth::calls::{Disk, DISK_LEN, IMAGE_A, IMAGE_B, LOG_START, POINTER};
+use luppaneth::calls::{Disk, DISK_LEN, IMAGE_A, IMAGE_B, IMAGE_LEN, LOG_START, POINTER};
 use luppaneth::inspect::Outcome;
-use luppaneth::{Csn, Device, Error, FileDevice, MemoryDevice, Refusal, Stop, Store};
+use luppaneth::{Csn, Device, Error, MemoryDevice, Refusal, Stop, Store, TxId};
 
 fn fresh() -> Store<MemoryDevice> {
     Store::open(MemoryDevice::new()).unwrap()
@@ -26,17 +24,17 @@ fn a_booking_is_durable_after_a_flush() {
     let mut store = fresh();
     let booking = store.book(|tx| tx.write(10, b"ab")).unwrap();
     assert_eq!(
-        (booking.csn(), store.settled(booking).unwrap()),
+        (booking.csn(), store.settled(&booking).unwrap()),
         (Csn(1), false)
     );
     assert_eq!(store.read(10, 2).unwrap(), b"ab");
     assert_eq!(store.durable().unwrap(), Csn(0));
     assert_eq!(store.flush().unwrap(), Csn(1));
-    assert!(store.settled(booking).unwrap());
+    assert!(store.settled(&booking).unwrap());
 
     let again = Store::open(store.into_device()).unwrap();
     assert_eq!(again.read(10, 2).unwrap(), b"ab");
-    assert!(matches!(again.settled(booking), Err(Error::Stale)));
+    assert!(matches!(again.settled(&booking), Err(Error::Stale)));
 }
 
 #[test]
@@ -60,7 +58,7 @@ fn the_office_learns_which_steps_went_through() {
     let mut ids = Vec::new();
     for byte in [1, 2, 3] {
         let booked = store.book(|tx| {
-            ids.push(tx.id().0);
+            ids.push(tx.id());
             tx.write(0, &[byte])?;
             // The second step is given up.
             if byte == 2 {
@@ -86,7 +84,10 @@ fn the_office_learns_which_steps_went_through() {
     again.book(|tx| tx.write(0, &[4])).unwrap();
     again.flush().unwrap();
     assert_eq!(told(&again).outcomes, [Committed, Aborted, Committed]);
-    assert_eq!(refusal(again.outcomes(&[2, 2])), Refusal::BadList);
+    assert_eq!(
+        refusal(again.outcomes(&[TxId(2), TxId(2)])),
+        Refusal::BadList
+    );
 }
 
 #[test]
@@ -100,14 +101,14 @@ fn a_step_that_fails_leaves_nothing() {
     assert_eq!(refusal(too_long), Refusal::BadRange);
     let gave_up = store.book(|tx| {
         tx.write(0, &[1])?;
-        Err(Error::step("no such pane"))
+        Err::<(), _>(Error::step("no such pane"))
     });
     assert_eq!(
         gave_up.unwrap_err().to_string(),
         "the step gave up: no such pane"
     );
     let panicked = catch_unwind(AssertUnwindSafe(|| {
-        store.book(|tx| {
+        store.book(|tx| -> Result<(), Error> {
             tx.write(0, &[1]).unwrap();
             panic!("in the midst of a step")
         })
@@ -238,6 +239,9 @@ impl Device for Failing {
     fn sync(&mut self) -> io::Result<()> {
         one_of(&mut self.syncs)
     }
+    fn reads_what_lasts(&self) -> bool {
+        true
+    }
 }
 
 fn all_poisoned(store: &mut Store<&mut Failing>) {
@@ -261,7 +265,7 @@ fn a_failed_device_poisons_the_store() {
     let booking = store.book(|tx| tx.write(0, &[1])).unwrap();
     assert!(matches!(store.flush(), Err(Error::Device(_))));
     all_poisoned(&mut store);
-    assert!(matches!(store.settled(booking), Err(Error::Poisoned)));
+    assert!(matches!(store.settled(&booking), Err(Error::Poisoned)));
     drop(store);
     // 15 of 16 stores were made. The clearing of these fails too, at first.
     assert_eq!(device.disk.disk()[LOG_START], 1);
@@ -278,18 +282,18 @@ fn an_opening_tells_why_the_log_ended() {
     // A booking of one byte takes 16 stores.
     let mut device = Failing::after(16 + 15, usize::MAX);
     let mut store = Store::open(&mut device).unwrap();
-    assert_eq!(store.stop(), Stop::Zero);
+    assert_eq!(store.found().stop, Stop::Zero);
     store.book(|tx| tx.write(0, &[1])).unwrap();
     store.flush().unwrap();
     store.book(|tx| tx.write(0, &[2])).unwrap();
     assert!(matches!(store.flush(), Err(Error::Device(_))));
     drop(store);
     device.stores = usize::MAX;
-    assert_eq!(Store::open(&mut device).unwrap().stop(), Stop::Torn);
+    assert_eq!(Store::open(&mut device).unwrap().found().stop, Stop::Torn);
     // What was torn is cleared by then.
     let again = Store::open(&mut device).unwrap();
     assert_eq!(
-        (again.stop(), again.durable().unwrap()),
+        (again.found().stop, again.durable().unwrap()),
         (Stop::Zero, Csn(1))
     );
 
@@ -299,7 +303,10 @@ fn an_opening_tells_why_the_log_ended() {
         store.flush().unwrap();
     }
     assert_eq!(store.log_left().unwrap(), 0);
-    assert_eq!(Store::open(store.into_device()).unwrap().stop(), Stop::Full);
+    assert_eq!(
+        Store::open(store.into_device()).unwrap().found().stop,
+        Stop::Full
+    );
 }
 
 #[test]
@@ -335,7 +342,9 @@ enum Event {
 /// Keeps what is done to it, in order.
 struct Recording {
     disk: MemoryDevice,
+    cached: bool,
     events: Vec<Event>,
+    aside: Option<Box<Disk>>,
 }
 
 impl Device for Recording {
@@ -350,6 +359,24 @@ impl Device for Recording {
         self.events.push(Event::Sync);
         Ok(())
     }
+    fn reads_what_lasts(&self) -> bool {
+        !self.cached
+    }
+    fn set_aside(&mut self, disk: &Disk) {
+        assert!(self.events.is_empty(), "before anything is cleared");
+        self.aside = Some(Box::new(*disk));
+    }
+}
+
+impl Recording {
+    fn of(disk: &MemoryDevice, cached: bool) -> Recording {
+        Recording {
+            disk: disk.clone(),
+            cached,
+            events: Vec::new(),
+            aside: None,
+        }
+    }
 }
 
 /// What a store does to a device from its opening on, up to some calls.
@@ -357,10 +384,7 @@ fn events(
     disk: &MemoryDevice,
     calls: impl FnOnce(&mut Store<&mut Recording>) -> Result<(), Error>,
 ) -> Recording {
-    let mut device = Recording {
-        disk: disk.clone(),
-        events: Vec::new(),
-    };
+    let mut device = Recording::of(disk, false);
     let mut store = Store::open(&mut device).unwrap();
     calls(&mut store).unwrap();
     device
@@ -425,6 +449,117 @@ fn an_opening_clears_downward_to_the_logs_end() {
     assert_eq!(cleared.disk.disk(), &[0; DISK_LEN]);
 }
 
+/// A run of stores, or a sync.
+#[derive(Debug, PartialEq)]
+enum Run {
+    Rising(usize, usize),
+    Falling(usize, usize),
+    Sync,
+}
+
+/// The events as runs from one offset up to another.
+fn runs(events: &[Event]) -> Vec<Run> {
+    let mut runs = Vec::new();
+    for event in events {
+        let Event::Store(at, _) = *event else {
+            runs.push(Run::Sync);
+            continue;
+        };
+        match runs.last_mut() {
+            Some(Run::Rising(_, end)) if *end == at => *end = at + 1,
+            Some(Run::Falling(start, _)) if *start == at + 1 => *start = at,
+            Some(Run::Rising(start, end)) if *start == at + 1 && *end == *start + 1 => {
+                *runs.last_mut().unwrap() = Run::Falling(at, at + 2);
+            }
+            _ => runs.push(Run::Rising(at, at + 1)),
+        }
+    }
+    runs
+}
+
+/// What a cache shows may be nowhere else, so an opening stores it again, each thing before what refers to it.
+#[test]
+fn an_opening_stores_again_what_it_trusts() {
+    let mut store = fresh();
+    store.book(|tx| tx.write(0, &[7])).unwrap();
+    store.flush().unwrap();
+    let flushed = LOG_START + 16;
+    let log = [
+        Run::Rising(LOG_START, flushed),
+        Run::Falling(flushed, DISK_LEN),
+        Run::Sync,
+    ];
+    let pointer = [Run::Rising(POINTER, POINTER + 1), Run::Sync];
+    for image in [None, Some(IMAGE_A), Some(IMAGE_B)] {
+        if image.is_some() {
+            store.checkpoint().unwrap();
+        }
+        let mut device = Recording::of(store.device(), true);
+        let before = Box::new(*device.disk.disk());
+        drop(Store::open(&mut device).unwrap());
+        let mut expected: Vec<&Run> = log.iter().collect();
+        let again = image.map(|slot| [Run::Rising(slot, slot + IMAGE_LEN), Run::Sync]);
+        expected.extend(again.iter().flatten());
+        expected.extend(&pointer);
+        assert_eq!(runs(&device.events).iter().collect::<Vec<_>>(), expected);
+        // What is stored again is what was there.
+        assert_eq!(device.disk.disk(), &*before);
+        assert!(device.aside.is_none());
+    }
+}
+
+#[test]
+fn an_opening_tells_what_it_clears_and_sets_it_aside() {
+    let mut store = fresh();
+    store.book(|tx| tx.write(0, &[7])).unwrap();
+    store.flush().unwrap();
+    let mut disk = store.into_device();
+    disk.disk_mut()[LOG_START + 20..LOG_START + 50].fill(9);
+    let before = Box::new(*disk.disk());
+    let found = Store::check(&mut disk).unwrap();
+    // Looking stores nothing.
+    assert_eq!(disk.disk(), &*before);
+    assert_eq!((found.durable, found.last_id), (Csn(1), TxId(1)));
+    assert_eq!((found.log_end, found.stop), (16, Stop::Zero));
+    assert_eq!((found.undone, found.cleared), (0, 30));
+    for cached in [false, true] {
+        let mut device = Recording::of(&disk, cached);
+        let store = Store::open(&mut device).unwrap();
+        assert_eq!(store.found(), &found);
+        drop(store);
+        assert_eq!(device.aside.as_deref(), Some(&*before));
+        assert_eq!(Store::check(&mut device).unwrap().cleared, 0);
+    }
+}
+
+#[test]
+fn a_step_returns_a_value() {
+    let mut store = fresh();
+    let booking = store
+        .book(|tx| {
+            tx.write(0, b"ab")?;
+            Ok(tx.read(0, 2)?.to_vec())
+        })
+        .unwrap();
+    assert_eq!(
+        (booking.csn(), booking.id(), &*booking.value),
+        (Csn(1), TxId(1), &b"ab"[..])
+    );
+    // Its own input and output may fail in it too.
+    let failed = store.book(|_| -> Result<(), Error> {
+        Err(io::Error::new(io::ErrorKind::NotFound, "no drawing"))?
+    });
+    assert_eq!(failed.unwrap_err().to_string(), "no drawing");
+    assert!(format!("{store:?}").contains("on_disk"));
+}
+
+/// A store may go to another thread, and be shared in a mutex.
+#[test]
+fn a_store_can_be_sent() {
+    fn sendable<T: Send + Sync + std::fmt::Debug>(_: &T) {}
+    sendable(&fresh());
+}
+
 #[test]
 fn a_damaged_disk_is_refused() {
     let mut device = MemoryDevice::new();
@@ -433,67 +568,4 @@ fn a_damaged_disk_is_refused() {
         refusal(Store::open(device).map(|_| ())),
         Refusal::BadPointer
     );
-}
-
-/// A path in a folder of its own.
-fn path(name: &str) -> PathBuf {
-    let folder = PathBuf::from(env!("CARGO_TARGET_TMPDIR")).join(name);
-    let _ = fs::remove_dir_all(&folder);
-    fs::create_dir(&folder).unwrap();
-    folder.join("disk")
-}
-
-#[test]
-fn a_file_is_created_and_opened_again() {
-    let path = path("created");
-    let mut store = Store::open(FileDevice::open(&path).unwrap()).unwrap();
-    assert_eq!(fs::read(&path).unwrap(), [0; DISK_LEN]);
-    store.book(|tx| tx.write(10, b"AB")).unwrap();
-    store.checkpoint().unwrap();
-    store.flush().unwrap();
-    store.book(|tx| tx.write(10, b"CD")).unwrap();
-    drop(store);
-    let store = Store::open(FileDevice::open(&path).unwrap()).unwrap();
-    assert_eq!(store.read(10, 2).unwrap(), b"AB");
-}
-
-#[test]
-fn a_file_has_one_owner() {
-    let path = path("owned");
-    let device = FileDevice::open(&path).unwrap();
-    let second = FileDevice::open(&path).err().unwrap();
-    assert_eq!(second.kind(), io::ErrorKind::WouldBlock);
-    drop(device);
-    FileDevice::open(&path).unwrap();
-}
-
-#[test]
-fn a_creation_that_was_cut_off_is_finished() {
-    let path = path("short");
-    for len in [0, 1, 512, DISK_LEN - 1] {
-        fs::write(&path, vec![0; len]).unwrap();
-        Store::open(FileDevice::open(&path).unwrap()).unwrap();
-        assert_eq!(fs::read(&path).unwrap(), [0; DISK_LEN]);
-    }
-}
-
-#[test]
-fn a_file_that_is_no_disk_is_left_alone() {
-    let path = path("other");
-    for bytes in [vec![0; DISK_LEN + 1], b"a letter".to_vec()] {
-        fs::write(&path, &bytes).unwrap();
-        let error = FileDevice::open(&path).err().unwrap();
-        assert_eq!(error.kind(), io::ErrorKind::InvalidData);
-        assert_eq!(fs::read(&path).unwrap(), bytes);
-    }
-}
-
-#[test]
-fn a_file_is_cleared_behind_the_log() {
-    let path = path("cleared");
-    let mut bytes = vec![0; DISK_LEN];
-    bytes[LOG_START + 5..].fill(9);
-    fs::write(&path, &bytes).unwrap();
-    Store::open(FileDevice::open(&path).unwrap()).unwrap();
-    assert_eq!(fs::read(&path).unwrap(), [0; DISK_LEN]);
 }

@@ -10,6 +10,7 @@ use luppaneth::calls::{Memory, MEMORY_LEN};
 use luppaneth::{Device, Error, Store};
 
 /// SplitMix64.
+#[derive(Clone)]
 pub struct Rng(pub u64);
 
 impl Rng {
@@ -102,11 +103,28 @@ pub fn book<D: Device>(store: &mut Store<D>, step: &Step) -> Result<(), Error> {
 }
 
 /// What was booked, in order, and how much of it was answered to be durable.
-#[derive(Clone, Default)]
+#[derive(Clone)]
 pub struct Ledger {
+    /// What the disk started from: a fresh one from nothing, a renewed one from the pattern, in so many bookings.
+    start: Box<Memory>,
+    carried: usize,
     booked: Vec<Step>,
     flushed: usize,
 }
+
+impl Default for Ledger {
+    fn default() -> Ledger {
+        Ledger {
+            start: Box::new([0; MEMORY_LEN]),
+            carried: 0,
+            booked: Vec::new(),
+            flushed: 0,
+        }
+    }
+}
+
+/// The bookings that carry a pattern over.
+const CARRIED: usize = 8;
 
 impl Ledger {
     pub fn booked(&mut self, step: Step) {
@@ -117,9 +135,18 @@ impl Ledger {
         self.flushed = self.booked.len();
     }
 
+    /// The pattern went over to a fresh disk with all that was booked.
+    pub fn renewed(&mut self) {
+        *self = Ledger {
+            start: Box::new(self.pattern(self.booked.len())),
+            carried: CARRIED,
+            ..Ledger::default()
+        };
+    }
+
     /// The commit number of the next booking.
     pub fn next_csn(&self) -> u32 {
-        self.booked.len() as u32 + 1
+        (self.carried + self.booked.len()) as u32 + 1
     }
 
     /// Bookings that wait for a flush.
@@ -127,9 +154,9 @@ impl Ledger {
         self.booked.len() - self.flushed
     }
 
-    /// Zeros with the first bookings laid over them.
+    /// What the disk started from with the first bookings laid over it.
     fn pattern(&self, count: usize) -> Memory {
-        let mut memory = [0; MEMORY_LEN];
+        let mut memory = *self.start;
         for (at, bytes) in self.booked[..count].iter().flatten() {
             memory[*at..at + bytes.len()].copy_from_slice(bytes);
         }
@@ -140,7 +167,10 @@ impl Ledger {
     /// it. The rest is lost for good. Answers how many it has that weren't flushed, or what is wrong.
     pub fn reopened<D: Device>(&mut self, store: &Store<D>) -> Result<usize, String> {
         let kept = store.durable().unwrap().0 as usize;
-        let (flushed, booked) = (self.flushed, self.booked.len());
+        let (flushed, booked) = (
+            self.carried + self.flushed,
+            self.carried + self.booked.len(),
+        );
         if kept < flushed {
             return Err(format!(
                 "{kept} bookings are left of {flushed} that were flushed"
@@ -149,19 +179,20 @@ impl Ledger {
         if kept > booked {
             return Err(format!("{kept} bookings are there, and {booked} were made"));
         }
-        if store.pattern().unwrap() != &self.pattern(kept) {
+        if store.pattern().unwrap() != &self.pattern(kept - self.carried) {
             return Err(format!(
                 "the pattern isn't that of the first {kept} bookings"
             ));
         }
-        self.booked.truncate(kept);
-        self.flushed = kept;
+        self.booked.truncate(kept - self.carried);
+        self.flushed = self.booked.len();
         Ok(kept - flushed)
     }
 
     /// The store of a running program has all that was booked.
     pub fn running<D: Device>(&self, store: &Store<D>) {
         assert!(store.pattern().unwrap() == &self.pattern(self.booked.len()));
-        assert_eq!(store.durable().unwrap().0 as usize, self.flushed);
+        let durable = store.durable().unwrap().0 as usize;
+        assert_eq!(durable, self.carried + self.flushed);
     }
 }
