@@ -1,7 +1,8 @@
 """A drive with a volatile write cache, as an NBD server in this process.
 
 What was written since the last flush is held by sectors, each with all its versions. When the current fails, each such sector is left as it was or
-as one of its versions. The drive chooses the moment itself, by its plan: at a write, at a flush, or when it is told to.
+as one of its versions. The file system's own blocks alone are left whole: ext4 does not mount with a block of its journal that is new in some of its
+sectors. The drive chooses the moment itself, by its plan: at a write, at a flush, or when it is told to.
 """
 
 import socket
@@ -33,8 +34,10 @@ class Drive:
         self.own_blocks = own_blocks
         self.plan = plan
         self.rng = rng
-        self.unflushed = {}  # sector -> its versions, the newest last
-        self.writes = self.flushes = self.failed = 0
+        self.unflushed = {}  # sector -> its versions, each with the number of the write, the newest last
+        self.all_writes = self.writes = self.flushes = 0
+        self.failed = False  # a write was answered by an error
+        self.reached = False  # the plan's place was
         self.used = threading.Event()  # the first command came
         self.down = threading.Event()  # the current has failed
         self.lock = threading.Lock()  # commands are carried out whole, or not at all once it is down
@@ -46,14 +49,30 @@ class Drive:
             self.down.set()
 
     def settle(self):
-        """What is left on the image once the machine is dead: how many sectors were not flushed, and how many of them are new."""
+        """Leaves on the image what is there once the machine is dead. Answers how many sectors had not been flushed."""
         share = self.rng.choice([0.0, 0.1, 0.5, 0.5, 0.9, 1.0])
-        kept = [sector for sector in sorted(self.unflushed) if self.rng.random() < share]
-        for sector in kept:
-            self.put(sector, self.rng.choice(self.unflushed[sector]))
-        lost = len(self.unflushed) - len(kept)
+        for sectors in self.units():
+            if self.rng.random() < share:
+                writes = sorted({write for sector in sectors for write, _ in self.unflushed[sector]})
+                self.put_versions(sectors, self.rng.choice(writes))
+        count = len(self.unflushed)
         self.unflushed.clear()
-        return len(kept), lost
+        return count
+
+    def units(self):
+        """The sectors not flushed, in lists of such as are stored together or not at all."""
+        units = {}
+        for sector in sorted(self.unflushed):
+            block = sector * SECTOR // BLOCK
+            units.setdefault((block, 0 if block in self.own_blocks else sector), []).append(sector)
+        return units.values()
+
+    def put_versions(self, sectors, until):
+        """These sectors as they were after a write."""
+        for sector in sectors:
+            for write, data in self.unflushed[sector]:
+                if write <= until:
+                    self.put(sector, data)
 
     # ---- commands
 
@@ -65,58 +84,58 @@ class Drive:
         for sector in range(offset // SECTOR, (offset + length) // SECTOR):
             if sector in self.unflushed:
                 at = sector * SECTOR - offset
-                data[at : at + SECTOR] = self.unflushed[sector][-1]
+                data[at : at + SECTOR] = self.unflushed[sector][-1][1]
         return bytes(data)
 
     def write(self, offset, data):
         """Answers 0 or an error's number."""
         assert offset % SECTOR == 0 and len(data) % SECTOR == 0
-        if self.touches_files(offset, len(data)):
-            if self.plan.fail_write and not self.failed:
-                self.writes += 1
-                if self.writes == self.plan.fail_write:
-                    self.failed, self.writes, self.flushes = 1, 0, 0
-                    return EIO
-            else:
-                self.writes += 1
-                if self.counted("before write", self.writes):
-                    return 0
+        counts = self.touches_files(offset, len(data))
+        self.writes += counts
+        if counts and not self.failed and self.writes == self.plan.fail_write:
+            self.failed, self.writes, self.flushes = True, 0, 0
+            return EIO
+        if counts and self.fails("before write", self.writes):
+            return 0
+        self.all_writes += 1
         for at in range(0, len(data), SECTOR):
             versions = self.unflushed.setdefault((offset + at) // SECTOR, [])
-            versions.append(data[at : at + SECTOR])
-        self.counted("after write", self.writes)
+            versions.append((self.all_writes, data[at : at + SECTOR]))
+        if counts:
+            self.fails("after write", self.writes)
         return 0
 
     def flush(self):
         self.flushes += 1
-        if self.counted("at flush", self.flushes):
+        if self.fails("at flush", self.flushes):
             return
         for sector, versions in self.unflushed.items():
-            self.put(sector, versions[-1])
+            self.put(sector, versions[-1][1])
         self.unflushed.clear()
 
     def touches_files(self, offset, length):
         return any(block not in self.own_blocks for block in range(offset // BLOCK, (offset + length - 1) // BLOCK + 1))
 
-    def counted(self, kind, count):
+    def fails(self, kind, count):
         """Whether the plan has the current fail here; then it has failed."""
         waits = self.plan.fail_write and not self.failed
-        if self.plan.cut == kind and count == self.plan.count and not waits:
+        if self.plan.cut == kind and self.plan.count == count and not waits:
+            self.reached = True
             self.down.set()
-        return self.down.is_set()
+        return self.reached
 
     # ---- the NBD protocol
 
     def serve(self, listener):
         """Serves one client until it goes or the current fails; after that nothing is answered."""
         connection, _ = listener.accept()
+        self.connection = connection  # kept open: a drive without current says nothing, not even that it is gone
         try:
             self.negotiate(connection)
             while self.command(connection):
                 pass
         except (EOFError, ConnectionError):
             pass
-        return connection
 
     def command(self, connection):
         _, _, kind, handle, offset, length = struct.unpack(">IHHQQI", receive(connection, 28))
