@@ -127,6 +127,7 @@ def empty_file_system(folder):
     image = file_system(folder, content)
     told = run("dumpe2fs", folder / "image", stdout=subprocess.PIPE, stderr=subprocess.DEVNULL).stdout
     own = set(range(IMAGE_LEN // BLOCK))
-    for first, last in re.findall(r"(?m)^  Free blocks:.*?(\d+)-(\d+)", told):
-        own -= set(range(int(first), int(last) + 1))
+    for line in re.findall(r"(?m)^  Free blocks: (.*)", told):
+        for first, last in re.findall(r"(\d+)(?:-(\d+))?", line):
+            own -= set(range(int(first), int(last or first) + 1))
     return image, frozenset(own)

@@ -50,7 +50,7 @@ class Drive:
 
     def settle(self):
         """Leaves on the image what is there once the machine is dead. Answers how many sectors had not been flushed."""
-        share = self.rng.choice([0.0, 0.1, 0.5, 0.5, 0.9, 1.0])
+        share = self.rng.choice([0.0, 0.2, 0.5, 0.5, 0.8, 1.0])
         for sectors in self.units():
             if self.rng.random() < share:
                 writes = sorted({write for sector in sectors for write, _ in self.unflushed[sector]})

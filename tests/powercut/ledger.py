@@ -17,8 +17,10 @@ class Counts:
     openings: int = 0  # openings held against the ledger
     more: int = 0  # of these, with more than was reported
     torn: int = 0  # logs that ended torn
+    cleared: int = 0  # openings that cleared bytes behind the log's end; all the torn logs are among them
     renewed: int = 0
-    failed: int = 0  # errors of the drive that a guest told
+    answered: int = 0  # writes that the drive answered by an error
+    told: int = 0  # errors that a guest told
     killed: int = 0  # processes killed in a flush
     sectors: int = 0  # not flushed when the current failed
     cuts: Counter = field(default_factory=Counter)  # by what the drive chose
@@ -37,7 +39,8 @@ class Ledger:
     told: int | None = None  # the last step that an opening has told so far, while its lines come
 
     def read(self, text, may_fail):
-        """All that stood on the console of one run, whose last line may have been cut off. may_fail: a write was answered by an error."""
+        """All that stood on the console of one run, whose last line may have been cut off. may_fail: a write was answered by an error. Answers where
+        the cut fell."""
         self.place = MOUNT
         for line in text.split("\n")[:-1]:
             self.line(line, may_fail)
@@ -45,14 +48,14 @@ class Ledger:
         if self.told is not None and self.told >= self.reported:
             self.found(self.told)
         self.told = None
-        self.counts.places[self.place] += 1
+        return self.place
 
     def line(self, line, may_fail):
         word, _, rest = line.partition(" ")
         if word == "found":
             self.told = number(rest)
         elif word == "cleared:":
-            pass
+            self.counts.cleared += 1
         else:
             if self.told is not None:
                 self.found(self.told)
@@ -70,6 +73,8 @@ class Ledger:
         elif word == "fsync":
             # After an opening there is none but in a renewal.
             self.place = RENEWAL if self.place == WORK else self.place
+        elif word == "renews":
+            self.place = RENEWAL
         elif word == "renewed":
             self.place = WORK
             self.counts.renewed += 1
@@ -80,7 +85,7 @@ class Ledger:
             self.place = OPENING
         elif word in ("bench:", "guest:") and may_fail and "Input/output error" in rest:
             self.place = OPENING
-            self.counts.failed += 1
+            self.counts.told += 1
         elif not harmless(line, may_fail):
             raise Wrong(f"the console says: {line}")
 

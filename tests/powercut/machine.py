@@ -7,6 +7,7 @@ import json
 import os
 import socket
 import subprocess
+import tempfile
 import threading
 import time
 from pathlib import Path
@@ -14,6 +15,7 @@ from pathlib import Path
 from drive import Drive, Plan
 
 MEMORY = "128"  # MB
+START_LIMIT = 60  # seconds
 COMMAND_LINE = "console=ttyS0 quiet mitigations=off nokaslr tsc=reliable"
 WAITS = "machine waits"
 DONE = "machine is done"
@@ -27,7 +29,7 @@ class Monitor:
     """QEMU's own control line (QMP)."""
 
     def __init__(self, listener):
-        listener.settimeout(20)
+        listener.settimeout(START_LIMIT)
         connection, _ = listener.accept()
         self.lines = connection.makefile("rw")
         self.lines.readline()
@@ -43,8 +45,8 @@ class Monitor:
             if "return" in answer:
                 return answer["return"]
 
-    def wait(self, command, status, limit=60):
-        end = time.monotonic() + limit
+    def wait(self, command, status):
+        end = time.monotonic() + START_LIMIT
         while self.ask(command).get("status") != status:
             if time.monotonic() > end:
                 raise Stuck(f"{command} does not come to {status}")
@@ -55,9 +57,9 @@ class Machine:
     """A machine that runs on a drive. It is dead after `with`."""
 
     def __init__(self, folder, kernel, initramfs, drive, saved=None):
-        self.folder = Path(folder)
         self.drive = drive
-        self.console = self.folder / "console"
+        self.console = Path(folder) / "console"
+        self.sockets = tempfile.TemporaryDirectory(prefix="powercut-")  # a socket's path has to be short
         monitor = self.listen("monitor")
         listener = self.listen("drive")
         threading.Thread(target=drive.serve, args=(listener,), daemon=True).start()
@@ -73,20 +75,18 @@ class Machine:
             raise
 
     def listen(self, name):
-        path = self.folder / f"{name}.socket"
-        path.unlink(missing_ok=True)
         listener = socket.socket(socket.AF_UNIX)
-        listener.bind(str(path))
+        listener.bind(f"{self.sockets.name}/{name}")
         listener.listen(1)
         return listener
 
     def command(self, kernel, initramfs, saved):
-        drive = f"file=nbd+unix:///?socket={self.folder}/drive.socket,format=raw,if=none,id=drive,cache=writeback"
+        drive = f"file=nbd+unix:///?socket={self.sockets.name}/drive,format=raw,if=none,id=drive,cache=writeback"
         command = ["qemu-system-x86_64", "-accel", "tcg", "-m", MEMORY, "-no-user-config", "-nodefaults", "-display", "none", "-no-reboot"]
         command += ["-kernel", str(kernel), "-initrd", str(initramfs), "-append", COMMAND_LINE]
         command += ["-chardev", "stdio,id=console,signal=off", "-serial", "chardev:console"]
         command += ["-drive", drive, "-device", "virtio-blk-pci,drive=drive"]
-        command += ["-qmp", f"unix:{self.folder}/monitor.socket,server=off"]
+        command += ["-qmp", f"unix:{self.sockets.name}/monitor,server=off"]
         return command + (["-incoming", f"exec:cat {saved}"] if saved else [])
 
     def __enter__(self):
@@ -100,12 +100,13 @@ class Machine:
         self.process.kill()
         self.process.wait()
         self.process.stdin.close()
+        self.sockets.cleanup()
 
     def text(self):
         return self.console.read_text(errors="replace").replace("\r", "")
 
-    def wait_for(self, line, limit=60):
-        end = time.monotonic() + limit
+    def wait_for(self, line):
+        end = time.monotonic() + START_LIMIT
         while line not in self.text():
             if self.process.poll() is not None or time.monotonic() > end:
                 raise Stuck(f"no line {line!r} from the machine; it said:\n{self.text()[-2000:]}")

@@ -1,6 +1,6 @@
-/* Stands between a guest's program and some system calls (-Wl,--wrap=...). Before each fdatasync it waits until all that the program has said is out of
- * the machine, so that the test knows what was reported. An fsync is told: after an opening there is none but in a renewal. And it makes the faults that
- * the variable FAULT names:
+/* Stands between a guest's program and some system calls (-Wl,--wrap=...). Before each sync it waits until all that the program has said is out of the
+ * machine: so the test knows what was reported, and no line of the kernel's comes in between. An fsync is told, since after an opening there is none but
+ * in a renewal. And it makes the faults that the variable FAULT names:
  *   kill:N  the process is killed at its N-th fdatasync, with its bytes in the kernel's memory alone
  *   nosync  fdatasync does nothing
  *   lazy    bytes that the file seems to have already are not written again */
@@ -42,6 +42,7 @@ int __wrap_fsync(int file)
     static const char line[] = "fsync\n";
     if (write(STDOUT_FILENO, line, sizeof line - 1) < 0)
         return -1;
+    tcdrain(STDOUT_FILENO);
     return __real_fsync(file);
 }
 

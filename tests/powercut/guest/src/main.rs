@@ -60,7 +60,11 @@ fn last_step(store: &Store<FileDevice>) -> Result<Option<u32>, Error> {
 
 fn open(path: &str) -> Result<(Store<FileDevice>, u32), Error> {
     let store = Store::open(FileDevice::open(path)?)?;
-    println!("restarted: the log ended {:?}", store.found().stop);
+    let found = store.found();
+    println!("restarted: the log ended {:?}", found.stop);
+    if found.cleared != 0 {
+        println!("cleared: {} bytes", found.cleared);
+    }
     match last_step(&store)? {
         Some(last) => {
             println!("found {last}");
@@ -70,14 +74,24 @@ fn open(path: &str) -> Result<(Store<FileDevice>, u32), Error> {
     }
 }
 
+/// After an error the store goes on with the old file, so that it can be tried again.
+fn renew(store: &mut Store<FileDevice>) -> Result<(), Error> {
+    FileDevice::renew(store).or_else(|error| {
+        println!("guest: {error}");
+        println!("renews again");
+        FileDevice::renew(store)
+    })?;
+    println!("renewed");
+    Ok(())
+}
+
 /// Books the steps from one to another and returns once they are durable.
 fn book(store: &mut Store<FileDevice>, from: u32, to: u32) -> Result<(), Error> {
     println!("books {to}");
     for step in from..=to {
         match store.book(|tx| make(tx, step)) {
             Err(Error::Refused(Refusal::LogFull)) => {
-                FileDevice::renew(store)?;
-                println!("renewed");
+                renew(store)?;
                 println!("booked {}", step - 1);
                 store.book(|tx| make(tx, step))?;
             }
