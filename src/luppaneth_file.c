@@ -307,14 +307,14 @@ static int free_torn(struct lup_file *f)
     return n;
 }
 
-/* Whether f->torn has just these bytes, and lasts: an opening that was cut off may have kept them. */
+/* Whether f->torn has just these bytes, as an opening that was cut off may have left it, and lasts. Written again for the same reason as the disk is. */
 static bool has_torn(struct lup_file *f)
 {
     unsigned char *copy = malloc(LUPPANETH_DISK_LEN);
-    int file = open(f->torn, O_RDONLY | O_NONBLOCK | O_NOFOLLOW | O_CLOEXEC);
+    int file = open(f->torn, O_RDWR | O_NONBLOCK | O_NOFOLLOW | O_CLOEXEC);
     struct stat found;
     bool same = copy != NULL && file >= 0 && fstat(file, &found) == 0 && found.st_size == LUPPANETH_DISK_LEN && get(file, copy) == 0 &&
-                memcmp(copy, f->store.disk, LUPPANETH_DISK_LEN) == 0 && sync_all(file) == 0;
+                memcmp(copy, f->store.disk, LUPPANETH_DISK_LEN) == 0 && put(file, copy, 0, LUPPANETH_DISK_LEN) == 0 && sync_all(file) == 0;
     free(copy);
     shut(file);
     return same;

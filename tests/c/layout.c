@@ -124,6 +124,9 @@ static void test_sizes(void)
     expect(luppaneth_tail_len() == LUPPANETH_TAIL_LEN, "the tail's length");
     expect(luppaneth_disk_len() == LUPPANETH_DISK_LEN, "the disk's length");
     expect(luppaneth_text_len() == LUPPANETH_TEXT_LEN, "the text's length");
+    expect(luppaneth_state_len() == LUPPANETH_STATE_LEN, "the state's length");
+    expect(LUPPANETH_LOG + LUPPANETH_LOG_LEN == LUPPANETH_DISK_LEN, "the log's length");
+    expect(luppaneth_version() == LUPPANETH_VERSION, "the version");
 }
 
 /* ---- what the calls tell */
@@ -329,13 +332,37 @@ static void test_layer(struct luppaneth *l)
     const unsigned char *part;
     uint16_t id;
     int i;
-    lup_init(l);
+    expect(lup_init(l) == 0, "init");
     expect(lup_begin(l, &id) == LUPPANETH_UNFIT && id == 0, "begin before a restart");
-    for (i = LUP_CUT - 1; i <= LUPPANETH_BAD_LIST + 1; i++) {
-        int known = i != LUP_CUT - 1 && i != LUPPANETH_BAD_LIST + 1;
+    for (i = LUP_NO_DISK - 1; i <= LUPPANETH_BAD_LIST + 1; i++) {
+        int known = i != LUP_NO_DISK - 1 && i != LUPPANETH_BAD_LIST + 1;
         expect((strcmp(lup_text(i), "no answer of this store") != 0) == known, "a text for each answer, and for no other number");
     }
     expect(lup_read(l, 1, 0, 1, &part) == LUPPANETH_UNFIT && part == NULL, "read before a restart");
+}
+
+/* What is booked, flushed or not, goes over to a fresh disk; what runs does not, also where an image has it. */
+static void test_renew(struct luppaneth *l)
+{
+    static struct luppaneth fresh, was;
+    uint32_t undone, csn;
+    uint16_t running, booked;
+    expect(lup_init(l) == 0 && lup_init(&fresh) == 0, "init");
+    expect(lup_renew(l, &fresh) == LUPPANETH_UNFIT, "a renew of a store before its restart");
+    expect(lup_restart(l, LUPPANETH_ALL, &undone) == 0 && lup_log_left(l) == LUPPANETH_LOG_LEN, "all of the log is left");
+    expect(lup_begin(l, &running) == 0 && lup_write(l, running, 70, "r", 1) == 0 && lup_checkpoint(l, LUPPANETH_ALL) == 0, "one that runs");
+    expect(lup_begin(l, &booked) == 0 && lup_write(l, booked, 4094, "ab", 2) == 0 && lup_precommit(l, booked, &csn) == 0, "one that is booked");
+    expect(lup_log_left(l) == LUPPANETH_LOG_LEN - 17, "the tail is taken off");
+    was = *l;
+    memset(&fresh, 0, sizeof fresh);
+    fresh.disk[LUPPANETH_DISK_LEN - 1] = 1;
+    expect(lup_renew(l, &fresh) == LUP_NOT_FRESH && fresh.disk[LUPPANETH_DISK_LEN - 1] == 1 && zeros(fresh.disk, sizeof fresh.disk - 1),
+           "a renew on a disk that is not all zero");
+    fresh.disk[LUPPANETH_DISK_LEN - 1] = 0;
+    expect(lup_renew(l, &fresh) == 0 && memcmp(fresh.memory + 4094, "ab", 2) == 0 && fresh.memory[70] == 0, "a renew");
+    expect(memcmp(l, &was, sizeof was) == 0 && zeros(fresh.disk, sizeof fresh.disk), "it leaves the store as it is, and flushes nothing");
+    expect(lup_flush(&fresh, LUPPANETH_ALL, LUPPANETH_ALL) == 0 && lup_log_left(&fresh) == LUPPANETH_LOG_LEN - 8 * 8 - 39, "eight bookings, one write");
+    expect(lup_settle(&fresh, 8) == 0 && lup_restart(&fresh, LUPPANETH_ALL, &undone) == 0 && memcmp(fresh.memory + 4094, "ab", 2) == 0, "they are durable");
 }
 
 int main(void)
@@ -357,6 +384,7 @@ int main(void)
     test_read_page(&l);
     test_outcomes(&l);
     test_layer(&l);
+    test_renew(&l);
     if (!failed)
         printf("layout: the header agrees with the library\n");
     return failed ? EXIT_FAILURE : EXIT_SUCCESS;

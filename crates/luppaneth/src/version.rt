@@ -20,7 +20,7 @@ pub extern "C" fn luppaneth_version() -> u32
 pub extern "C" fn luppaneth_version_800() -> u32
     ensures { λ r. ⌜ r ≡ version ⌝ }
 {
-    VERSION
+    luppaneth_version()
 }
 
 // How many bytes a host has to reserve for a state.
