@@ -12,6 +12,7 @@ from drive import BLOCK
 HERE = Path(__file__).resolve().parent
 ROOT = HERE.parents[1]
 IMAGE_LEN = 16 << 20
+DISK_LEN = 33_691
 RUST_TARGET = "x86_64-unknown-linux-gnu"
 WRAPPED = "-Wl,--wrap=fdatasync,--wrap=fsync,--wrap=pwrite,--wrap=pwrite64"
 BUSYBOX = "/bin/busybox"
@@ -110,24 +111,33 @@ def initramfs(folder, unpacked, guests):
     return packed
 
 
-def file_system(folder, content):
-    """An ext4 file system with the files of a folder."""
-    image = folder / "image"
+def file_system(folder, name=None, content=b""):
+    """An ext4 file system with one file, or none."""
+    files, image = folder / "files", folder / "image"
+    shutil.rmtree(files, ignore_errors=True)
+    files.mkdir()
+    if name:
+        (files / name).write_bytes(content)
     image.write_bytes(bytes(IMAGE_LEN))
     # Nothing is left for the kernel to do in the background.
     options = ["-q", "-F", "-b", BLOCK, "-E", "lazy_itable_init=0,lazy_journal_init=0"]
-    run("mkfs.ext4", *options, "-d", content, image)
+    run("mkfs.ext4", *options, "-d", files, image)
     return bytearray(image.read_bytes())
 
 
 def empty_file_system(folder):
-    """One without files, and the blocks that it has for itself: its own, which hold no file's bytes."""
-    content = folder / "empty"
-    content.mkdir(exist_ok=True)
-    image = file_system(folder, content)
+    """One without files, and the blocks that it has for itself, which hold no file's bytes."""
+    image = file_system(folder)
     told = run("dumpe2fs", folder / "image", stdout=subprocess.PIPE, stderr=subprocess.DEVNULL).stdout
     own = set(range(IMAGE_LEN // BLOCK))
     for line in re.findall(r"(?m)^  Free blocks: (.*)", told):
         for first, last in re.findall(r"(\d+)(?:-(\d+))?", line):
             own -= set(range(int(first), int(last or first) + 1))
     return image, frozenset(own)
+
+
+def file_system_of_disk(folder, name):
+    """One with a file that has a disk's length, and where in it that begins. The file is all ones, since mkfs.ext4 leaves blocks of zeros out."""
+    ones = b"\xff" * DISK_LEN
+    image = file_system(folder, name, ones)
+    return image, image.index(ones)
