@@ -18,13 +18,14 @@ EINVAL = 22
 
 @dataclass(frozen=True)
 class Plan:
-    """When the drive fails. Counted are writes that touch blocks of files, not those of the file system's own blocks, and all flushes; with a
-    write that is answered by an error, from the one after it on."""
+    """When the drive fails. Counted are all flushes, and writes that touch blocks of files, not those of the file system's own blocks alone. If one
+    is answered by an error, counting for the cut begins there."""
 
     cut: str  # "before write", "after write", "at flush", "at a moment"
     count: int = 0  # at which write or flush
     seconds: float = 0  # after which time, for "at a moment"; counted from the drive's first command
     fail_write: int = 0  # this write is answered by an error and not stored; 0: none
+    fail_flush: int = 0  # this flush is answered by an error and not carried out; of those alone that have nothing but files' writes before them
 
 
 class Drive:
@@ -36,7 +37,9 @@ class Drive:
         self.rng = rng
         self.unflushed = {}  # sector -> its versions, each with the number of the write, the newest last
         self.all_writes = self.writes = self.flushes = 0
-        self.failed = False  # a write was answered by an error
+        self.file_flushes = 0  # with nothing but files' writes before them
+        self.own_written = False  # since the last flush a block of the file system's own was
+        self.failed = False  # a command was answered by an error
         self.reached = False  # the plan's place was
         self.used = threading.Event()  # the first command came
         self.down = threading.Event()  # the current has failed
@@ -92,8 +95,8 @@ class Drive:
         assert offset % SECTOR == 0 and len(data) % SECTOR == 0
         counts = self.touches_files(offset, len(data))
         self.writes += counts
-        if counts and not self.failed and self.writes == self.plan.fail_write:
-            self.failed, self.writes, self.flushes = True, 0, 0
+        self.own_written |= not counts
+        if counts and self.is_to_fail(self.writes, self.plan.fail_write):
             return EIO
         if counts and self.fails("before write", self.writes):
             return 0
@@ -107,22 +110,34 @@ class Drive:
 
     def flush(self):
         self.flushes += 1
+        self.file_flushes += not self.own_written
+        if not self.own_written and self.is_to_fail(self.file_flushes, self.plan.fail_flush):
+            return EIO
         if self.fails("at flush", self.flushes):
-            return
+            return 0
         for sector, versions in self.unflushed.items():
             self.put(sector, versions[-1][1])
         self.unflushed.clear()
+        self.own_written = False
+        return 0
 
     def touches_files(self, offset, length):
         return any(block not in self.own_blocks for block in range(offset // BLOCK, (offset + length - 1) // BLOCK + 1))
 
     def fails(self, kind, count):
         """Whether the plan has the current fail here; then it has failed."""
-        waits = self.plan.fail_write and not self.failed
+        waits = (self.plan.fail_write or self.plan.fail_flush) and not self.failed
         if self.plan.cut == kind and self.plan.count == count and not waits:
             self.reached = True
             self.down.set()
         return self.reached
+
+    def is_to_fail(self, count, planned):
+        """Whether this command is the one that is answered by an error."""
+        if self.failed or count != planned:
+            return False
+        self.failed, self.writes, self.flushes = True, 0, 0
+        return True
 
     # ---- the NBD protocol
 
@@ -156,8 +171,7 @@ class Drive:
         if kind == 1:
             return self.write(offset, data), b""
         if kind == 3:
-            self.flush()
-            return 0, b""
+            return self.flush(), b""
         return (0 if kind == 2 else EINVAL), b""
 
     def negotiate(self, connection):

@@ -19,7 +19,7 @@ class Counts:
     torn: int = 0  # logs that ended torn
     cleared: int = 0  # openings that cleared bytes behind the log's end; all the torn logs are among them
     renewed: int = 0
-    answered: int = 0  # writes that the drive answered by an error
+    answered: int = 0  # errors that the drive answered
     told: int = 0  # errors that a guest told
     killed: int = 0  # processes killed in a flush
     sectors: int = 0  # not flushed when the current failed

@@ -16,6 +16,7 @@ from drive import Drive, Plan
 
 MEMORY = "128"  # MB
 START_LIMIT = 60  # seconds
+RUN_LIMIT = 60  # half a second is usual
 COMMAND_LINE = "console=ttyS0 quiet mitigations=off nokaslr tsc=reliable"
 WAITS = "machine waits"
 DONE = "machine is done"
@@ -131,14 +132,17 @@ class Machines:
             machine.wait_for(WAITS)
             machine.save(self.saved)
 
-    def run(self, todo, drive, limit):
-        """Runs until the drive fails by its plan, the guest is done or the time is over, which cuts too. Gives what stood on the console."""
+    def run(self, todo, drive):
+        """Runs until the drive fails by its plan, or the guest is done, which cuts too. Gives what stood on the console."""
         with Machine(*self.arguments, drive, self.saved) as machine:
             machine.monitor.wait("query-status", "running")
             machine.say(todo)
-            drive.used.wait(limit)
-            end = time.monotonic() + min(limit, drive.plan.seconds or limit)
-            while not drive.down.wait(0.05) and time.monotonic() < end and DONE not in machine.text():
-                if machine.process.poll() is not None:
-                    raise Stuck(f"QEMU ended by itself; the machine said:\n{machine.text()[-2000:]}")
+            drive.used.wait(RUN_LIMIT)
+            begun = time.monotonic()
+            while not drive.down.wait(0.05) and DONE not in machine.text():
+                seconds = time.monotonic() - begun
+                if drive.plan.seconds and seconds > drive.plan.seconds:
+                    break
+                if seconds > RUN_LIMIT or machine.process.poll() is not None:
+                    raise Stuck(f"{todo}, {drive.plan}: the machine said:\n{machine.text()[-2000:]}")
         return machine.text()

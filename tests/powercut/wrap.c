@@ -3,10 +3,11 @@
  * in a renewal. And it makes the faults that the variable FAULT names:
  *   kill:N  the process is killed at its N-th fdatasync, with its bytes in the kernel's memory alone
  *   nosync  fdatasync does nothing
- *   lazy    bytes that the file seems to have already are not written again */
+ *   lazy    bytes that the file seems to have already are not written again
+ *   image   fdatasync does nothing after an image was written */
 #define _DEFAULT_SOURCE
 #include <signal.h>
-#include <stdio.h>
+#include <stdbool.h>
 #include <stdlib.h>
 #include <string.h>
 #include <termios.h>
@@ -21,20 +22,34 @@ int __wrap_fsync(int file);
 ssize_t __wrap_pwrite(int file, const void *bytes, size_t len, off_t at);
 ssize_t __wrap_pwrite64(int file, const void *bytes, size_t len, off_t at);
 
-static const char *fault(void)
+enum { IMAGE_A = 1, IMAGE_B = 8654 };
+
+static bool image_written;
+
+static bool is_fault(const char *name)
 {
     const char *named = getenv("FAULT");
-    return named == NULL ? "" : named;
+    return named != NULL && strcmp(named, name) == 0;
+}
+
+/* At which fdatasync the process is killed; 0 for none. */
+static int kill_at(void)
+{
+    const char *named = getenv("FAULT");
+    return named != NULL && strncmp(named, "kill:", 5) == 0 ? atoi(named + 5) : 0;
 }
 
 int __wrap_fdatasync(int file)
 {
     static int calls;
-    int last;
+    bool after_image = image_written;
+    image_written = false;
     tcdrain(STDOUT_FILENO);
-    if (sscanf(fault(), "kill:%d", &last) == 1 && ++calls == last)
+    if (++calls == kill_at())
         raise(SIGKILL);
-    return strcmp(fault(), "nosync") == 0 ? 0 : __real_fdatasync(file);
+    if (is_fault("nosync") || (is_fault("image") && after_image))
+        return 0;
+    return __real_fdatasync(file);
 }
 
 int __wrap_fsync(int file)
@@ -46,7 +61,7 @@ int __wrap_fsync(int file)
     return __real_fsync(file);
 }
 
-static int has_already(int file, const void *bytes, size_t len, off_t at)
+static bool has_already(int file, const void *bytes, size_t len, off_t at)
 {
     static unsigned char there[1 << 16];
     return len <= sizeof there && pread(file, there, len, at) == (ssize_t)len && memcmp(there, bytes, len) == 0;
@@ -54,7 +69,9 @@ static int has_already(int file, const void *bytes, size_t len, off_t at)
 
 ssize_t __wrap_pwrite(int file, const void *bytes, size_t len, off_t at)
 {
-    if (strcmp(fault(), "lazy") == 0 && has_already(file, bytes, len, at))
+    if (at == IMAGE_A || at == IMAGE_B)
+        image_written = true;
+    if (is_fault("lazy") && has_already(file, bytes, len, at))
         return (ssize_t)len;
     return __real_pwrite(file, bytes, len, at);
 }
