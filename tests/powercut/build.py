@@ -87,9 +87,9 @@ def programs(folder):
     run("cc", *strict, "-c", HERE / "wrap.c", "-o", wrap)
     sources = [ROOT / "examples/bench.c", ROOT / "src/luppaneth_file.c"]
     run("cc", *strict, "-static", f"-I{ROOT}/include", *sources, wrap, archive, WRAPPED, "-o", bench)
-    flags = f"-C target-feature=+crt-static -C link-arg={wrap} -C link-arg={WRAPPED}"
     cargo = ["cargo", "build", "--release", "--offline", "--quiet", "--target", RUST_TARGET, "--target-dir", folder / "cargo"]
-    run(*cargo, "--manifest-path", HERE / "guest/Cargo.toml", env=os.environ | {"RUSTFLAGS": flags})
+    given = {"RUSTFLAGS": "-C target-feature=+crt-static", "WRAP": str(wrap), "WRAP_FLAG": WRAPPED}
+    run(*cargo, "--manifest-path", HERE / "guest/Cargo.toml", env=os.environ | given)
     return {"c": bench, "rust": folder / "cargo" / RUST_TARGET / "release/guest"}
 
 
