@@ -1,6 +1,6 @@
-/* Luppaneth in a file: a store whose disk is a file of 33,691 bytes that one program has open at a time. It brings to the file what a call changed, in
- * the order that the proof asks for, waits for the drive before it answers, and keeps that order through kills, power failures and failed syncs
- * (docs/EMBEDDING.md says how, and what is believed of the drive). Compile src/luppaneth_file.c beside your program.
+/* Luppaneth in a file: a store whose disk is a file of 33,691 bytes that one program has open at a time. It brings to the file what a call changed and waits
+ * for the drive before it answers, so that no kill, power failure or failed sync takes what was reported as flushed (docs/EMBEDDING.md says how, and what is
+ * believed of the drive; no proof reaches this layer). Compile src/luppaneth_file.c beside your program.
  *
  *   static struct lup_file f;
  *   const struct lup_write step[] = {{0, "pane 7", 6}, {64, "strip 12", 8}, {128, "ruby", 4}};
@@ -9,7 +9,7 @@
  *   lup_file_close(&f);
  *
  * Each call returns 0 for done, a luppaneth_number where the store refuses, or a number below 0 (luppaneth.h); lup_file_error then has the text.
- * After an error of the file or its drive in flush or checkpoint, and of the folder in renew, the handle is poisoned: every call but lup_file_close
+ * After an error of the file or its drive in flush or checkpoint, and from the rename on in renew, the handle is poisoned: every call but lup_file_close
  * answers LUP_POISONED. What was reported as flushed is kept; close, and open again to learn which of the other bookings are.
  * Threads: as luppaneth.h says of a store. For Linux. C99 or newer, or C++. */
 #ifndef LUPPANETH_FILE_H
@@ -34,6 +34,7 @@ struct lup_found {
     size_t cleared;     /* bytes behind the log's end that were not zero: a torn flush, damage, or a file that is no disk */
 };
 
+/* 76,592 bytes: keep it static or on the heap. */
 struct lup_file {
     struct luppaneth store; /* store.memory is the pattern. For several transactions at a time use lup_begin to lup_abort on it, then lup_file_flush;
                                never lup_init, lup_restart, lup_flush or lup_checkpoint, which the file would not learn of */
@@ -41,10 +42,11 @@ struct lup_file {
     bool torn_kept;         /* open: bytes were to be cleared, and the whole file as it was is kept */
     char torn[LUP_FILE_TEXT_LEN];  /* where; or if it could not be kept, why not; "" if nothing was to be cleared */
     char path[LUP_FILE_PATH_LEN];  /* the real path, once open */
-    char error[LUP_FILE_TEXT_LEN]; /* of the last call that was not done */
+    /* the layer's own */
+    char error[LUP_FILE_TEXT_LEN];
     int file;
     unsigned char state;
-    size_t brought; /* the log's end in the file, from its first byte on */
+    size_t brought; /* bytes of the log that the file has */
 };
 
 /* A write of a booking: 1 to 32 bytes within one page of 256. */

@@ -1,5 +1,5 @@
-/* Luppaneth in a file (include/luppaneth_file.h). Not proved, but tortured: tests/c. What it believes of the drive: a sector is old or new, never torn, and
- * what a sync that returned 0 has covered stays. Everything else is done here, in an order that docs/EMBEDDING.md explains. */
+/* Luppaneth in a file (include/luppaneth_file.h). No proof reaches this; tests/c tortures it. What it believes of the drive: a sector is old or new, never
+ * torn, and what a sync that returned 0 has covered stays. docs/EMBEDDING.md explains the order of what it does. */
 #define _DEFAULT_SOURCE
 
 #include "luppaneth_file.h"
@@ -97,11 +97,12 @@ static int put_falling(int file, const unsigned char *disk, size_t from)
     return 0;
 }
 
-static int get(int file, unsigned char *disk)
+/* The file's first bytes. */
+static int get(int file, unsigned char *bytes, size_t len)
 {
     size_t at = 0;
-    while (at < LUPPANETH_DISK_LEN) {
-        ssize_t n = pread(file, disk + at, LUPPANETH_DISK_LEN - at, (off_t)at);
+    while (at < len) {
+        ssize_t n = pread(file, bytes + at, len - at, (off_t)at);
         if (n < 0 && errno == EINTR)
             continue;
         if (n == 0)
@@ -113,21 +114,12 @@ static int get(int file, unsigned char *disk)
     return 0;
 }
 
-static int sync_data(int file)
+/* By fdatasync; or by fsync, with the length, or of a folder the names. */
+static int synced(int (*call)(int), int file)
 {
     int answer;
     do
-        answer = fdatasync(file);
-    while (answer != 0 && errno == EINTR);
-    return answer;
-}
-
-/* With the length, or of a folder the names. */
-static int sync_all(int file)
-{
-    int answer;
-    do
-        answer = fsync(file);
+        answer = call(file);
     while (answer != 0 && errno == EINTR);
     return answer;
 }
@@ -154,7 +146,7 @@ static int sync_folder(const char *path)
     file = open(folder, O_RDONLY | O_DIRECTORY | O_CLOEXEC);
     if (file < 0)
         return -1;
-    answer = sync_all(file);
+    answer = synced(fsync, file);
     shut(file);
     return answer;
 }
@@ -193,7 +185,7 @@ static bool is_named(struct lup_file *f, const char *path)
         return false;
     if (open_one.st_dev != named.st_dev || open_one.st_ino != named.st_ino)
         return false;
-    memcpy(f->path, real, sizeof real);
+    strcpy(f->path, real);
     return true;
 }
 
@@ -230,7 +222,7 @@ static int make_fresh(struct lup_file *f)
 {
     if (ftruncate(f->file, LUPPANETH_DISK_LEN) != 0 || put(f->file, f->store.disk, 0, LUPPANETH_DISK_LEN) != 0)
         return -1;
-    return sync_all(f->file);
+    return synced(fsync, f->file);
 }
 
 static int load(struct lup_file *f)
@@ -240,7 +232,7 @@ static int load(struct lup_file *f)
         return system_failed(f, "fstat");
     if (found.st_size != LUPPANETH_DISK_LEN)
         return wrong(f, LUP_NO_DISK, "it has %jd bytes, and a disk has 33,691", (intmax_t)found.st_size);
-    return get(f->file, f->store.disk) == 0 ? 0 : system_failed(f, "read");
+    return get(f->file, f->store.disk, LUPPANETH_DISK_LEN) == 0 ? 0 : system_failed(f, "read");
 }
 
 /* ---- what a disk holds */
@@ -279,9 +271,11 @@ static int find(struct lup_file *f)
     luppaneth_list(copy, LUPPANETH_DISK_LEN, (unsigned char *)text);
     free(copy);
     answer = read_listing(&f->found, text);
+    if (answer != 0)
+        return answered(f, "restart", answer);
     end = LUPPANETH_LOG + f->found.log_end;
     f->found.cleared = count_bytes(f->store.disk + end, LUPPANETH_DISK_LEN - end);
-    return answered(f, "restart", answer);
+    return 0;
 }
 
 /* ---- what is torn is kept, before it is cleared */
@@ -313,8 +307,8 @@ static bool has_torn(struct lup_file *f)
     unsigned char *copy = malloc(LUPPANETH_DISK_LEN);
     int file = open(f->torn, O_RDWR | O_NONBLOCK | O_NOFOLLOW | O_CLOEXEC);
     struct stat found;
-    bool same = copy != NULL && file >= 0 && fstat(file, &found) == 0 && found.st_size == LUPPANETH_DISK_LEN && get(file, copy) == 0 &&
-                memcmp(copy, f->store.disk, LUPPANETH_DISK_LEN) == 0 && put(file, copy, 0, LUPPANETH_DISK_LEN) == 0 && sync_all(file) == 0;
+    bool same = copy != NULL && file >= 0 && fstat(file, &found) == 0 && found.st_size == LUPPANETH_DISK_LEN && get(file, copy, LUPPANETH_DISK_LEN) == 0 &&
+                memcmp(copy, f->store.disk, LUPPANETH_DISK_LEN) == 0 && put(file, copy, 0, LUPPANETH_DISK_LEN) == 0 && synced(fsync, file) == 0;
     free(copy);
     shut(file);
     return same;
@@ -331,7 +325,7 @@ static int write_torn(struct lup_file *f)
     if (file < 0)
         return -1;
     if (put(file, f->store.disk, 0, LUPPANETH_DISK_LEN) == 0)
-        answer = sync_all(file);
+        answer = synced(fsync, file);
     shut(file);
     if (answer != 0) {
         int kept = errno;
@@ -379,11 +373,11 @@ static int write_again(struct lup_file *f)
     const size_t image = disk[0] == 2 ? LUPPANETH_IMAGE_B : LUPPANETH_IMAGE_A;
     if (put(f->file, disk, LUPPANETH_LOG, LUPPANETH_LOG + f->brought) != 0 || put_falling(f->file, disk, LUPPANETH_LOG + f->brought) != 0)
         return -1;
-    if (sync_data(f->file) != 0)
+    if (synced(fdatasync, f->file) != 0)
         return -1;
-    if (disk[0] != 0 && (put(f->file, disk, image, image + LUPPANETH_IMAGE_B - LUPPANETH_IMAGE_A) != 0 || sync_data(f->file) != 0))
+    if (disk[0] != 0 && (put(f->file, disk, image, image + LUPPANETH_IMAGE_B - LUPPANETH_IMAGE_A) != 0 || synced(fdatasync, f->file) != 0))
         return -1;
-    return put(f->file, disk, 0, 1) != 0 ? -1 : sync_data(f->file);
+    return put(f->file, disk, 0, 1) != 0 ? -1 : synced(fdatasync, f->file);
 }
 
 /* Of a file that is open and locked. */
@@ -460,7 +454,7 @@ int lup_file_book(struct lup_file *f, const struct lup_write *writes, size_t cou
     if (answer == 0)
         answer = lup_precommit(&f->store, made.id, &made.csn);
     if (answer != 0) {
-        lup_abort(&f->store, made.id); /* where begin was refused there is no id 0 to abort */
+        lup_abort(&f->store, made.id); /* where begin was refused, id 0, which nobody has */
         made.id = 0;
     }
     if (booking != NULL)
@@ -487,7 +481,7 @@ static int bring_log(struct lup_file *f)
     size_t end = lup_used(f->store.disk + LUPPANETH_LOG, LUPPANETH_LOG_LEN); /* a record's last byte is not 0 */
     if (end == f->brought)
         return 0;
-    if (put(f->file, f->store.disk, from, LUPPANETH_LOG + end) != 0 || sync_data(f->file) != 0)
+    if (put(f->file, f->store.disk, from, LUPPANETH_LOG + end) != 0 || synced(fdatasync, f->file) != 0)
         return -1;
     settle(f, from, LUPPANETH_LOG + end);
     f->brought = end;
@@ -517,9 +511,9 @@ int lup_file_checkpoint(struct lup_file *f)
     if (answer != 0)
         return answer;
     /* the last store is the pointer byte's */
-    if (put(f->file, disk, image, image + f->store.stores - 1) != 0 || sync_data(f->file) != 0)
+    if (put(f->file, disk, image, image + f->store.stores - 1) != 0 || synced(fdatasync, f->file) != 0)
         return poison(f, "checkpoint");
-    if (put(f->file, disk, 0, 1) != 0 || sync_data(f->file) != 0)
+    if (put(f->file, disk, 0, 1) != 0 || synced(fdatasync, f->file) != 0)
         return poison(f, "checkpoint");
     return 0;
 }
@@ -539,10 +533,13 @@ static int open_renewed(struct lup_file *next, const struct lup_file *f)
         answer = open_locked(next, path, O_RDWR | O_CREAT | O_NOFOLLOW, LOCK_EX);
     if (answer != 0)
         return answer;
-    if (fstat(f->file, &old) != 0 || fstat(next->file, &found) != 0 || pread(next->file, &first, 1, 0) < 0)
+    if (fstat(f->file, &old) != 0 || fstat(next->file, &found) != 0 || (found.st_size != 0 && get(next->file, &first, 1) != 0))
         return system_failed(next, "read");
     if ((found.st_size != 0 && found.st_size != LUPPANETH_DISK_LEN) || first != 0)
         return wrong(next, LUP_NO_DISK, "it is there, and no renew has left it");
+    /* for those who may use the old one; where it is not ours to give away it stays ours */
+    if (fchown(next->file, old.st_uid, old.st_gid) != 0)
+        errno = 0;
     if (fchmod(next->file, old.st_mode & 07777) != 0 || make_fresh(next) != 0)
         return system_failed(next, "making a fresh disk");
     return 0;
@@ -559,12 +556,13 @@ static int fill_renewed(struct lup_file *next, const struct lup_file *f)
     return bring_log(next) == 0 ? 0 : system_failed(next, "flush");
 }
 
-/* FILE may have been moved away meanwhile: another file that has its name by now is not ours to replace. */
+/* FILE may have been moved away meanwhile: another file that has its name by now is not ours to replace. A rename that fails may have been done all the
+ * same, and then the old file has no name any more: what is booked on it would be lost. */
 static int rename_renewed(struct lup_file *next, struct lup_file *f)
 {
     if (!is_named(f, f->path))
         return wrong(next, LUP_FILE_FAILED, "rename: %s is no longer the file that is open", f->path);
-    return rename(next->path, f->path) == 0 ? 0 : system_failed(next, "rename");
+    return rename(next->path, f->path) == 0 ? 0 : poison(f, "rename of the renewed file");
 }
 
 /* The handle goes over to the new file, whose lock it has. Until the folder is synced a power failure can bring the old one back. */
@@ -594,12 +592,12 @@ int lup_file_renew(struct lup_file *f)
         if (answer != 0)
             unlink(next->path);
     }
-    if (answer == 0) {
+    if (answer == 0)
         answer = go_over(f, next);
-    } else {
-        memcpy(f->error, next->error, sizeof f->error);
+    else
         lup_file_close(next);
-    }
+    if (f->state == OPEN)
+        strcpy(f->error, next->error);
     free(next);
     return answer;
 }

@@ -77,6 +77,11 @@ size_t below(uint64_t *rng, size_t bound)
     return (size_t)(draw(rng) % bound);
 }
 
+size_t between(uint64_t *rng, size_t low, size_t high)
+{
+    return low + below(rng, high - low + 1);
+}
+
 bool one_in(uint64_t *rng, size_t n)
 {
     return below(rng, n) == 0;
@@ -379,6 +384,9 @@ static int sync_file(int object, bool data)
         raise(SIGKILL);
     if (!may())
         return -1;
+    errno = EINTR;
+    if (drive->disturb && one_in(&m->rng, 16))
+        return -1;
     if (object == THE_FOLDER)
         return sync_names();
     if (fails_now()) {
@@ -490,6 +498,11 @@ ssize_t __wrap_pread(int file, void *bytes, size_t len, off_t at)
     if ((size_t)at >= m->objects[object].len)
         return 0;
     len = smaller(len, m->objects[object].len - (size_t)at);
+    errno = EINTR;
+    if (drive->disturb && one_in(&m->rng, 4))
+        return -1;
+    if (drive->disturb && one_in(&m->rng, 4))
+        len = between(&m->rng, 1, len);
     memcpy(bytes, m->objects[object].now + at, len);
     return (ssize_t)len;
 }
@@ -509,16 +522,24 @@ int __wrap_fdatasync(int file)
 int __wrap_rename(const char *from, const char *to)
 {
     const char *old = inside(from), *new = inside(to);
+    bool fails;
     int object;
     if (old == NULL || new == NULL)
         return __real_rename(from, to);
     if (!may())
         return -1;
+    fails = fails_now();
+    errno = EIO;
+    if (fails && one_in(&m->rng, 2))
+        return -1;
     object = m->now.list[place_of(&m->now, old)].object;
     drop_name(&m->now, old);
     add_name(&m->now, new, object);
     names_changed();
-    return __real_rename(from, to);
+    if (__real_rename(from, to) != 0)
+        broken("a real file");
+    errno = EIO;
+    return fails ? -1 : 0; /* done all the same */
 }
 
 int __wrap_unlink(const char *path)
@@ -627,11 +648,23 @@ void drive_power_fails(void)
     drive_process_dies(false);
 }
 
+/* The kernel forgets pages that it takes for clean, and will read them from the drive again. */
+static void evict(int object)
+{
+    struct object *o = &m->objects[object];
+    size_t at;
+    for (at = 0; at < LUPPANETH_DISK_LEN; at += drive->sector)
+        if (one_in(&m->rng, 3) && count_versions(object, at / drive->sector) == 0)
+            memcpy(o->now + at, o->synced + at, sector_len(at / drive->sector));
+}
+
 void drive_process_dies(bool silently)
 {
     int i;
     for (i = 0; silently && i < m->now.count; i++)
         fail_sectors(m->now.list[i].object, true);
+    for (i = 0; (silently || drive->failed) && i < m->now.count; i++)
+        evict(m->now.list[i].object);
     close_all();
     drive->stopped = drive->failed = false;
     drive->left = drive->calls = drive->eio = drive->kill = DRIVE_FOREVER;

@@ -34,6 +34,7 @@ enum point {
 /* SplitMix64. */
 uint64_t draw(uint64_t *rng);
 size_t below(uint64_t *rng, size_t bound);
+size_t between(uint64_t *rng, size_t low, size_t high);
 bool one_in(uint64_t *rng, size_t n);
 
 /* What the model is set to. Shared with children. */
@@ -43,12 +44,12 @@ struct settings {
     long left;          /* stores that change a byte, syncs, names until everything stops; or DRIVE_FOREVER */
     long calls;         /* the same in calls */
     bool stopped;       /* then every call fails and does nothing */
-    long eio;           /* writes and syncs until one fails, once; or DRIVE_FOREVER */
+    long eio;           /* writes, syncs and renames until one fails, once; or DRIVE_FOREVER */
     bool failed;        /* one has */
     long kill;          /* syncs until the process is killed in one; or DRIVE_FOREVER */
     unsigned skipped;   /* these syncs answer that they are done, and do nothing */
     bool same_is_clean; /* a write that changes nothing makes nothing dirty: as if an opening wrote nothing again */
-    bool disturb;       /* writes are short or interrupted now and then */
+    bool disturb;       /* writes and reads are short, and they and syncs interrupted, now and then */
     enum phase phase;
     unsigned folder_syncs; /* of the phase */
 };
@@ -62,7 +63,8 @@ void drive_phase(enum phase phase);
 /* The current fails: what is not synced is chosen at random. */
 void drive_power_fails(void);
 
-/* The process is gone and the machine goes on. Silently: some dirty sectors could not be written, and nobody is told. */
+/* The process is gone and the machine goes on. Silently: some dirty sectors could not be written, and nobody is told. Then, or where a call has failed, some
+ * of what is in the kernel's memory alone is forgotten there too. */
 void drive_process_dies(bool silently);
 
 /* The bytes of a file by its name in the folder, and its length; NULL if there is none. */

@@ -2,7 +2,8 @@
  *
  *   files FOLDER
  *
- * flock and fstat are wrapped by the linker: the one to do something just before a lock is taken, the other to show a regular file as a block device. */
+ * Three calls are wrapped by the linker: flock, to do something just before a lock is taken; fstat, to show a regular file as a block device; pwrite, to
+ * write nothing. */
 #define _DEFAULT_SOURCE
 
 #include "luppaneth_file.h"
@@ -33,8 +34,15 @@ static void expect(bool ok, const char *what)
 int __real_flock(int file, int how);
 int __real_fstat(int file, struct stat *found);
 
+ssize_t __real_pwrite(int file, const void *from, size_t len, off_t at);
+
 static void (*before_lock)(void);
-static bool shows_block_device;
+static bool shows_block_device, writes_nothing;
+
+ssize_t __wrap_pwrite(int file, const void *from, size_t len, off_t at)
+{
+    return writes_nothing ? 0 : __real_pwrite(file, from, len, at);
+}
 
 int __wrap_flock(int file, int how)
 {
@@ -335,6 +343,22 @@ static void test_book(void)
     lup_file_close(&f);
 }
 
+static void test_poison(void)
+{
+    expect(lup_file_open(&f, "poisoned") == 0, "an opening");
+    book(&f, 5, "a");
+    writes_nothing = true;
+    alarm(20); /* it is no loop */
+    expect(lup_file_flush(&f) == LUP_FILE_FAILED && says(&f, "poisoned: flush: ") && says(&f, "open the store again"), "a device that writes nothing");
+    alarm(0);
+    writes_nothing = false;
+    expect(lup_file_flush(&f) == LUP_POISONED && says(&f, "poisoned: flush: "), "a poisoned store answers");
+    expect(lup_file_open(&g, "poisoned") == LUP_TAKEN, "a poisoned store is open until it is closed");
+    lup_file_close(&f);
+    expect(lup_file_open(&f, "poisoned") == 0 && f.found.durable == 0, "an opening after an error");
+    lup_file_close(&f);
+}
+
 /* Several transactions at a time, with the store's own calls; a renew gives up what runs. */
 static void test_transactions(void)
 {
@@ -386,6 +410,7 @@ int main(int argc, char **argv)
     test_renew();
     test_moved_away();
     test_book();
+    test_poison();
     test_transactions();
     test_check();
     if (!failed)

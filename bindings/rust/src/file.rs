@@ -139,7 +139,8 @@ impl FileDevice {
     /// booked and synced there, and renamed over the old file. When this returns all that was booked is durable; commit numbers and ids start
     /// anew. Killed or cut at any moment the path leads to the old file whole or the new one whole.
     ///
-    /// After an error the store goes on with the old file; only where the folder can't be synced behind the renaming does it answer nothing more.
+    /// After an error the store goes on with the old file; only where the renaming fails, or the folder can't be synced behind it, does it answer
+    /// nothing more ([`Error::Device`]).
     ///
     /// ```
     /// # use luppaneth::{Csn, Error, FileDevice, Store};
@@ -163,17 +164,15 @@ impl FileDevice {
         let fresh = store.device().successor()?;
         let over = fresh.path.clone();
         let renewed = store.renew(fresh).and_then(|renewed| {
-            store.device().replaced_by(&over)?;
+            store.device().has_its_name()?;
             Ok(renewed)
         });
-        let mut renewed = match renewed {
-            Ok(renewed) => renewed,
-            Err(error) => {
-                // Ours, and of no use; if it stays, the next renewal takes it over.
-                let _ = fs::remove_file(&over);
-                return Err(error);
-            }
-        };
+        let mut renewed = renewed.inspect_err(|_| {
+            // Ours, and of no use; if it stays, the next renewal takes it over.
+            let _ = fs::remove_file(&over);
+        })?;
+        // A renaming that fails may have been done all the same: then the old file has no name any more.
+        store.bring(|_, _| fs::rename(&over, &path).map_err(failed(&over, "renaming it")))?;
         renewed.device_mut().path = path.clone();
         // The old file is closed, and so its lock given up, only now: until here nobody else could have opened it.
         *store = renewed;
@@ -185,8 +184,9 @@ impl FileDevice {
         let path = with_ending(&self.path, ".renew");
         let mut options = OpenOptions::new();
         options.read(true).write(true).create(true).truncate(false);
+        let linked = path.is_symlink();
         let device = FileDevice::locked(&path, &options, false)?.keep_torn(self.keep_torn);
-        if !device.left_by_a_renewal()? {
+        if linked || !device.left_by_a_renewal()? {
             let text = "it is in the way of a renewal and not left by one; move it away";
             return Err(wrong(&path, ErrorKind::AlreadyExists, text));
         }
@@ -213,13 +213,13 @@ impl FileDevice {
         Ok(len == 0 || len == DISK_LEN as u64 && pointer == [0])
     }
 
-    /// Another file takes this one's name, unless somebody has given that to a third one meanwhile.
-    fn replaced_by(&self, over: &Path) -> io::Result<()> {
+    /// Somebody may have given its name to another file, which is not ours to replace.
+    fn has_its_name(&self) -> io::Result<()> {
         if !leads_to(&self.path, &self.file)? {
             let text = "it is no longer the file that is open";
             return Err(wrong(&self.path, ErrorKind::NotFound, text));
         }
-        fs::rename(over, &self.path).map_err(failed(over, "renaming it over the old file"))
+        Ok(())
     }
 
     /// Opens and locks the file that the path leads to now.
@@ -288,25 +288,28 @@ impl FileDevice {
         let taken = (0..COPIES).take_while(|&number| name(number).symlink_metadata().is_ok());
         let free = taken.count();
         if free > 0 && fs::read(name(free - 1)).is_ok_and(|bytes| bytes == disk) {
-            return synced(name(free - 1));
+            // Its bytes may be in the kernel's memory alone.
+            return kept(name(free - 1), OpenOptions::new().write(true), disk);
         }
         if free == COPIES {
             let text = format!("{COPIES} torn disks are kept beside it already");
             return Err(wrong(&self.path, ErrorKind::AlreadyExists, text));
         }
-        let copy = name(free);
-        let made = OpenOptions::new().write(true).create_new(true).open(&copy);
-        let written = made.and_then(|file| file.write_all_at(disk, 0));
-        written.map_err(failed(&copy, "keeping the torn disk"))?;
-        synced(copy)
+        kept(
+            name(free),
+            OpenOptions::new().write(true).create_new(true),
+            disk,
+        )
     }
 }
 
-/// The file's bytes and its name last.
-fn synced(path: PathBuf) -> io::Result<PathBuf> {
-    let file = File::open(&path);
-    file.and_then(|file| file.sync_all())
-        .map_err(failed(&path, "fsync"))?;
+/// A copy that lasts, with its name.
+fn kept(path: PathBuf, options: &OpenOptions, disk: &Disk) -> io::Result<PathBuf> {
+    let written = options.open(&path).and_then(|file| {
+        file.write_all_at(disk, 0)?;
+        file.sync_all()
+    });
+    written.map_err(failed(&path, "keeping the torn disk"))?;
     sync_directory(&path)?;
     Ok(path)
 }

@@ -278,6 +278,12 @@ fn a_renewal_takes_over_what_a_killed_one_left_and_nothing_else() {
         store.book(|tx| tx.write(0, b"blue")).unwrap();
         store.flush().unwrap();
     }
+    fs::remove_file(&renew).unwrap();
+    let elsewhere = beside(&path, ".elsewhere");
+    fs::write(&elsewhere, torn_disk()).unwrap();
+    symlink(&elsewhere, &renew).unwrap();
+    assert!(FileDevice::renew(&mut store).is_err());
+    assert_eq!(fs::read(&elsewhere).unwrap(), torn_disk());
     drop(store);
     assert_eq!(open(&path).unwrap().read(0, 4).unwrap(), b"blue");
 }

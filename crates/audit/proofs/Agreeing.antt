@@ -15,8 +15,8 @@ use Rattle.recovery.specs.Restart.{groupId}
 use Rattle.recovery.specs.Ledger.{Commit}
 use Rattle.recovery.specs.Machine.{down, diskOf, openingDisk, opened}
 use Rattle.recovery.specs.Claim.{commits}
-use Rattle.recovery.proofs.Distinct.{Distinct, more}
-use Rattle.recovery.proofs.Log.{form-one}
+use Rattle.recovery.proofs.Distinct.{Distinct, more, distinct-right}
+use Rattle.recovery.proofs.Log.{standing-last}
 use Rattle.recovery.proofs.Once.{groups-once}
 use Rattle.log.proofs.Basics.{clash}
 use Rattle.image.proofs.Lists.{map-at}
@@ -25,7 +25,7 @@ use Rattle.inspect.proofs.Walking.{outcomes-done}
 use Rattle.history.specs.Demand.{Watched, happenAll, opening}
 use Rattle.history.proofs.OnDisk.{opens, fresh, fresh-shows}
 use Rattle.history.proofs.Shows.{rests}
-use Rattle.history.proofs.Theorem.{Reached, all-happen, claimed}
+use Rattle.history.proofs.Theorem.{Reached, all-happen, log-shown, claimed}
 use Rattle.audit.specs.{DurableLast, leftOn, outcomeAt, Agree, OutcomesAgree}
 
 -- ---- a commit that is the last group of its id is among the log's commits
@@ -76,10 +76,11 @@ module _ (k : Watched) (r : Reached fresh k) where
   logged : commits log ≡ k .ledger .durable
   logged = claimed fresh k r .logged
 
+  -- what stands in the log is a part of the history
   once : Distinct groupId log
   once =
-      let d = diskOf (r .system) in
-      subst (Distinct groupId) (sym (r .shows .0 .log ∙ ap (λ (gs : List Group). gs ++ d .after) (form-one d))) (groups-once (opens fresh) (r .run))
+      let (gone, whole) = standing-last (diskOf (r .system)) in
+      subst (Distinct groupId) (sym (log-shown fresh k r)) (distinct-right gone (subst (Distinct groupId) whole (groups-once (opens fresh) (r .run))))
 
   durable-last : (id : ℕ) → lastOutcome log id ≡ 1 → DurableLast id k
   durable-last id e = go (lastGroup log id) refl

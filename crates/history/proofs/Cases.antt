@@ -8,8 +8,8 @@ use lib.ListN.{replicate, length-replicate}
 use Rattle.recovery.specs.Restart.{undoOrder}
 use Rattle.log.specs.Record.{readRecord, readRedo, readCommit, readAbort}
 use Rattle.log.specs.Reader.{run, whole as all}
-use Rattle.log.specs.Group.{readBody, readGroup}
-use Rattle.log.specs.Log.{readLog}
+use Rattle.log.specs.Group.{readBody, groupWith}
+use Rattle.log.specs.Log.{readLogWith, readLog}
 use Rattle.log.specs.Stop.{stopOf}
 use Rattle.transaction.specs.Flat.{emptyRecords, emptyTx}
 use Rattle.transaction.specs.Rules.{headOk, savepointsOk, stateOk, heldAgainst, nameRefused}
@@ -46,14 +46,14 @@ abbrev quickShown : Row → Option Shown
 quickShown r = quickShowing (r .look) (quickRun (r .calls) start)
 
 computed : map quickShown rows ≡ map (λ r. some (r .expected)) rows
-unfolding undoOrder readRecord readRedo readCommit readAbort run all readBody readGroup readLog emptyRecords emptyTx headOk savepointsOk stateOk heldAgainst pushed freshTx
+unfolding undoOrder readRecord readRedo readCommit readAbort run all readBody groupWith readLogWith readLog emptyRecords emptyTx headOk savepointsOk stateOk heldAgainst pushed freshTx
     written withRead precommitted loaded packedTxs packed emptyImage undoHere readTx readContent memoryOf past forwardOf isRunning isLost runningOf lostOf
     recoverOf unrecovered unfit begunState writtenState readState precommittedState without droppedState loadOf notOpened openOf refusedBy stepsOf examineOf recoveredState
     restartOf carriedOut stopOf stopFound stoppedOf decimal line foundText stopLine listingOf
 computed = refl
 
 savepoints-computed : map quickShown savepointRows ≡ map (λ r. some (r .expected)) savepointRows
-unfolding undoOrder readRecord readRedo readCommit readAbort run all readBody readGroup readLog emptyRecords emptyTx headOk savepointsOk stateOk heldAgainst nameRefused
+unfolding undoOrder readRecord readRedo readCommit readAbort run all readBody groupWith readLogWith readLog emptyRecords emptyTx headOk savepointsOk stateOk heldAgainst nameRefused
     pushed freshTx written withRead savepointed goneBack precommitted loaded packedTxs packed emptyImage undoHere readTx readContent memoryOf past forwardOf isRunning
     isLost runningOf lostOf recoverOf unrecovered unfit begunState writtenState readState savepointState wentBackState precommittedState without droppedState loadOf openOf
     stepsOf examineOf recoveredState restartOf carriedOut

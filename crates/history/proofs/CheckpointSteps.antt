@@ -7,12 +7,14 @@ use mathlib.Core.List.{List, _++_, append-nil, map}
 use mathlib.Core.Path.{_≡_, refl, sym, ap, _∙_, subst}
 use lib.ListN.{length, take, drop}
 use Rattle.layout.specs.Parts.{part, pointerOf, imagePart}
-use Rattle.recovery.specs.Group.{groupsSize}
-use Rattle.recovery.specs.Machine.{Disk, standingBefore, standingIn, Live, down, up, checkpoints, checkpointIsCut, afterCheckpoint, withoutRedo}
-use Rattle.recovery.proofs.Log.{checkpoint-stands}
+use Rattle.layout.specs.declared.Form.the-variants.{One}
+use Rattle.recovery.specs.Group.{Group, groupsSize}
+use Rattle.recovery.specs.Machine.{Disk, standingBefore, standingIn, numberBefore, Live, down, up, checkpoints, checkpointIsCut, afterCheckpoint, withoutRedo}
+use Rattle.recovery.proofs.Log.{checkpoint-stands, checkpoint-number}
 use Rattle.log.specs.Log.{readLog}
 use Rattle.log.specs.Stores.{apply}
 use Rattle.log.proofs.StoreLaws.{length-apply}
+use Rattle.log.proofs.Ended.{Groupless}
 use Rattle.transaction.specs.View.{viewOf}
 use Rattle.image.specs.Slots.{slotAt}
 use Rattle.image.specs.Content.{Content, contentOf, transactionsIn}
@@ -28,15 +30,16 @@ use Rattle.store.proofs.Fits.{fit}
 use Rattle.store.proofs.Storing.{diskNumber, stored-cut, stored-done}
 use Rattle.store.proofs.Checkpointing.{checkpoint-length, kept-log, kept-pointer, kept-image, new-pointer, new-image}
 use Rattle.store.proofs.Stepping.{same-or-other}
+use Rattle.disk.specs.Layout.{logFrom}
 use Rattle.disk.specs.Open.{Loaded, imageNamed, loadOf, OpenedDisk, openedBy, openOf}
 use Rattle.disk.proofs.Loading.{load-image}
 use Rattle.disk.proofs.Opened.{open-is, open-inv, open-alike}
 use Rattle.history.specs.Calls.{checkpoint, stored, World, stepOf}
-use Rattle.history.proofs.OnDisk.{Start, OnDisk, same-opened}
+use Rattle.history.proofs.OnDisk.{Start, opens, groupsFrom, OnDisk, same-opened}
 use Rattle.history.proofs.Shows.{LiveOn, awake, rests, cut-rests, FollowsBy, refused-follows, checkpoint-refuses}
 
-module _ {from : Start} (w : World) (d : Disk) (l : Live) (o : OnDisk from (w .disk) d) (v : LiveOn w d l) (a : ℕ)
-    (z : diskNumber (w .state) (w .disk) (w .memory) (w .tail) ≡ 0) where
+module _ {from : Start} (w : World) (d : Disk) (l : Live) (o : OnDisk from (w .disk) d) (v : LiveOn w d l)
+    (form : d .form ≡ One) (a : ℕ) (z : diskNumber (w .state) (w .disk) (w .memory) (w .tail) ≡ 0) where
   abbrev s : State
   s = w .state
 
@@ -58,6 +61,13 @@ module _ {from : Start} (w : World) (d : Disk) (l : Live) (o : OnDisk from (w .d
   need : length (checkpointStores s (w .disk) m) ≡ imageSize (imageOf s) + 1
   need = checkpoint-length s (w .disk) m (v .memory)
 
+  -- the log is as it was
+  same-groups : (n : ℕ) → groupsFrom n left ≡ groupsFrom n (w .disk)
+  same-groups n = ap (readLog n) (kept-log s (w .disk) m t a z)
+
+  same-end : (gs : List Group) → Groupless (logFrom (groupsSize gs) (w .disk)) → Groupless (logFrom (groupsSize gs) left)
+  same-end gs h = subst Groupless (ap (drop (groupsSize gs)) (sym (kept-log s (w .disk) m t a z))) h
+
   -- ---- cut: the image in use is the old one
 
   module _ (h : a ≤ imageSize (imageOf s)) where
@@ -65,7 +75,7 @@ module _ {from : Start} (w : World) (d : Disk) (l : Live) (o : OnDisk from (w .d
     shows-cut =
         same-opened (w .disk) left d d o left-length
         (open-alike left (w .disk) (kept-pointer s (w .disk) m t a z h) (kept-image s (w .disk) m t a z h (open-inv (w .disk) (o .opened) .low))) refl refl
-        (ap (readLog (from .csn)) (kept-log s (w .disk) m t a z) ∙ o .log)
+        (same-groups (numberBefore (opens from) d) ∙ o .log) (same-end (standingIn d) (o .ended))
 
     cut-follows : FollowsBy from (up d l) (checkpoint a) (stepOf (checkpoint a) w)
     unfolding stepOf checkpointOf
@@ -126,7 +136,7 @@ module _ {from : Start} (w : World) (d : Disk) (l : Live) (o : OnDisk from (w .d
 
     -- what stands in the log stays as it was
     same-stands : standingIn (afterCheckpoint d l) ≡ standingIn d
-    same-stands = append-nil (standingBefore (afterCheckpoint d l)) ∙ checkpoint-stands d l
+    same-stands = append-nil (standingBefore (afterCheckpoint d l)) ∙ checkpoint-stands d l form
 
     shows-done : OnDisk from left (afterCheckpoint d l)
     shows-done =
@@ -139,9 +149,14 @@ module _ {from : Start} (w : World) (d : Disk) (l : Live) (o : OnDisk from (w .d
               ∙ ap (map withoutRedo) (views ∙ ap (λ (x : Live). x .txs) (v .view));
           memory = ap (λ (x : OpenedDisk). x .memory) opens-new ∙ restored .memory ∙ ap (λ (x : Live). x .memory) (v .view);
           csn = ap (λ (c : Content). c .ondisk) content ∙ ap (λ (x : Live). x .csn) (v .view);
-          last = omega (arith, ap (λ (c : Content). c .lastid) content, ap (λ (x : Live). x .lastId) (v .view));
-          place = ap (λ (c : Content). c .logend) content ∙ v .end ∙ ap groupsSize (sym (checkpoint-stands d l));
-          log = ap (readLog (from .csn)) (kept-log s (w .disk) m t a z) ∙ o .log ∙ sym same-stands;
+          last = ap (λ (c : Content). c .lastid) content ∙ ap (λ (x : Live). x .lastId) (v .view);
+          place = ap (λ (c : Content). c .logend) content ∙ v .end ∙ ap groupsSize (sym (checkpoint-stands d l form));
+          log = ap (λ (n : ℕ). groupsFrom n left) (checkpoint-number (opens from) d l form)
+              ∙ same-groups (numberBefore (opens from) d)
+              ∙ o .log
+              ∙ sym same-stands;
+          ended =
+              subst (λ (gs : List Group). Groupless (logFrom (groupsSize gs) left)) (sym same-stands) (same-end (standingIn d) (o .ended));
         }
 
     done-follows : FollowsBy from (up d l) (checkpoint a) (stepOf (checkpoint a) w)
@@ -167,9 +182,9 @@ module _ {from : Start} (w : World) (d : Disk) (l : Live) (o : OnDisk from (w .d
           );
         })
 
-pub checkpoint-follows : {from : Start} (w : World) (d : Disk) (l : Live) → OnDisk from (w .disk) d → LiveOn w d l → (a : ℕ)
+pub checkpoint-follows : {from : Start} (w : World) (d : Disk) (l : Live) → OnDisk from (w .disk) d → LiveOn w d l → d .form ≡ One → (a : ℕ)
     → FollowsBy from (up d l) (checkpoint a) (stepOf (checkpoint a) w)
-checkpoint-follows w d l o v a =
+checkpoint-follows w d l o v form a =
     same-or-other (diskNumber (w .state) (w .disk) (w .memory) (w .tail)) 0
-    (λ z. elim (decLe a (imageSize (imageOf (w .state)))) [ yes h ↦ cut-follows w d l o v a z h | no h ↦ done-follows w d l o v a z (omega (arith, h)) ])
+    (λ z. elim (decLe a (imageSize (imageOf (w .state)))) [ yes h ↦ cut-follows w d l o v form a z h | no h ↦ done-follows w d l o v form a z (omega (arith, h)) ])
     (λ h. refused-follows (up d l) w (checkpoint a) (o, awake v) (checkpoint-refuses w a h))

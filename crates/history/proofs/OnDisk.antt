@@ -4,19 +4,21 @@ use Prim.Native.Nat.{ℕ, zero, suc, _+_, _-_, _*_, _≤_}
 use native.Mathlib.Omega.{arith}
 use mathlib.Core.Bool.{true}
 use mathlib.Core.List.{List, [], _∷_, _++_}
-use mathlib.Core.Path.{_≡_, refl, sym, ap, ap₂, _∙_}
-use lib.ListN.{length, take, replicate, length-replicate}
+use mathlib.Core.Path.{_≡_, refl, sym, ap, ap₂, _∙_, subst}
+use lib.ListN.{length, take, drop, replicate, length-replicate}
+use Rattle.layout.specs.declared.Form.the-variants.{One}
 use Rattle.recovery.specs.Group.{Group, groupsSize, lastCsn}
 use Rattle.recovery.specs.Transaction.{Tx}
 use Rattle.recovery.specs.Replay.{layBytes}
 use Rattle.recovery.specs.Restart.{undone, aborts, recover}
-use Rattle.recovery.specs.Machine.{Opening, Disk, standingBefore, standingIn, openingDisk, undoneBy, recovered}
+use Rattle.recovery.specs.Machine.{Opening, Disk, standingBefore, standingIn, numberBefore, openingDisk, undoneBy, recovered}
 use Rattle.recovery.proofs.Groups.{groupsSize-append}
-use Rattle.recovery.proofs.Log.{opening-stands}
+use Rattle.recovery.proofs.Log.{opening-stands, opening-number}
 use Rattle.log.specs.Log.{readLog, encodeLog}
 use Rattle.log.proofs.Parts.{log-split}
 use Rattle.log.proofs.StoreLaws.{drop-zeros}
 use Rattle.log.proofs.Torn.{log-zeros}
+use Rattle.log.proofs.Ended.{Groupless, zeros-groupless}
 use Rattle.image.specs.declared.Image.{Image}
 use Rattle.image.specs.Pack.{emptyImage}
 use Rattle.image.specs.Rules.{keepsRules}
@@ -33,15 +35,24 @@ use Rattle.disk.proofs.Accepted as accepted
 use Rattle.disk.proofs.Accepted.{imageIn, memoryIn, logIn, stepsIn, Accepted}
 use Rattle.history.proofs.Padded.{padded}
 
--- What a history of this store opens from: a memory of 4,096 bytes and the last commit number, as an image without transactions has them.
+-- What a history of this store opens from: a memory of 4,096 bytes, the last commit number and the last id, as an image without transactions has them.
 pub record Start : Type 0 where
   pub memory : List ℕ
   pub csn : ℕ
+  pub lastId : ℕ
   pub sized : length memory ≡ 4096
 
--- in the machine's words, with 16,384 bytes of log
+-- in the machine's words, on a disk of form one, with 16,384 bytes of log
 abbrev pub opens : Start → Opening
-opens from = record { size = 4096; capacity = 16384; memory = from .memory; csn = from .csn; sized = from .sized }
+opens from =
+    record { form = One; size = 4096; capacity = 16384; memory = from .memory; csn = from .csn; lastId = from .lastId; sized = from .sized }
+
+-- the log of a disk from its first byte on, and its groups, where commit numbers go on from n
+abbrev pub wholeLog : List ℕ → List ℕ
+wholeLog disk = logFrom 0 disk
+
+abbrev pub groupsFrom : ℕ → List ℕ → List Group
+groupsFrom n disk = readLog n (wholeLog disk)
 
 pub record OnDisk (from : Start) (disk : List ℕ) (d : Disk) : Type 0 where
   pub long : length disk ≡ 33691
@@ -49,19 +60,27 @@ pub record OnDisk (from : Start) (disk : List ℕ) (d : Disk) : Type 0 where
   pub txs : transactionsIn (imageIn disk) ≡ d .image .txs
   pub memory : memoryIn disk ≡ d .image .memory
   pub csn : imageIn disk .ondisk .0 ≡ d .image .csn
-  -- a disk that opens a history may have given ids before it
-  pub last : d .image .lastId ≤ imageIn disk .lastid .0
+  pub last : imageIn disk .lastid .0 ≡ d .image .lastId
   pub place : imageIn disk .logend ≡ groupsSize (standingBefore d)
-  pub log : readLog (from .csn) (logFrom 0 disk) ≡ standingIn d
+  pub log : groupsFrom (numberBefore (opens from) d) disk ≡ standingIn d
+  -- where it ends no whole group stands, whatever its number
+  pub ended : Groupless (logFrom (groupsSize (standingIn d)) disk)
 
--- An all-zero disk: without an image, memory is zero and the last commit number 0.
+-- An all-zero disk: without an image, memory is zero, the last commit number and the last id 0.
 abbrev pub fresh : Start
-fresh = record { memory = replicate 4096 0; csn = 0; sized = length-replicate {A = ℕ} 4096 0 }
+fresh = record { memory = replicate 4096 0; csn = 0; lastId = 0; sized = length-replicate {A = ℕ} 4096 0 }
 
 take-zeros : (n k : ℕ) → n ≤ k → _≡_ {A = List ℕ} (take n (replicate k 0)) (replicate n 0)
 take-zeros zero k h = refl
 take-zeros (suc n) zero h = absurd (omega arith)
 take-zeros (suc n) (suc k) h = ap (λ (l : List ℕ). 0 ∷ l) (take-zeros n k (omega arith))
+
+fresh-log : wholeLog (replicate 33691 0) ≡ replicate 16384 0
+fresh-log = ap (take 16384) (drop-zeros 17307 33691) ∙ take-zeros 16384 16384 (omega arith)
+
+-- nothing stands in the log
+fresh-stands : standingIn (openingDisk (opens fresh)) ≡ []
+fresh-stands = ap (λ (gs : List Group). gs ++ []) (opening-stands (opens fresh))
 
 pub fresh-shows : OnDisk fresh (replicate 33691 0) (openingDisk (opens fresh))
 unfolding openOf loadOf emptyImage
@@ -71,37 +90,40 @@ fresh-shows = record {
   txs = refl;
   memory = refl;
   csn = refl;
-  last = omega arith;
+  last = refl;
   place = ap groupsSize (sym (opening-stands (opens fresh)));
   log =
-      ap (λ (l : List ℕ). readLog 0 (take 16384 l)) (drop-zeros 17307 33691)
-      ∙ ap (readLog 0) (take-zeros 16384 16384 (omega arith))
+      ap₂ readLog (opening-number (opens fresh)) fresh-log
       ∙ log-zeros 0 16384
-      ∙ ap (λ (gs : List Group). gs ++ []) (sym (opening-stands (opens fresh)));
+      ∙ sym fresh-stands;
+  ended =
+      subst Groupless (sym (ap₂ drop (ap groupsSize fresh-stands) fresh-log)) (zeros-groupless 16384);
 }
 
 -- ---- a disk that opens alike
 
 pub same-opened : {from : Start} (x y : List ℕ) (d e : Disk) → OnDisk from x d → length y ≡ 33691 → OpenAlike y x
-    → e .image ≡ d .image → standingBefore e ≡ standingBefore d → readLog (from .csn) (logFrom 0 y) ≡ standingIn e → OnDisk from y e
-same-opened x y d e o long a i b log = record {
+    → e .image ≡ d .image → standingBefore e ≡ standingBefore d → groupsFrom (numberBefore (opens from) e) y ≡ standingIn e
+    → Groupless (logFrom (groupsSize (standingIn e)) y) → OnDisk from y e
+same-opened x y d e o long a i b log ended = record {
   long = long;
   opened = a .number ∙ o .opened;
   txs = ap transactionsIn (a .image) ∙ o .txs ∙ ap (λ z. z .txs) (sym i);
   memory = a .memory ∙ o .memory ∙ ap (λ z. z .memory) (sym i);
   csn = ap (λ (z : Image). z .ondisk .0) (a .image) ∙ o .csn ∙ ap (λ z. z .csn) (sym i);
-  last = omega (arith, o .last, ap (λ z. z .lastId) i, ap (λ (z : Image). z .lastid .0) (a .image));
+  last = ap (λ (z : Image). z .lastid .0) (a .image) ∙ o .last ∙ ap (λ z. z .lastId) (sym i);
   place = ap (λ (z : Image). z .logend) (a .image) ∙ o .place ∙ ap groupsSize (sym b);
   log = log;
+  ended = ended;
 }
 
 -- ---- the groups after the image
 
-module _ {from : Start} (disk : List ℕ) (d : Disk) (o : OnDisk from disk d) (n : lastCsn (from .csn) (standingBefore d) ≡ d .image .csn) where
+module _ {from : Start} (disk : List ℕ) (d : Disk) (o : OnDisk from disk d) (n : lastCsn (numberBefore (opens from) d) (standingBefore d) ≡ d .image .csn) where
   pub groups-after : groupsOf (imageIn disk) (logIn disk) ≡ d .after
   groups-after =
       ap₂ readLog (o .csn ∙ sym n) (opened-log disk (o .opened) ∙ ap (λ (k : ℕ). logFrom k disk) (o .place))
-      ∙ log-split (from .csn) (standingBefore d) (d .after) (logFrom 0 disk) (o .log)
+      ∙ log-split (numberBefore (opens from) d) (standingBefore d) (d .after) (wholeLog disk) (o .log)
 
   pub undone-shown : restarts.undoneBy (imageIn disk) (logIn disk) ≡ undoneBy d
   undone-shown =

@@ -11,12 +11,13 @@ use Rattle.recovery.specs.Lists.{All}
 use Rattle.recovery.specs.Transaction.{Tx}
 use Rattle.recovery.specs.Restart.{groupId, aborts}
 use Rattle.recovery.specs.Ledger as ledger
-use Rattle.recovery.specs.Machine.{Disk, standingBefore, standingIn, System, down, up, diskOf, Step, restarts, restartIsCut, undoneBy, recovered, afterRestart}
+use Rattle.recovery.specs.Machine.{Disk, standingBefore, standingIn, numberBefore, System, down, up, diskOf, Step, restarts, restartIsCut, undoneBy, recovered, afterRestart}
 use Rattle.recovery.proofs.Groups.{fitting-all}
 use Rattle.log.specs.Log.{readLog, encodeLog}
 use Rattle.log.specs.Stores.{apply}
 use Rattle.log.proofs.StoreLaws.{length-apply}
 use Rattle.log.proofs.Torn.{log-torn}
+use Rattle.log.proofs.Ended.{Groupless, log-ended}
 use Rattle.transaction.specs.declared.Tx.{Tx as Slot}
 use Rattle.transaction.specs.Flat.{emptyTx}
 use Rattle.image.specs.Content.{transactionsIn}
@@ -35,7 +36,7 @@ use Rattle.disk.proofs.Usable.{tail-reads, usable}
 use Rattle.disk.proofs.Again.{cleared, cleared-alike}
 use Rattle.history.specs.Calls.{restart, stored, World, stepOf}
 use Rattle.history.proofs.Padded.{padded}
-use Rattle.history.proofs.OnDisk.{Start, opens, OnDisk, same-opened, groups-after, undone-shown, accepts, number-none, end-shown, count-shown, csn-shown}
+use Rattle.history.proofs.OnDisk.{Start, opens, wholeLog, groupsFrom, OnDisk, same-opened, groups-after, undone-shown, accepts, number-none, end-shown, count-shown, csn-shown}
 use Rattle.history.proofs.OnDisk.{memory-shown, tail-shown}
 use Rattle.history.proofs.Shows.{Neat, LiveOn, awake, rests, cut-rests, FollowsBy}
 
@@ -43,7 +44,7 @@ use Rattle.history.proofs.Shows.{Neat, LiveOn, awake, rests, cut-rests,
 recovered-sized : (s : State) → s .txs ≡ replicate 8 emptyTx → s .count ≡ 0 → SizedState s
 recovered-sized s e c = record { slots = ap length e ∙ length-replicate {A = Slot} 8 emptyTx; each = λ i h. absurd (omega (arith, h, c)) }
 
-module _ {from : Start} (disk : List ℕ) (d : Disk) (o : OnDisk from disk d) (n : lastCsn (from .csn) (standingBefore d) ≡ d .image .csn)
+module _ {from : Start} (disk : List ℕ) (d : Disk) (o : OnDisk from disk d) (n : lastCsn (numberBefore (opens from) d) (standingBefore d) ≡ d .image .csn)
     (room : groupsSize (standingIn d) + 4 * length (undoneBy d) ≤ 16384) where
   abbrev end : ℕ
   end = examineOf disk .result .end
@@ -66,17 +67,24 @@ module _ {from : Start} (disk : List ℕ) (d : Disk) (o : OnDisk from disk d) (n
     abbrev zeros : ℕ
     zeros = 16384 - end - (16384 - end - k)
 
-    left-is : logFrom 0 left ≡ take front (logFrom 0 disk) ++ replicate zeros 0
+    left-is : wholeLog left ≡ take front (wholeLog disk) ++ replicate zeros 0
     left-is = cleared k end disk (o .long) (omega (arith, ends, room))
 
-    pub log-left : readLog (from .csn) (logFrom 0 left) ≡ standingIn d
+    pub log-left : groupsFrom (numberBefore (opens from) d) left ≡ standingIn d
     log-left =
-        ap (readLog (from .csn)) left-is
-        ∙ log-torn (from .csn) (standingIn d) (logFrom 0 disk) front zeros (o .log)
+        ap (readLog (numberBefore (opens from) d)) left-is
+        ∙ log-torn (numberBefore (opens from) d) (standingIn d) (wholeLog disk) front zeros (o .log)
         ∙ fitting-all front (standingIn d) (omega (arith, ends))
 
+    ended-left : Groupless (logFrom (groupsSize (standingIn d)) left)
+    ended-left =
+        subst Groupless (sym (ap (drop (groupsSize (standingIn d))) left-is))
+        (subst (λ (gs : List Group). Groupless (drop (groupsSize gs) (take front (wholeLog disk) ++ replicate zeros 0)))
+        (fitting-all front (standingIn d) (omega (arith, ends)))
+        (log-ended (numberBefore (opens from) d) (standingIn d) (wholeLog disk) front zeros (o .log) (o .ended)))
+
     shows-left : OnDisk from left d
-    shows-left = same-opened disk left d d o (length-apply (take k (clearing end)) disk ∙ o .long) (cleared-alike k end disk (omega (arith, ends, room))) refl refl log-left
+    shows-left = same-opened disk left d d o (length-apply (take k (clearing end)) disk ∙ o .long) (cleared-alike k end disk (omega (arith, ends, room))) refl refl log-left ended-left
 
   -- ---- the state, memory and tail of a restart that is done
 
@@ -136,8 +144,8 @@ module _ {from : Start} (disk : List ℕ) (d : Disk) (o : OnDisk from disk d) (n
         end = ends;
         zeros =
             ap (drop end) (left-is k)
-            ∙ drop-at (take (front k) (logFrom 0 disk)) (replicate (zeros k) 0) end
-            (length-take-le (front k) (logFrom 0 disk) (omega (arith, log-length disk (o .long), ends, room)) ∙ e)
+            ∙ drop-at (take (front k) (wholeLog disk)) (replicate (zeros k) 0) end
+            (length-take-le (front k) (wholeLog disk) (omega (arith, log-length disk (o .long), ends, room)) ∙ e)
             ∙ ap (λ (j : ℕ). replicate j 0) z;
         neat = neat (examineOf disk .result .csn .0);
       }
@@ -152,7 +160,7 @@ module _ {from : Start} (disk : List ℕ) (d : Disk) (o : OnDisk from disk d) (n
     restart-broken h = restart-cut disk m t a (o .long) lm lt (number-none disk d o n room) h
 
 pub restart-follows : {from : Start} (w : World) (s : System) → OnDisk from (w .disk) (diskOf s) → length (w .memory) ≡ 4096 → length (w .tail) ≡ 16384
-    → lastCsn (from .csn) (standingBefore (diskOf s)) ≡ diskOf s .image .csn → groupsSize (standingIn (diskOf s)) + 4 * length (undoneBy (diskOf s)) ≤ 16384
+    → lastCsn (numberBefore (opens from) (diskOf s)) (standingBefore (diskOf s)) ≡ diskOf s .image .csn → groupsSize (standingIn (diskOf s)) + 4 * length (undoneBy (diskOf s)) ≤ 16384
     → (a : ℕ) → FollowsBy from s (restart a) (stepOf (restart a) w)
 unfolding stepOf
 restart-follows {from} w s o lm lt n room a =

@@ -5,35 +5,36 @@ use Prim.Native.Nat.{ℕ, _+_, _*_, _≤_}
 use mathlib.Core.List.{List, [], _∷_, _++_, List·Memᴰ}
 use mathlib.Core.Path.{_≡_, refl, sym, ap, _∙_, subst}
 use lib.ListN.{length, replicate}
+use Rattle.layout.specs.declared.Form.the-variants.{One}
 use Rattle.recovery.specs.Group.{groupsSize, lastCsn}
 use Rattle.recovery.specs.Lists.{All}
 use Rattle.recovery.specs.Ledger.{Event, settled, Commit, Ledger, noLedger, committedIn, latest}
-use Rattle.recovery.specs.Machine.{Disk, standingBefore, standingIn, Live, System, down, up, diskOf, openingDisk, undoneBy, Step, stays, begins}
+use Rattle.recovery.specs.Machine.{Disk, standingBefore, standingIn, numberBefore, Live, System, down, up, diskOf, openingDisk, undoneBy, Step, stays, begins}
 use Rattle.recovery.specs.Machine.{writes, setsSavepoint, goesBack, precommits, rollsBack, flushes, flushIsCut, settles, checkpoints, checkpointIsCut, restarts, restartIsCut, Run, opened, next}
 use Rattle.recovery.specs.Claim.{commits, layCommits, Numbered}
 use Rattle.recovery.proofs.Groups.{lastCsn-append}
 use Rattle.recovery.proofs.Numbers.{Numbers}
-use Rattle.recovery.proofs.Log.{form-one}
+use Rattle.recovery.proofs.Log.{number-one, standing-number, form-stays}
 use Rattle.recovery.proofs.Invariant.{Inv}
 use Rattle.recovery.proofs.Theorem.{holds, theorem, settled-found}
-use Rattle.log.specs.Log.{readLog}
+use Rattle.log.specs.Found.{readFound}
 use Rattle.log.proofs.Basics.{clash}
+use Rattle.log.proofs.FoundLaws.{found-same}
 use Rattle.store.specs.Answer.{done}
 use Rattle.store.specs.State.{unrecovered}
 use Rattle.store.specs.Stored.{DiskOutcome}
-use Rattle.disk.specs.Layout.{logFrom}
 use Rattle.disk.specs.Examine.{examineOf}
 use Rattle.disk.specs.Restart.{restartOf}
 use Rattle.disk.specs.Enough.{Enough}
 use Rattle.history.specs.Calls.{Call, begin, write, read, readAnswer, savepoint, goBack, precommit, abort, flush, settle, checkpoint, restart, told, World, stepOf}
 use Rattle.history.specs.Demand.{eventOf, Happening, called, powerFails, Watched, happen, happenAll, opening, LatestDurable, Survives, Demand3}
-use Rattle.history.proofs.OnDisk.{Start, opens, OnDisk, fresh, fresh-shows, end-shown, memory-shown}
+use Rattle.history.proofs.OnDisk.{Start, opens, wholeLog, groupsFrom, OnDisk, fresh, fresh-shows, end-shown, memory-shown}
 use Rattle.history.proofs.Shows.{LiveOn, Beside, awake, rests, Shows, FollowsBy, refused-follows, read-refuses}
 use Rattle.history.proofs.Shows.{begin-idle, write-idle, answer-idle, savepoint-idle, go-back-idle, precommit-idle, abort-idle, settle-idle, flush-idle, checkpoint-idle}
 use Rattle.history.proofs.MemorySteps.{begin-follows, write-follows, answer-follows, savepoint-follows, go-back-follows, precommit-follows, abort-follows, settle-follows}
 use Rattle.history.proofs.FlushSteps.{flush-follows}
 use Rattle.history.proofs.CheckpointSteps.{checkpoint-follows}
-use Rattle.history.proofs.RestartSteps.{log-left, restart-made, restart-follows}
+use Rattle.history.proofs.RestartSteps.{left, log-left, restart-made, restart-follows}
 
 -- a store before its first call, and an empty ledger that starts from a memory
 abbrev pub openedOn : List ℕ → List ℕ → List ℕ → List ℕ → Watched
@@ -49,17 +50,24 @@ module _ (from : Start) where
 
   module _ (s : System) (k : Ledger) (r : Run (opens from) s k) where
     -- what stands before the image ends with the image's number
-    image-number : lastCsn (from .csn) (standingBefore (diskOf s)) ≡ diskOf s .image .csn
-    image-number = ap (lastCsn (from .csn)) (form-one (diskOf s)) ∙ sym (numbersIn s k (holds (opens from) r) .image)
+    image-number : lastCsn (numberBefore (opens from) (diskOf s)) (standingBefore (diskOf s)) ≡ diskOf s .image .csn
+    image-number = standing-number (opens from) (diskOf s) (numbersIn s k (holds (opens from) r))
+
+    -- the form is the opening's, and so the log goes on from the opening's number
+    form : diskOf s .form ≡ One
+    form = form-stays (opens from) r
+
+    opening-number : numberBefore (opens from) (diskOf s) ≡ from .csn
+    opening-number = number-one (opens from) (diskOf s) form
 
     room : groupsSize (standingIn (diskOf s)) + 4 * length (undoneBy (diskOf s)) ≤ 16384
     room = theorem (opens from) r .fits
 
   -- the last number in the log is the state's number on disk
   last-number : (w : World) (d : Disk) (l : Live) (k : Ledger) → Run (opens from) (up d l) k → LiveOn w d l
-      → lastCsn (from .csn) (standingIn d) ≡ w .state .ondisk .0
+      → lastCsn (numberBefore (opens from) d) (standingIn d) ≡ w .state .ondisk .0
   last-number w d l k r v =
-      lastCsn-append (from .csn) (standingBefore d) (d .after)
+      lastCsn-append (numberBefore (opens from) d) (standingBefore d) (d .after)
       ∙ ap (λ (n : ℕ). lastCsn n (d .after)) (image-number (up d l) k r)
       ∙ sym (holds (opens from) r .standing .onDisk)
       ∙ ap (λ (x : Live). x .csn) (sym (v .view))
@@ -96,7 +104,7 @@ module _ (from : Start) where
   follows (abort id) w s k r o (awake {d} {l} v) = abort-follows w d l o v id
   follows (settle id) w s k r o (awake {d} {l} v) = settle-follows w d l o v id
   follows (flush n a) w s k r o (awake {d} {l} v) = flush-follows w d l o v (last-number w d l k r v) n a
-  follows (checkpoint a) w s k r o (awake {d} {l} v) = checkpoint-follows w d l o v a
+  follows (checkpoint a) w s k r o (awake {d} {l} v) = checkpoint-follows w d l o v (form s k r) a
 
   -- ---- lists of them
 
@@ -150,18 +158,29 @@ module _ (from : Start) where
   abbrev pub Restored : List Commit → DiskOutcome → Type 0
   Restored durable x =
       (x .result .says ≡ done) × (x .memory ≡ layCommits durable (from .memory))
-      × (commits (readLog (from .csn) (logFrom 0 (x .disk))) ≡ durable)
+      × (commits (groupsFrom (from .csn) (x .disk)) ≡ durable)
 
   -- `Survives` (specs/Demand.antt), of a store that opened from any memory and number
   pub record SurvivesFrom (k : Watched) : Type 0 where
     pub restarts : (memory tail : List ℕ) (allowed : ℕ) → length memory ≡ 4096 → length tail ≡ 16384 → Enough allowed (k .world .disk)
         → Restored (k .ledger .durable) (restartOf (k .world .disk) memory tail allowed)
-    pub logged : commits (readLog (from .csn) (logFrom 0 (k .world .disk))) ≡ k .ledger .durable
-    pub ends : examineOf (k .world .disk) .result .end ≡ groupsSize (readLog (from .csn) (logFrom 0 (k .world .disk)))
+    pub logged : commits (groupsFrom (from .csn) (k .world .disk)) ≡ k .ledger .durable
+    pub ends : examineOf (k .world .disk) .result .end ≡ groupsSize (groupsFrom (from .csn) (k .world .disk))
     pub numbered : Numbered (from .csn) (k .ledger .durable)
     pub first : (rest : List Commit) × (k .ledger .assigned ≡ k .ledger .durable ++ rest)
     pub settled : All (λ c. List·Memᴰ c (k .ledger .durable)) (k .ledger .settled)
     pub settles : (id : ℕ) → stepOf (settle id) (k .world) .reply ≡ told done 0 0 → LatestDurable id (k .ledger)
+
+  -- what stands in the machine's log is what the disk's log has, read from its first byte on from the opening's number
+  pub log-shown : (k : Watched) (r : Reached k) → groupsFrom (from .csn) (k .world .disk) ≡ standingIn (diskOf (r .system))
+  log-shown k r =
+      ap (λ (n : ℕ). groupsFrom n (k .world .disk)) (sym (opening-number (r .system) (k .ledger) (r .run))) ∙ r .shows .0 .log
+
+  -- read with its first number as found it is the same
+  pub found-shown : (k : Watched) (r : Reached k) → readFound (wholeLog (k .world .disk)) ≡ groupsFrom (from .csn) (k .world .disk)
+  found-shown k r =
+      found-same (from .csn) (standingIn (diskOf (r .system))) (wholeLog (k .world .disk)) (log-shown k r) (r .shows .0 .ended)
+      ∙ sym (log-shown k r)
 
   pub claimed : (k : Watched) → Reached k → SurvivesFrom k
   claimed k r =
@@ -171,12 +190,17 @@ module _ (from : Start) where
       let c = theorem (opens from) (r .run) in
       let n = image-number (r .system) (k .ledger) (r .run) in
       let fits = room (r .system) (k .ledger) (r .run) in
+      let logged : commits (standingIn d) ≡ k .ledger .durable = c .logged (form (r .system) (k .ledger) (r .run)) in
+      let from-opening = opening-number (r .system) (k .ledger) (r .run) in
       record {
         restarts = λ m t a lm lt h.
-            subst (Restored (k .ledger .durable)) (sym (restart-made disk d o n fits m t lm lt a h))
-            (refl, memory-shown disk d o n fits ∙ c .restores, ap commits (log-left disk d o n fits a) ∙ c .logged);
-        logged = ap commits (o .log) ∙ c .logged;
-        ends = end-shown disk d o n fits ∙ ap groupsSize (sym (o .log));
+            subst (Restored (k .ledger .durable)) (sym (restart-made disk d o n fits m t lm lt a h)) (
+              refl,
+              memory-shown disk d o n fits ∙ c .restores,
+              ap (λ (j : ℕ). commits (groupsFrom j (left disk d o n fits a))) (sym from-opening) ∙ ap commits (log-left disk d o n fits a) ∙ logged,
+            );
+        logged = ap commits (log-shown k r) ∙ logged;
+        ends = end-shown disk d o n fits ∙ ap groupsSize (sym (log-shown k r));
         numbered = c .numbered;
         first = c .first;
         settled = c .settled;

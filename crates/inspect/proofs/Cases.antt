@@ -2,8 +2,8 @@
 use mathlib.Core.Path.{refl}
 use Rattle.log.specs.Record.{readRecord, readRedo, readCommit, readAbort}
 use Rattle.log.specs.Reader.{run, whole}
-use Rattle.log.specs.Group.{readBody, readGroup}
-use Rattle.log.specs.Log.{readLog}
+use Rattle.log.specs.Group.{readBody, groupWith}
+use Rattle.log.specs.Log.{readLogWith, readLog}
 use Rattle.transaction.specs.Flat.{emptyRecords, emptyTx}
 use Rattle.transaction.specs.Rules.{headOk}
 use Rattle.transaction.specs.Steps.{pushed}
@@ -20,12 +20,12 @@ use Rattle.inspect.specs.Page.{pageOf}
 use Rattle.inspect.specs.Cases.{Worked, PagesWorked}
 
 pub worked : Worked
-unfolding readRecord readRedo readCommit readAbort run whole readBody readGroup readLog emptyRecords emptyTx headOk pushed loaded packedTxs packed
+unfolding readRecord readRedo readCommit readAbort run whole readBody groupWith readLogWith readLog emptyRecords emptyTx headOk pushed loaded packedTxs packed
     emptyImage undoHere readTx readContent memoryOf past firstOf loadOf notOpened openOf firstGroupsOf
 worked = refl
 
 pub pages-worked : PagesWorked
-unfolding readRecord readRedo readCommit readAbort run whole readBody readGroup readLog emptyRecords emptyTx headOk pushed loaded packedTxs packed
+unfolding readRecord readRedo readCommit readAbort run whole readBody groupWith readLogWith readLog emptyRecords emptyTx headOk pushed loaded packedTxs packed
     emptyImage undoHere readTx readContent memoryOf notDecoded past forwardOf isRunning isLost runningOf lostOf recoverOf loadOf notOpened openOf refusedBy stepsOf
     examineOf pageOf
 pages-worked = refl

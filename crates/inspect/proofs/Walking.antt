@@ -10,13 +10,13 @@ use lib.ListN.{length, getD, set, drop, replicate, drop-of-length-le, length-set
 use lib.Seq.{drop-cons, drop-drop, getD-set-same, getD-set-other, ext-getD}
 use lib.Dec.{eqb, ltb}
 use borrow.Author.Tests.{eq-eqb, ne-eqb, eqb-true, eqb-false, lt-ltb, le-ltb, ltb-true, ltb-false}
-use Rattle.recovery.specs.Group.{Group, groupSize, csnAfter}
+use Rattle.recovery.specs.Group.{Group, groupSize}
 use Rattle.recovery.specs.Lists.{orElse}
 use Rattle.recovery.specs.Restart.{groupId}
-use Rattle.log.specs.Log.{readLog}
+use Rattle.log.specs.Log.{nextAfter, readLogWith}
 use Rattle.log.proofs.Basics.{and-left, and-right}
-use Rattle.log.proofs.GroupLaws.{group-within}
-use Rattle.log.proofs.LogLaws.{log-none, log-more}
+use Rattle.log.proofs.GroupLaws.{group-with-within}
+use Rattle.log.proofs.LogLaws.{log-with-none, log-with-more}
 use Rattle.inspect.specs.declared.outcomes.Walk.{Walk}
 use Rattle.inspect.specs.Outcomes.{lastGroup, outcomeOf, outcomeBy, lastOutcome, risingAfter, rising, WalkTold, OutcomesLeft, refusedOutcomes, groupsOn, walkedLog, outcomesOf}
 use Rattle.inspect.specs.Walk.{beside, notedAt, notedIn, groupAt, pastGroup, walkStep, noteGroup, groupNoted, walkedOver}
@@ -192,7 +192,7 @@ pub record Walks : Type 0 where
   pub out : List ℕ
 
 abbrev groupsFrom : List ℕ → Walk → List Group
-groupsFrom log w = readLog (w .csn .0) (drop (w .at) log)
+groupsFrom log w = readLogWith (w .next) (drop (w .at) log)
 
 abbrev pub walksFrom : List ℕ → List ℕ → Walk → List ℕ → Walks
 walksFrom ids log w out = record { groups = w .groups + length (groupsFrom log w); out = walkedOver ids (groupsFrom log w) out }
@@ -221,10 +221,10 @@ module _ (ids log : List ℕ) (w : Walk) (out : List ℕ) where
       go : (x : Option Group) → groupAt log w ≡ x → walksFrom ids log w out ≡ walksFrom ids log (walkStep log w) (groupNoted log w ids out)
       go none e = here none e
       go (some g) e =
-          ap (λ (gs : List Group). record { groups = w .groups + length gs; out = walkedOver ids gs out }) (log-more _ _ g e)
+          ap (λ (gs : List Group). record { groups = w .groups + length gs; out = walkedOver ids gs out }) (log-with-more _ _ g e)
           ∙ ap (λ (s : List ℕ). record {
-            groups = w .groups + suc (length (readLog (csnAfter (w .csn .0) g) s));
-            out = walkedOver ids (readLog (csnAfter (w .csn .0) g) s) (notedIn ids (groupId g) (outcomeOf g) out);
+            groups = w .groups + suc (length (readLogWith (nextAfter (w .next) g) s));
+            out = walkedOver ids (readLogWith (nextAfter (w .next) g) s) (notedIn ids (groupId g) (outcomeOf g) out);
           }) (drop-drop (groupSize g) (w .at) log)
           ∙ ap (λ (n : ℕ). record {
             groups = n;
@@ -242,10 +242,10 @@ module _ (ids log : List ℕ) (w : Walk) (out : List ℕ) where
     where
       go : (x : Option Group) → groupAt log w ≡ x → walksFrom ids log w out ≡ record { groups = walkStep log w .groups; out = groupNoted log w ids out }
       go none e =
-          ap (λ (gs : List Group). record { groups = w .groups + length gs; out = walkedOver ids gs out }) (log-none _ _ e)
+          ap (λ (gs : List Group). record { groups = w .groups + length gs; out = walkedOver ids gs out }) (log-with-none _ _ e)
           ∙ ap (λ (n : ℕ). record { groups = n; out = out }) (omega arith)
           ∙ ap₂ (λ (v : Walk) (o : List ℕ). record { groups = v .groups; out = o }) (sym (past-by none e)) (sym (noted-by none e))
-      go (some g) e = absurd (omega (arith, grown g e, group-within _ _ g e))
+      go (some g) e = absurd (omega (arith, grown g e, group-with-within _ _ g e))
 
   pub walk-within : w .at ≤ length log → w .groups ≤ w .at
       → (walkStep log w .at ≤ length log) × (w .at ≤ walkStep log w .at) × (walkStep log w .groups ≤ walkStep log w .at)
@@ -259,7 +259,7 @@ module _ (ids log : List ℕ) (w : Walk) (out : List ℕ) where
           let n : walkStep log w .groups ≡ w .groups = ap (λ (v : Walk). v .groups) p in
           (omega arith, omega arith, omega arith)
       go (some g) e =
-          let i = group-within _ _ g e in
+          let i = group-with-within _ _ g e in
           let d = length-drop (w .at) log in
           let a = grown g e in
           let n : walkStep log w .groups ≡ w .groups + 1 = ap (λ (v : Walk). v .groups) (past-by (some g) e) in

@@ -6,9 +6,10 @@ use mathlib.Core.Option.{Option, none, some}
 use mathlib.Core.Path.{_≡_}
 use lib.ListN.{length, getD, drop}
 use lib.Dec.{eqb}
-use Rattle.recovery.specs.Group.{Group, groupSize, csnAfter}
+use Rattle.recovery.specs.Group.{Group, groupSize}
 use Rattle.recovery.specs.Restart.{groupId}
-use Rattle.log.specs.Group.{readGroup}
+use Rattle.log.specs.Group.{groupWith}
+use Rattle.log.specs.Log.{nextAfter}
 use Rattle.inspect.specs.declared.outcomes.Walk.{Walk}
 use Rattle.inspect.specs.declared.outcomes.Place.{Place}
 use Rattle.inspect.specs.declared.outcomes.Place.the-variants.{At, Nowhere}
@@ -35,11 +36,11 @@ notedIn ids id outcome out = beside (notedAt id outcome) ids out
 -- ---- one group
 
 abbrev pub groupAt : List ℕ → Walk → Option Group
-groupAt log w = readGroup (w .csn .0) (drop (w .at) log)
+groupAt log w = groupWith (w .next) (drop (w .at) log)
 
 abbrev pub pastGroup : Option Group → Walk → Walk
 pastGroup none w = w
-pastGroup (some g) w = record { at = w .at + groupSize g; csn = record { 0 = csnAfter (w .csn .0) g }; groups = w .groups + 1 }
+pastGroup (some g) w = record { at = w .at + groupSize g; next = nextAfter (w .next) g; groups = w .groups + 1 }
 
 unfoldable pub walkStep : List ℕ → Walk → Walk
 walkStep log w = pastGroup (groupAt log w) w

@@ -2,17 +2,16 @@
 use layout::DISK_LEN;
 use layout::LOG_LEN;
 use layout::LOG_START;
-use log::Csn;
 use log::TxId;
 use log::group::GroupEnd;
-use log::group::read_group;
+use log::group::read_next;
 use log::stores::fill_zero;
 use store::Answer;
 ghost use mathlib.Core.Bool.{true};
 ghost use mathlib.Core.Path.{_≡_};
 ghost use Prim.Native.Nat.{_≤_};
 ghost use lib.ListN.{length};
-ghost use Rattle.log.specs.Log.{readLog};
+ghost use Rattle.log.specs.Log.{readLogWith};
 ghost use Rattle.inspect.specs.Outcomes.{rising, ofWalked, refusedWalk, outcomesOf};
 ghost use Rattle.inspect.specs.Walk.{FoundAs, notedIn, groupNoted, walkStep, walkedOver};
 
@@ -27,10 +26,10 @@ pub struct Walked {
     pub groups: usize,
 }
 
-// Where the walk is in the log, the last commit number, and the groups walked so far.
+// Where the walk is in the log, the commit number expected there, and the groups walked so far.
 struct Walk {
     at: usize,
-    csn: Csn,
+    next: u64,
     groups: usize,
 }
 
@@ -110,22 +109,22 @@ fn step(log: &[u8], w: Walk, ids: &[u16], out: &mut [u8]) -> Walk
     ensures { λ _. ⌜ now (out .exit) ≡ groupNoted (now (log .entry)) w (now (ids .entry)) (now (out .entry)) ⌝ }
 {
     let at = w.at;
-    let csn = w.csn;
-    let group = read_group(&log[at..], csn);
+    let next = w.next;
+    let group = read_next(&log[at..], next);
     match group {
         GroupEnd::Aborted { id, end } => {
             note(ids, out, id, ABORTED);
             return Walk {
                 at: at + end,
-                csn: csn,
+                next: next,
                 groups: w.groups + 1,
             };
         }
-        GroupEnd::Committed { id, csn: c, end } => {
+        GroupEnd::Committed { id, csn, end } => {
             note(ids, out, id, COMMITTED);
             return Walk {
                 at: at + end,
-                csn: c,
+                next: csn.0 as u64 + 1,
                 groups: w.groups + 1,
             };
         }
@@ -135,15 +134,15 @@ fn step(log: &[u8], w: Walk, ids: &[u16], out: &mut [u8]) -> Walk
     }
 }
 
-// The groups of the log, which is walked once.
-fn walk_log(log: &[u8], ids: &[u16], out: &mut [u8]) -> usize
+// The groups of the log, which is walked once. next is its first commit number.
+fn walk_log(log: &[u8], next: u64, ids: &[u16], out: &mut [u8]) -> usize
     requires { ⌜ (rising (now ids) ≡ true) × (length (now out) ≡ length (now ids)) ⌝ }
-    ensures { λ r. ⌜ r ≡ length (readLog 0 (now (log .entry))) ⌝ }
-    ensures { λ _. ⌜ now (out .exit) ≡ walkedOver (now (ids .entry)) (readLog 0 (now (log .entry))) (now (out .entry)) ⌝ }
+    ensures { λ r. ⌜ r ≡ length (readLogWith next (now (log .entry))) ⌝ }
+    ensures { λ _. ⌜ now (out .exit) ≡ walkedOver (now (ids .entry)) (readLogWith next (now (log .entry))) (now (out .entry)) ⌝ }
 {
     let mut w = Walk {
         at: 0,
-        csn: Csn(0),
+        next: next,
         groups: 0,
     };
     loop {
@@ -170,7 +169,7 @@ pub fn outcomes(disk: &[u8], ids: &[u16], out: &mut [u8]) -> Walked
         return refused(20);
     }
     fill_zero(out);
-    let groups = walk_log(&disk[LOG_START..LOG_START + LOG_LEN], ids, out);
+    let groups = walk_log(&disk[LOG_START..LOG_START + LOG_LEN], 1, ids, out);
     Walked {
         answer: Answer::Done,
         groups: groups,

@@ -1,4 +1,4 @@
--- Sizes, offsets, counts and statuses of documents 01 and 02, each said once; the parts of a disk in Parts.
+-- Sizes, offsets, counts and statuses of documents 01 and 02, each said once; a disk's forms and parts in Parts.
 use Prim.Native.Nat.{ℕ}
 pub mod Parts
 
@@ -34,6 +34,23 @@ logStart = 17307
 
 abbrev pub logLen : ℕ
 logLen = 16384
+
+-- document 02, A.9: "Form two has 50,077 bytes: pointer byte, two images of 8,654 bytes each, two log areas of 16,384", in this order
+abbrev pub diskLen2 : ℕ
+diskLen2 = 50077
+
+abbrev pub imageB2 : ℕ
+imageB2 = 8655
+
+abbrev pub areaOne : ℕ
+areaOne = 17309
+
+abbrev pub areaTwo : ℕ
+areaTwo = 33693
+
+-- "its area, 1 or 2"
+abbrev pub maxArea : ℕ
+maxArea = 2
 
 -- the pointer byte: "0 no image, 1 image A, 2 image B"
 abbrev pub namesA : ℕ

@@ -23,6 +23,23 @@ pub const LOG_START: usize = 17307;
 
 pub const LOG_LEN: usize = 16384;
 
+// Form two (document 02, A.9), beside form one: its length, image B, its two log areas, and the highest number of an area; form one's log is area 0.
+pub const DISK_LEN_2: usize = 50077;
+
+pub const IMAGE_B_2: usize = 8655;
+
+pub const AREA_1: usize = 17309;
+
+pub const AREA_2: usize = 33693;
+
+pub const LAST_AREA: u8 = 2;
+
+// Which form a disk has.
+pub enum Form {
+    One,
+    Two,
+}
+
 pub const NAMES_A: u8 = 1;
 
 pub const NAMES_B: u8 = 2;

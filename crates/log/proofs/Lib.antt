@@ -1,6 +1,7 @@
--- The laws of the log's format, by what they say: reading (Reader, RecordLaws, GroupLaws, LogLaws), why it stops (StopLaws, LogStops), what the code's answers say (Inversions),
--- round trip and prefix (RoundTrip), soundness (Soundness), cut and zeroed lists (Torn), parts of a log (Parts), stores (StoreLaws,
--- FlatLaws), stores into a part of a disk and beside it (PartLaws); worked cases (Cases).
+-- The laws of the log's format, by what they say: reading (Reader, RecordLaws, GroupLaws, LogLaws), a first commit number as found (FoundLaws), why it
+-- stops (StopLaws, LogStops), what the code's answers say (Inversions), round trip and prefix (RoundTrip), soundness (Soundness), cut and zeroed
+-- lists (Torn) and where they end (Ended), parts of a log (Parts), stores (StoreLaws, FlatLaws), stores into a part of a disk and beside it (PartLaws);
+-- worked cases (Cases).
 pub mod Basics
 pub mod Reader
 pub mod RecordLaws
@@ -11,6 +12,8 @@ pub mod Inversions
 pub mod RoundTrip
 pub mod Soundness
 pub mod Torn
+pub mod Ended
+pub mod FoundLaws
 pub mod LogStops
 pub mod Parts
 pub mod StoreLaws

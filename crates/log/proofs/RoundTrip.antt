@@ -14,11 +14,11 @@ use borrow.Author.Tests.{eqb-true, not-true}
 use Rattle.recovery.specs.Group.{Write, Group, committed, aborted, redoSize, groupSize, groupsSize, csnAfter, lastCsn}
 use Rattle.log.specs.Number.{be16}
 use Rattle.log.specs.Record.{Record, redo, commit, abort, size, encode, wellFormed, inRange, readRedo, readCommit, readAbort, readKind, readRecord}
-use Rattle.log.specs.Group.{encodeBody, encodeGroup, wellFormedBody, wellFormedGroup, readBody, readGroup}
+use Rattle.log.specs.Group.{encodeBody, encodeGroup, wellFormedBody, wellFormedGroup, readBody, groupWith, readGroup}
 use Rattle.log.specs.Log.{readLog, encodeLog, wellFormedLog}
 use Rattle.log.proofs.Basics.{and-left, and-right}
 use Rattle.log.proofs.RecordLaws.{record-cases, record-named, record-by, redo-ends, commit-ends, abort-ends}
-use Rattle.log.proofs.GroupLaws.{body-inv, body-intro, group-inv, group-intro}
+use Rattle.log.proofs.GroupLaws.{body-inv, body-intro, group-with-inv, group-with-intro, group-next, group-intro}
 use Rattle.log.proofs.LogLaws.{log-more, log-inv}
 
 pub joined2 : (n : ℕ) → n / 256 * 256 + n % 256 ≡ n
@@ -68,18 +68,18 @@ record-written (redo id w) rest h =
     six : 6 + length (w .bytes) ≡ suc (suc (suc (suc (suc (suc (length (w .bytes)))))))
     six = omega arith
 
-pub body-written : (prev id : ℕ) (ws : List Write) (rest : List ℕ) → wellFormedBody id (prev + 1) ws ≡ true
-    → readBody prev id (encodeBody id (prev + 1) ws ++ rest) ≡ some ws
-body-written prev id [] rest h = body-intro prev id _ [] (record-written (commit id (prev + 1)) rest h)
-body-written prev id (w ∷ ws) rest h =
+pub body-written : (next id : ℕ) (ws : List Write) (rest : List ℕ) → wellFormedBody id next ws ≡ true
+    → readBody next id (encodeBody id next ws ++ rest) ≡ some ws
+body-written next id [] rest h = body-intro next id _ [] (record-written (commit id next) rest h)
+body-written next id (w ∷ ws) rest h =
     let r = redo id w in
-    let next = encodeBody id (prev + 1) ws in
-    let s = (encode r ++ next) ++ rest in
-    let e : s ≡ encode r ++ (next ++ rest) = append-assoc (encode r) next rest in
-    body-intro prev id s (w ∷ ws) (
-      ap readRecord e ∙ record-written r (next ++ rest) (and-left (wellFormed r) (wellFormedBody id (prev + 1) ws) h),
-      ap (readBody prev id) (ap (drop (7 + length (w .bytes))) e ∙ drop-at (encode r) (next ++ rest) (7 + length (w .bytes)) (length-encode r))
-          ∙ body-written prev id ws rest (and-right (wellFormed r) (wellFormedBody id (prev + 1) ws) h),
+    let behind = encodeBody id next ws in
+    let s = (encode r ++ behind) ++ rest in
+    let e : s ≡ encode r ++ (behind ++ rest) = append-assoc (encode r) behind rest in
+    body-intro next id s (w ∷ ws) (
+      ap readRecord e ∙ record-written r (behind ++ rest) (and-left (wellFormed r) (wellFormedBody id next ws) h),
+      ap (readBody next id) (ap (drop (7 + length (w .bytes))) e ∙ drop-at (encode r) (behind ++ rest) (7 + length (w .bytes)) (length-encode r))
+          ∙ body-written next id ws rest (and-right (wellFormed r) (wellFormedBody id next ws) h),
     )
 
 pub group-written : (prev : ℕ) (g : Group) (rest : List ℕ) → wellFormedGroup prev g ≡ true → readGroup prev (encodeGroup g ++ rest) ≡ some g
@@ -87,7 +87,7 @@ group-written prev (aborted id) rest h = group-intro prev _ (aborted id) (record
 group-written prev (committed id n ws) rest h =
     let e : n ≡ prev + 1 = eqb-true n (prev + 1) (and-left (eqb n (prev + 1)) (wellFormedBody id n ws) h) in
     let b : wellFormedBody id (prev + 1) ws ≡ true = rw e at (and-right (eqb n (prev + 1)) (wellFormedBody id n ws) h) in
-    group-intro prev _ (committed id n ws) (e, rw e (body-written prev id ws rest b))
+    group-intro prev _ (committed id n ws) (e, rw e (body-written (prev + 1) id ws rest b))
 
 -- a log goes on after a group that was written
 pub log-after : (prev : ℕ) (g : Group) (rest : List ℕ) → wellFormedGroup prev g ≡ true
@@ -157,23 +157,26 @@ record-same s t r e = record-cases (λ r. Same (size r) s t → readRecord t ≡
         let z : size r ≡ 4 = abort-ends _ s r e .sized in
         begins (size r) 3 (omega arith) k a ∙ simp (same-at (size r) s t a 3 (omega arith)) e
 
-pub body-same : (prev id : ℕ) (ws : List Write) (s t : List ℕ) → readBody prev id s ≡ some ws → Same (redoSize ws + 8) s t → readBody prev id t ≡ some ws
-body-same prev id [] s t e a = body-intro prev id t [] (record-same s t (commit id (prev + 1)) (body-inv prev id s [] e) a)
-body-same prev id (w ∷ ws) s t e a =
-    let i = body-inv prev id s (w ∷ ws) e in
+pub body-same : (next id : ℕ) (ws : List Write) (s t : List ℕ) → readBody next id s ≡ some ws → Same (redoSize ws + 8) s t → readBody next id t ≡ some ws
+body-same next id [] s t e a = body-intro next id t [] (record-same s t (commit id next) (body-inv next id s [] e) a)
+body-same next id (w ∷ ws) s t e a =
+    let i = body-inv next id s (w ∷ ws) e in
     let m = 7 + length (w .bytes) in
     let z : 7 + length (w .bytes) + redoSize ws + 8 ≡ m + (redoSize ws + 8) = omega arith in
     let b : Same (m + (redoSize ws + 8)) s t = subst (λ (n : ℕ). Same n s t) z a in
-    body-intro prev id t (w ∷ ws) (
+    body-intro next id t (w ∷ ws) (
       record-same s t (redo id w) (i .0) (same-less m (m + (redoSize ws + 8)) s t (omega arith) b),
-      body-same prev id ws (drop m s) (drop m t) (i .1) (same-rest m (redoSize ws + 8) s t b),
+      body-same next id ws (drop m s) (drop m t) (i .1) (same-rest m (redoSize ws + 8) s t b),
     )
 
+pub group-with-same : (next : ℕ) (s t : List ℕ) (g : Group) → groupWith next s ≡ some g → Same (groupSize g) s t → groupWith next t ≡ some g
+group-with-same next s t (aborted id) e a = group-with-intro next t (aborted id) (record-same s t (abort id) (group-with-inv next s (aborted id) e) a)
+group-with-same next s t (committed id n ws) e a =
+    let i = group-with-inv next s (committed id n ws) e in
+    group-with-intro next t (committed id n ws) (i .0, body-same next id ws s t (i .1) a)
+
 pub group-same : (prev : ℕ) (s t : List ℕ) (g : Group) → readGroup prev s ≡ some g → Same (groupSize g) s t → readGroup prev t ≡ some g
-group-same prev s t (aborted id) e a = group-intro prev t (aborted id) (record-same s t (abort id) (group-inv prev s (aborted id) e) a)
-group-same prev s t (committed id n ws) e a =
-    let i = group-inv prev s (committed id n ws) e in
-    group-intro prev t (committed id n ws) (i .0, body-same prev id ws s t (i .1) a)
+group-same prev s t g e a = group-next prev t ∙ group-with-same (prev + 1) s t g (sym (group-next prev s) ∙ e) a
 
 -- of a log: the groups of s stand in t too, and what follows them is read from t
 pub log-same : (prev : ℕ) (gs : List Group) (s t : List ℕ) → readLog prev s ≡ gs → Same (groupsSize gs) s t

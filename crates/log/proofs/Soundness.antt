@@ -156,34 +156,34 @@ joined : (s x y : List ℕ) (m n k : ℕ) → s ≡ x ++ drop m s → drop m s �
 joined s x y m n k p q e =
     p ∙ ap (λ (l : List ℕ). x ++ l) (q ∙ ap (λ (l : List ℕ). y ++ l) (drop-drop n m s ∙ ap (λ (j : ℕ). drop j s) e)) ∙ sym (append-assoc x y (drop k s))
 
-body-sound : (prev id : ℕ) (ws : List Write) (s : List ℕ) → Bytes s → readBody prev id s ≡ some ws
-    → s ≡ encodeBody id (prev + 1) ws ++ drop (redoSize ws + 8) s
-body-sound prev id [] s b e = record-sound s b (commit id (prev + 1)) (body-inv prev id s [] e)
-body-sound prev id (w ∷ ws) s b e =
-    let i = body-inv prev id s (w ∷ ws) e in
+body-sound : (next id : ℕ) (ws : List Write) (s : List ℕ) → Bytes s → readBody next id s ≡ some ws
+    → s ≡ encodeBody id next ws ++ drop (redoSize ws + 8) s
+body-sound next id [] s b e = record-sound s b (commit id next) (body-inv next id s [] e)
+body-sound next id (w ∷ ws) s b e =
+    let i = body-inv next id s (w ∷ ws) e in
     let m = 7 + length (w .bytes) in
-    joined s (encode (redo id w)) (encodeBody id (prev + 1) ws) m (redoSize ws + 8) (redoSize (w ∷ ws) + 8) (record-sound s b (redo id w) (i .0))
-    (body-sound prev id ws (drop m s) (bytes-drop m s b) (i .1)) (omega arith)
+    joined s (encode (redo id w)) (encodeBody id next ws) m (redoSize ws + 8) (redoSize (w ∷ ws) + 8) (record-sound s b (redo id w) (i .0))
+    (body-sound next id ws (drop m s) (bytes-drop m s b) (i .1)) (omega arith)
 
 pub group-sound : (prev : ℕ) (s : List ℕ) → Bytes s → (g : Group) → readGroup prev s ≡ some g → s ≡ encodeGroup g ++ drop (groupSize g) s
 group-sound prev s b (aborted id) e = record-sound s b (abort id) (group-inv prev s (aborted id) e)
 group-sound prev s b (committed id n ws) e =
     let i = group-inv prev s (committed id n ws) e in
-    rw (i .0) (body-sound prev id ws s b (i .1))
+    rw (i .0) (body-sound (prev + 1) id ws s b (i .1))
 
-body-formed : (prev id : ℕ) (ws : List Write) (s : List ℕ) → readBody prev id s ≡ some ws → wellFormedBody id (prev + 1) ws ≡ true
-body-formed prev id [] s e = record-formed s (commit id (prev + 1)) (body-inv prev id s [] e)
-body-formed prev id (w ∷ ws) s e =
-    let i = body-inv prev id s (w ∷ ws) e in
+body-formed : (next id : ℕ) (ws : List Write) (s : List ℕ) → readBody next id s ≡ some ws → wellFormedBody id next ws ≡ true
+body-formed next id [] s e = record-formed s (commit id next) (body-inv next id s [] e)
+body-formed next id (w ∷ ws) s e =
+    let i = body-inv next id s (w ∷ ws) e in
     let m = 7 + length (w .bytes) in
-    and-both (wellFormed (redo id w)) (wellFormedBody id (prev + 1) ws) (record-formed s (redo id w) (i .0))
-    (body-formed prev id ws (drop m s) (i .1))
+    and-both (wellFormed (redo id w)) (wellFormedBody id next ws) (record-formed s (redo id w) (i .0))
+    (body-formed next id ws (drop m s) (i .1))
 
 pub group-formed : (prev : ℕ) (s : List ℕ) (g : Group) → readGroup prev s ≡ some g → wellFormedGroup prev g ≡ true
 group-formed prev s (aborted id) e = record-formed s (abort id) (group-inv prev s (aborted id) e)
 group-formed prev s (committed id n ws) e =
     let i = group-inv prev s (committed id n ws) e in
-    rw (i .0) (and-both (eqb (prev + 1) (prev + 1)) (wellFormedBody id (prev + 1) ws) (eq-eqb (prev + 1) (prev + 1) refl) (body-formed prev id ws s (i .1)))
+    rw (i .0) (and-both (eqb (prev + 1) (prev + 1)) (wellFormedBody id (prev + 1) ws) (eq-eqb (prev + 1) (prev + 1) refl) (body-formed (prev + 1) id ws s (i .1)))
 
 -- ---- logs
 

@@ -10,15 +10,15 @@ use mathlib.Core.Path.{_≡_, refl, sym, ap, _∙_}
 use lib.ListN.{length, getD, take, drop, replicate, length-take}
 use lib.Seq.{getD-drop, take-append-le, drop-append-le, take-take}
 use borrow.Author.Tests.{le-leb, lt-leb}
-use Rattle.recovery.specs.Group.{Write, Group, committed, aborted, redoSize, groupSize, csnAfter, lastCsn, fitting}
+use Rattle.recovery.specs.Group.{Write, Group, committed, aborted, redoSize, groupSize, lastCsn, fitting}
 use Rattle.log.specs.Record.{Record, commit, abort, size, readRecord}
-use Rattle.log.specs.Group.{readBody, readGroup}
-use Rattle.log.specs.Log.{readLog, encodeLog, wellFormedLog}
+use Rattle.log.specs.Group.{readBody, groupWith}
+use Rattle.log.specs.Log.{nextAfter, readLogWith, readLog, encodeLog, wellFormedLog}
 use Rattle.log.proofs.Basics.{clash}
 use Rattle.log.proofs.RecordLaws.{record-none, record-ends}
-use Rattle.log.proofs.GroupLaws.{body-inv, group-inv, group-none, group-within}
-use Rattle.log.proofs.LogLaws.{log-none, log-more, log-inv, log-inv-none}
-use Rattle.log.proofs.RoundTrip.{drop-take, group-same, log-written}
+use Rattle.log.proofs.GroupLaws.{body-inv, group-with-inv, group-with-none, group-with-within, any-same}
+use Rattle.log.proofs.LogLaws.{log-with-none, log-with-more, log-with-inv, log-with-inv-none, log-next}
+use Rattle.log.proofs.RoundTrip.{drop-take, group-with-same, log-written}
 
 -- ---- a whole group ends in a byte that is not 0
 
@@ -32,17 +32,17 @@ pub record LastNonzero (m : ℕ) (s : List ℕ) : Type 0 where
 record-nonzero : (s : List ℕ) (r : Record) → readRecord s ≡ some r → LastNonzero (size r) s
 record-nonzero s r e = let w = record-ends s r e in record { last = w .0; value = w .1 .kind; sized = w .1 .sized; closes = w .1 .closes }
 
-body-nonzero : (prev id : ℕ) (ws : List Write) (s : List ℕ) → readBody prev id s ≡ some ws → LastNonzero (redoSize ws + 8) s
-body-nonzero prev id [] s e = record-nonzero s (commit id (prev + 1)) (body-inv prev id s [] e)
-body-nonzero prev id (w ∷ ws) s e =
+body-nonzero : (next id : ℕ) (ws : List Write) (s : List ℕ) → readBody next id s ≡ some ws → LastNonzero (redoSize ws + 8) s
+body-nonzero next id [] s e = record-nonzero s (commit id next) (body-inv next id s [] e)
+body-nonzero next id (w ∷ ws) s e =
     let m = 7 + length (w .bytes) in
-    let z = body-nonzero prev id ws (drop m s) (body-inv prev id s (w ∷ ws) e .1) in
+    let z = body-nonzero next id ws (drop m s) (body-inv next id s (w ∷ ws) e .1) in
     let h = z .sized in
     record { last = m + z .last; value = z .value; sized = omega arith; closes = sym (getD-drop m s (z .last) 0) ∙ z .closes }
 
-pub group-nonzero : (prev : ℕ) (s : List ℕ) (g : Group) → readGroup prev s ≡ some g → LastNonzero (groupSize g) s
-group-nonzero prev s (aborted id) e = record-nonzero s (abort id) (group-inv prev s (aborted id) e)
-group-nonzero prev s (committed id n ws) e = body-nonzero prev id ws s (group-inv prev s (committed id n ws) e .1)
+pub group-nonzero : (next : ℕ) (s : List ℕ) (g : Group) → groupWith next s ≡ some g → LastNonzero (groupSize g) s
+group-nonzero next s (aborted id) e = record-nonzero s (abort id) (group-with-inv next s (aborted id) e)
+group-nonzero next s (committed id n ws) e = body-nonzero next id ws s (group-with-inv next s (committed id n ws) e .1)
 
 -- ---- zeros
 
@@ -56,53 +56,52 @@ before-zeros [] m n k e = absurd (omega (arith, e, zeros-at m n))
 before-zeros (x ∷ p) m zero k e = omega arith
 before-zeros (x ∷ p) m (suc n) k e = omega (arith, before-zeros p m n k e)
 
-pub zeros-none : (prev m : ℕ) → readGroup prev (replicate m 0) ≡ none
-zeros-none prev m = group-none prev (replicate m 0) (record-none (replicate m 0) (omega (arith, zeros-at m 1, zeros-at m 2)))
+pub zeros-none : (next m : ℕ) → groupWith next (replicate m 0) ≡ none
+zeros-none next m = group-with-none next (replicate m 0) (record-none (replicate m 0) (omega (arith, zeros-at m 1, zeros-at m 2)))
 
 pub log-zeros : (prev m : ℕ) → readLog prev (replicate m 0) ≡ []
-log-zeros prev m = log-none prev (replicate m 0) (zeros-none prev m)
+log-zeros prev m = log-next prev (replicate m 0) ∙ log-with-none (prev + 1) (replicate m 0) (zeros-none (prev + 1) m)
 
 -- ---- the first j bytes of s, and zeros
 
-module _ (prev : ℕ) (s : List ℕ) (j m : ℕ) where
+module _ (next : ℕ) (s : List ℕ) (j m : ℕ) where
   -- a group that is read lies within the first j bytes, and stood in s
-  pub group-torn : (g : Group) → readGroup prev (take j s ++ replicate m 0) ≡ some g → (groupSize g ≤ j) × (readGroup prev s ≡ some g)
+  pub group-torn : (g : Group) → groupWith next (take j s ++ replicate m 0) ≡ some g → (groupSize g ≤ j) × (groupWith next s ≡ some g)
   group-torn g e =
       let u = take j s ++ replicate m 0 in
-      let z = group-nonzero prev u g e in
+      let z = group-nonzero next u g e in
       let h = z .sized in
       let l = before-zeros (take j s) m (z .last) (z .value) (z .closes) in
       let d = length-take j s in (
         omega arith,
-        group-same prev u s g e
+        group-with-same next u s g e
             (sym (take-take (groupSize g) j s (omega arith)) ∙ sym (take-append-le (groupSize g) (take j s) (replicate m 0) (omega arith))),
       )
 
   -- no group stands where none stood
-  pub group-torn-none : readGroup prev s ≡ none → readGroup prev (take j s ++ replicate m 0) ≡ none
-  group-torn-none e = go (readGroup prev (take j s ++ replicate m 0)) refl
+  pub group-torn-none : groupWith next s ≡ none → groupWith next (take j s ++ replicate m 0) ≡ none
+  group-torn-none e = go (groupWith next (take j s ++ replicate m 0)) refl
     where
-      go : (x : Option Group) → readGroup prev (take j s ++ replicate m 0) ≡ x → x ≡ none
+      go : (x : Option Group) → groupWith next (take j s ++ replicate m 0) ≡ x → x ≡ none
       go none p = refl
       go (some g) p = clash (cc (group-torn g p .1))
 
-  -- a group of s that does not fit is not read
-  group-torn-short : (g : Group) → readGroup prev s ≡ some g → j < groupSize g → readGroup prev (take j s ++ replicate m 0) ≡ none
-  group-torn-short g e h = go (readGroup prev (take j s ++ replicate m 0)) refl
+  -- where a group of any number stands in s and does not fit, none is read
+  pub torn-none : (k : ℕ) (g : Group) → groupWith k s ≡ some g → j < groupSize g → groupWith next (take j s ++ replicate m 0) ≡ none
+  torn-none k g e h = go (groupWith next (take j s ++ replicate m 0)) refl
     where
-      go : (x : Option Group) → readGroup prev (take j s ++ replicate m 0) ≡ x → x ≡ none
+      go : (x : Option Group) → groupWith next (take j s ++ replicate m 0) ≡ x → x ≡ none
       go none p = refl
-      go (some k) p =
-          let t = group-torn k p in
-          let same : k ≡ g = cc (t .1) in
-          absurd (omega (arith, t .0, ap groupSize same))
+      go (some f) p =
+          let t = group-torn f p in
+          absurd (omega (arith, t .0, h, ap groupSize (any-same next k s f g (t .1) e)))
 
   -- a group of s that fits is read, and what follows is torn at the same place
-  group-torn-whole : (g : Group) → readGroup prev s ≡ some g → groupSize g ≤ j → readGroup prev (take j s ++ replicate m 0) ≡ some g
+  group-torn-whole : (g : Group) → groupWith next s ≡ some g → groupSize g ≤ j → groupWith next (take j s ++ replicate m 0) ≡ some g
   group-torn-whole g e h =
-      let w = group-within prev s g e in
+      let w = group-with-within next s g e in
       let d = length-take j s in
-      group-same prev s (take j s ++ replicate m 0) g e
+      group-with-same next s (take j s ++ replicate m 0) g e
       (take-append-le (groupSize g) (take j s) (replicate m 0) (omega arith) ∙ take-take (groupSize g) j s h)
 
   pub torn-rest : (n : ℕ) → n ≤ j → n ≤ length s → drop n (take j s ++ replicate m 0) ≡ take (j - n) (drop n s) ++ replicate m 0
@@ -113,19 +112,22 @@ module _ (prev : ℕ) (s : List ℕ) (j m : ℕ) where
       ∙ ap (λ (t : List ℕ). t ++ replicate m 0) (ap (λ (k : ℕ). drop n (take k s)) e ∙ drop-take n (j - n) s)
 
 -- of a log the groups that fit into j bytes are read, and no other
-pub log-torn : (prev : ℕ) (gs : List Group) (s : List ℕ) (j m : ℕ) → readLog prev s ≡ gs → readLog prev (take j s ++ replicate m 0) ≡ fitting j gs
-log-torn prev [] s j m e = log-none prev _ (group-torn-none prev s j m (log-inv-none prev s e))
-log-torn prev (g ∷ gs) s j m e =
-    let i = log-inv prev s g gs e in
-    let w = group-within prev s g (i .0) in
+pub log-with-torn : (next : ℕ) (gs : List Group) (s : List ℕ) (j m : ℕ) → readLogWith next s ≡ gs → readLogWith next (take j s ++ replicate m 0) ≡ fitting j gs
+log-with-torn next [] s j m e = log-with-none next _ (group-torn-none next s j m (log-with-inv-none next s e))
+log-with-torn next (g ∷ gs) s j m e =
+    let i = log-with-inv next s g gs e in
+    let w = group-with-within next s g (i .0) in
     elim (decLe (groupSize g) j) [
       | yes p ↦
           rw (le-leb (groupSize g) j p)
-          (log-more prev _ g (group-torn-whole prev s j m g (i .0) p)
-          ∙ ap (λ (t : List ℕ). g ∷ readLog (csnAfter prev g) t) (torn-rest prev s j m (groupSize g) p (omega arith))
-          ∙ ap (λ (hs : List Group). g ∷ hs) (log-torn (csnAfter prev g) gs (drop (groupSize g) s) (j - groupSize g) m (i .1)))
-      | no q ↦ rw (lt-leb (groupSize g) j (omega (arith, q))) (log-none prev _ (group-torn-short prev s j m g (i .0) (omega (arith, q))))
+          (log-with-more next _ g (group-torn-whole next s j m g (i .0) p)
+          ∙ ap (λ (t : List ℕ). g ∷ readLogWith (nextAfter next g) t) (torn-rest next s j m (groupSize g) p (omega arith))
+          ∙ ap (λ (hs : List Group). g ∷ hs) (log-with-torn (nextAfter next g) gs (drop (groupSize g) s) (j - groupSize g) m (i .1)))
+      | no q ↦ rw (lt-leb (groupSize g) j (omega (arith, q))) (log-with-none next _ (torn-none next s j m next g (i .0) (omega (arith, q))))
     ]
+
+pub log-torn : (prev : ℕ) (gs : List Group) (s : List ℕ) (j m : ℕ) → readLog prev s ≡ gs → readLog prev (take j s ++ replicate m 0) ≡ fitting j gs
+log-torn prev gs s j m e = log-next prev _ ∙ log-with-torn (prev + 1) gs s j m (sym (log-next prev s) ∙ e)
 
 -- ---- of groups that were written
 

@@ -30,17 +30,17 @@ abbrev pub wellFormedGroup : ℕ → Group → Bool
 wellFormedGroup prev (committed id csn ws) = eqb csn (prev + 1) && wellFormedBody id csn ws
 wellFormedGroup prev (aborted id) = wellFormed (abort id)
 
--- what a record is to a group of this id after that number: one more write, the group's last record, or none of its own
+-- what a record is to a group of this id, where next is the commit number expected: one more write, the group's last record, or none of its own
 pub data Turn : Type 0 where
   more : Write → Turn
   last : Turn
   stop : Turn
 
 abbrev pub turnOf : ℕ → ℕ → Option Record → Turn
-turnOf prev id none = stop
-turnOf prev id (some (redo i w)) = cond (eqb i id) (more w) stop
-turnOf prev id (some (commit i csn)) = cond (eqb i id && eqb csn (prev + 1)) last stop
-turnOf prev id (some (abort i)) = stop
+turnOf next id none = stop
+turnOf next id (some (redo i w)) = cond (eqb i id) (more w) stop
+turnOf next id (some (commit i csn)) = cond (eqb i id && eqb csn next) last stop
+turnOf next id (some (abort i)) = stop
 
 abbrev pub andThen : {A : Type 0} → A → Option (List A) → Option (List A)
 andThen x none = none
@@ -52,25 +52,29 @@ onTurn rest id s last = some []
 onTurn rest id s stop = none
 
 abbrev pub bodyStep : ℕ → (ℕ → List ℕ → Option (List Write)) → ℕ → List ℕ → Option (List Write)
-bodyStep prev rest id s = onTurn rest id s (turnOf prev id (readRecord s))
+bodyStep next rest id s = onTurn rest id s (turnOf next id (readRecord s))
 
 -- the writes of the redo records of this id at the front of s, if their commit follows
 unfoldable pub readBody : ℕ → ℕ → List ℕ → Option (List Write)
-readBody prev id s = whole (bodyStep prev) none id s
+readBody next id s = whole (bodyStep next) none id s
 
 abbrev pub committedIf : ℕ → ℕ → Option (List Write) → Option Group
 committedIf id csn none = none
 committedIf id csn (some ws) = some (committed id csn ws)
 
 abbrev pub groupBy : ℕ → List ℕ → Option Record → Option Group
-groupBy prev s none = none
-groupBy prev s (some (redo id w)) = committedIf id (prev + 1) (readBody prev id s)
-groupBy prev s (some (commit id csn)) = committedIf id (prev + 1) (readBody prev id s)
-groupBy prev s (some (abort id)) = some (aborted id)
+groupBy next s none = none
+groupBy next s (some (redo id w)) = committedIf id next (readBody next id s)
+groupBy next s (some (commit id csn)) = committedIf id next (readBody next id s)
+groupBy next s (some (abort id)) = some (aborted id)
 
--- the whole group at the front of s, if there is one, after a commit number
+-- the whole group at the front of s, if there is one, whose commit number, if it has one, is next
+unfoldable pub groupWith : ℕ → List ℕ → Option Group
+groupWith next s = groupBy next s (readRecord s)
+
+-- after a commit number: "the previous one plus 1"
 unfoldable pub readGroup : ℕ → List ℕ → Option Group
-readGroup prev s = groupBy prev s (readRecord s)
+readGroup prev s = groupWith (prev + 1) s
 
 -- what the code answers of a group: its id, its commit number and where it ends; of none, why none stands there
 abbrev pub endOf : Stop → Option Group → GroupEnd

@@ -5,5 +5,6 @@ pub mod Stop
 pub mod Record
 pub mod Group
 pub mod Log
+pub mod Found
 pub mod Flat
 pub mod Stores

@@ -1,27 +1,36 @@
 -- The log: "ends after the last group before the first place where no whole group stands".
-use Prim.Native.Nat.{ℕ}
+use Prim.Native.Nat.{ℕ, _+_}
 use mathlib.Core.Bool.{Bool, true, _&&_}
 use mathlib.Core.List.{List, [], _∷_, _++_}
 use mathlib.Core.Option.{Option, none, some}
 use lib.ListN.{drop}
-use Rattle.recovery.specs.Group.{Group, groupSize, groupsSize, csnAfter, lastCsn}
-use Rattle.log.specs.Group.{encodeGroup, wellFormedGroup, readGroup}
+use Rattle.recovery.specs.Group.{Group, committed, aborted, groupSize, groupsSize, csnAfter, lastCsn}
+use Rattle.log.specs.Group.{encodeGroup, wellFormedGroup, groupWith}
 use Rattle.log.specs.Reader.{whole}
 use Rattle.log.specs.Stop.{stopOf}
 use Rattle.log.specs.declared.scan.LogEnd.{LogEnd}
 use Rattle.log.specs.declared.scan.Reached.{Reached}
 use Rattle.log.specs.declared.stop.Stop.{Stop}
 
+-- the number expected behind a group, where next was before it
+abbrev pub nextAfter : ℕ → Group → ℕ
+nextAfter next (committed id csn ws) = csn + 1
+nextAfter next (aborted id) = next
+
 abbrev pub onGroup : (ℕ → List ℕ → List Group) → ℕ → List ℕ → Option Group → List Group
-onGroup rest prev s none = []
-onGroup rest prev s (some g) = g ∷ rest (csnAfter prev g) (drop (groupSize g) s)
+onGroup rest next s none = []
+onGroup rest next s (some g) = g ∷ rest (nextAfter next g) (drop (groupSize g) s)
 
 abbrev pub logStep : (ℕ → List ℕ → List Group) → ℕ → List ℕ → List Group
-logStep rest prev s = onGroup rest prev s (readGroup prev s)
+logStep rest next s = onGroup rest next s (groupWith next s)
 
--- the groups of the log that starts at the front of s, after a commit number
+-- the groups of the log that starts at the front of s, of which the first commit number is next
+unfoldable pub readLogWith : ℕ → List ℕ → List Group
+readLogWith next s = whole logStep [] next s
+
+-- after a commit number
 unfoldable pub readLog : ℕ → List ℕ → List Group
-readLog prev s = whole logStep [] prev s
+readLog prev s = readLogWith (prev + 1) s
 
 -- why it ends where it does
 unfoldable pub logStop : ℕ → List ℕ → Stop

@@ -19,7 +19,7 @@ ghost use lib.ListN.{length, getD};
 ghost use lib.Seq.{sets};
 ghost use Rattle.layout.specs.{maxWrite};
 ghost use Rattle.recovery.specs.Group.{groupSize, committed};
-ghost use Rattle.log.specs.Group.{encodeGroup, readBody, committedIf, readGroup, endOf};
+ghost use Rattle.log.specs.Group.{encodeGroup, readBody, committedIf, groupWith, readGroup, endOf};
 ghost use Rattle.log.specs.Stop.{stopOf};
 ghost use Rattle.log.specs.Flat.{writesFrom};
 
@@ -31,8 +31,8 @@ pub enum GroupEnd {
 }
 
 // The redo records of this id at the front of s, and their commit.
-fn read_body(s: &[u8], id: TxId, prev: Csn) -> GroupEnd
-    ensures { λ r. ⌜ r ≡ endOf (stopOf (now (s .entry))) (committedIf (id .0) (prev .0 + 1) (readBody (prev .0) (id .0) (now (s .entry)))) ⌝ }
+fn read_body(s: &[u8], id: TxId, next: u64) -> GroupEnd
+    ensures { λ r. ⌜ r ≡ endOf (stopOf (now (s .entry))) (committedIf (id .0) next (readBody next (id .0) (now (s .entry)))) ⌝ }
 {
     let mut at: usize = 0;
     loop {
@@ -52,10 +52,7 @@ fn read_body(s: &[u8], id: TxId, prev: Csn) -> GroupEnd
                 if c.0 != id.0 {
                     return GroupEnd::NoGroup(Stop::Torn);
                 }
-                if csn.0 <= prev.0 {
-                    return GroupEnd::NoGroup(Stop::Torn);
-                }
-                if csn.0 - prev.0 != 1 {
+                if csn.0 as u64 != next {
                     return GroupEnd::NoGroup(Stop::Torn);
                 }
                 return GroupEnd::Committed {
@@ -78,9 +75,9 @@ fn read_body(s: &[u8], id: TxId, prev: Csn) -> GroupEnd
     }
 }
 
-// prev is the commit number before the group.
-pub fn read_group(s: &[u8], prev: Csn) -> GroupEnd
-    ensures { λ r. ⌜ r ≡ endOf (stopOf (now (s .entry))) (readGroup (prev .0) (now (s .entry))) ⌝ }
+// next is the commit number expected: one more than a commit number, which itself may be the highest.
+pub fn read_next(s: &[u8], next: u64) -> GroupEnd
+    ensures { λ r. ⌜ r ≡ endOf (stopOf (now (s .entry))) (groupWith next (now (s .entry))) ⌝ }
 {
     // An abort is the shortest, and told without a call: a log can have thousands.
     if s.len() < ABORT_LEN {
@@ -88,7 +85,7 @@ pub fn read_group(s: &[u8], prev: Csn) -> GroupEnd
     }
     let id = be16(s, 1);
     if s[0] != ABORT {
-        return read_body(s, TxId(id), prev);
+        return read_body(s, TxId(id), next);
     }
     if id == 0 {
         return GroupEnd::NoGroup(Stop::Torn);
@@ -100,6 +97,13 @@ pub fn read_group(s: &[u8], prev: Csn) -> GroupEnd
         id: TxId(id),
         end: ABORT_LEN,
     }
+}
+
+// prev is the commit number before the group.
+pub fn read_group(s: &[u8], prev: Csn) -> GroupEnd
+    ensures { λ r. ⌜ r ≡ endOf (stopOf (now (s .entry))) (readGroup (prev .0) (now (s .entry))) ⌝ }
+{
+    read_next(s, prev.0 as u64 + 1)
 }
 
 // Writes the group of the first n redo records of these arrays and their commit. The i-th record has the len[i] bytes from MAX_WRITE * i on.

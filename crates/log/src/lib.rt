@@ -1,4 +1,5 @@
 // The log: records, groups and the log itself, read from the front of a slice and written into one; stores that are counted.
+pub mod found;
 pub mod group;
 pub mod number;
 pub mod record;

@@ -1,28 +1,37 @@
--- M1, cut and done, M3, and returns to savepoints (document 02, A.7) as lists of calls: the steps can be taken, and the theorem says what one more
--- restart leaves.
+-- M1, cut and done, M3, returns to savepoints (document 02, A.7), and a checkpoint in form two (A.9) as lists of calls: the steps can be taken, and the
+-- theorem says what one more restart leaves.
 use mathlib.Core.Path.{_≡_, refl, sym, ap, _∙_, subst}
 use mathlib.Core.List.{List, [], _∷_}
 use Prim.Native.Nat.{ℕ}
 use lib.Dec.{lit≤}
 use lib.ListN.{getD, replicate, set}
-use Rattle.recovery.specs.Group.{Write}
+use Rattle.layout.specs.declared.Form.{Form}
+use Rattle.layout.specs.declared.Form.the-variants.{One, Two}
+use Rattle.recovery.specs.Group.{Write, committed}
 use Rattle.recovery.specs.Lists.{nil}
 use Rattle.recovery.specs.Transaction.{Tx}
 use Rattle.recovery.specs.Restart.{undoOrder}
 use Rattle.recovery.specs.Ledger.{Commit, Ledger, openWrites, layCommits}
-use Rattle.recovery.specs.Machine.{Opening, freshOpening, standingBefore, System, diskOf, recovered, newTx, withWrite, withSavepoint, inCommit, begins}
+use Rattle.recovery.specs.Machine.{Opening, freshOpening, standingBefore, standingIn, numberBefore, System, diskOf, recovered, newTx, withWrite, withSavepoint, inCommit, begins}
 use Rattle.recovery.specs.Machine.{writes, setsSavepoint, goesBack, precommits, rollsBack, flushes, flushIsCut, settles, checkpoints, restarts, Run, opened, next}
 use Rattle.recovery.proofs.Cases.{byte10, byte11}
 use Rattle.recovery.proofs.Theorem.{theorem}
 
+-- a fresh disk of a form
+abbrev storeOf : Form → Opening
+storeOf form = freshOpening form 4096 16384
+
 abbrev store : Opening
-store = freshOpening 4096 16384
+store = storeOf One
 
 -- a list of calls, where it leads, and what it leaves durable
-pub record History : Type 0 where
+pub record HistoryOf (form : Form) : Type 0 where
   pub system : System
   pub ledger : Ledger
-  pub run : Run store system ledger
+  pub run : Run (storeOf form) system ledger
+
+abbrev pub History : Type 0
+History = HistoryOf One
 
 -- restart; id 1 writes 41 42 (hexadecimal) at 10, precommit
 abbrev m1Write : Write
@@ -172,3 +181,39 @@ moved =
 moved-written : openWrites 1 (moved .ledger .active) ≡ byte10 5 ∷ byte11 6 ∷ byte11 8 ∷ byte11 6 ∷ []
 unfolding moved before undoOrder
 moved-written = refl
+
+-- ---- form two
+
+-- id 1 writes 5 at 10, precommit, flush 1, settle, checkpoint; id 2 writes 7 there, precommit, flush 1
+unfoldable wiped : HistoryOf Two
+unfolding undoOrder standingBefore
+wiped =
+    let r0 = next opened (restarts _ 0 (lit≤ tt) nil nil) in
+    let r1 = next r0 (begins _ _ (lit≤ tt)) in
+    let r2 = next r1 (writes _ _ (newTx 1) (byte10 5) refl refl (lit≤ tt) refl (lit≤ tt)) in
+    let r3 = next r2 (precommits _ _ (withWrite (byte10 0) (byte10 5) (newTx 1)) refl refl) in
+    let r4 = next r3 (flushes _ _ 1 1000 (lit≤ tt)) in
+    let r5 = next r4 (settles _ _ (inCommit 1 (withWrite (byte10 0) (byte10 5) (newTx 1))) refl refl (lit≤ tt)) in
+    let r6 = next r5 (checkpoints _ _) in
+    let r7 = next r6 (begins _ _ (lit≤ tt)) in
+    let r8 = next r7 (writes _ _ (newTx 2) (byte10 7) refl refl (lit≤ tt) refl (lit≤ tt)) in
+    let r9 = next r8 (precommits _ _ (withWrite (byte10 5) (byte10 7) (newTx 2)) refl refl) in
+    let r10 = next r9 (flushes _ _ 1 1000 (lit≤ tt)) in
+    record { system = _; ledger = _; run = r10 }
+
+-- both are durable; the second's group stands alone in the log, and goes on from the image's number
+wiped-durable : wiped .ledger .durable ≡ record { id = 1; csn = 1; writes = byte10 5 ∷ [] } ∷ record { id = 2; csn = 2; writes = byte10 7 ∷ [] } ∷ []
+unfolding wiped undoOrder
+wiped-durable = refl
+
+wiped-stands : standingIn (diskOf (wiped .system)) ≡ committed 2 2 (byte10 7 ∷ []) ∷ []
+unfolding wiped undoOrder standingBefore
+wiped-stands = refl
+
+wiped-number : numberBefore (storeOf Two) (diskOf (wiped .system)) ≡ 1
+unfolding wiped undoOrder numberBefore
+wiped-number = refl
+
+-- and one more restart leaves 7
+wiped-recovers : recovered (diskOf (wiped .system)) ≡ set (replicate 4096 0) 10 7
+wiped-recovers = theorem (storeOf Two) (wiped .run) .restores ∙ ap (λ (cs : List Commit). layCommits cs (replicate 4096 0)) wiped-durable

@@ -37,4 +37,5 @@ pub mod RestartStep
 pub mod Theorem
 pub mod Lasting
 pub mod Once
+pub mod Above
 pub mod Example

@@ -16,7 +16,7 @@ use Rattle.recovery.specs.Savepoint.{countAt}
 use Rattle.recovery.specs.Replay.{redoAll, layBytes, oldsOf}
 use Rattle.recovery.specs.Restart.{undoOrder}
 use Rattle.recovery.specs.Ledger.{Event, Commit, Ledger, noLedger, committedIn, layCommits, committedMemory, takenBack, enterWentBack, enter}
-use Rattle.recovery.specs.Machine.{Opening, Disk, historyOf, standingBefore, Live, System, down, up, diskOf, openingDisk, Listed, Step, stays, begins}
+use Rattle.recovery.specs.Machine.{Opening, Disk, historyOf, standingBefore, standingIn, Live, System, down, up, diskOf, openingDisk, Listed, Step, stays, begins}
 use Rattle.recovery.specs.Machine.{writes, setsSavepoint, goesBack, precommits, rollsBack, flushes, flushIsCut, settles, checkpoints, checkpointIsCut, restarts, restartIsCut, Run, opened, next}
 use Rattle.recovery.specs.Machine.{afterGoBack}
 use Rattle.recovery.specs.Claim.{commits, Claim}
@@ -25,9 +25,9 @@ use Rattle.recovery.proofs.Distinct.{empty}
 use Rattle.recovery.proofs.Groups.{groupsSize-append, replay-append}
 use Rattle.recovery.proofs.Byte.{oldest, newest, layByte, by-bytes}
 use Rattle.recovery.proofs.Numbers.{consecutive-nil, consecutive-numbered}
-use Rattle.recovery.proofs.Log.{form-one, opening-stands}
+use Rattle.recovery.proofs.Log.{form-one, standing-last, opening-stands}
 use Rattle.recovery.proofs.Room.{Roomy}
-use Rattle.recovery.proofs.Ledger.{Settles, replay-commits}
+use Rattle.recovery.proofs.Ledger.{Settles, commits-append, replay-commits}
 use Rattle.recovery.proofs.Invariant.{Down, Inv, ImageAt, baseAt, base-length, recorded, crash, down-emptied}
 use Rattle.recovery.proofs.BeginStep.{begin-keeps}
 use Rattle.recovery.proofs.WriteStep.{write-keeps}
@@ -88,7 +88,8 @@ module _ (o : Opening) where
         by-bytes (o .size) (d .image .txs) (d .image .csn) (d .after) (historyOf d) (d .image .memory) (o .memory) (w .imageLength) (o .sized)
         (λ a h. prefix-whole (ImageAt o d a) (d .after) (w .bytes a h) ∙ sym (replay-append (layByte a) (d .before) (d .after) (getD (o .memory) a 0)))
         ∙ (replay-commits (historyOf d) (o .memory) ∙ ap (λ (cs : List Commit). layCommits cs (o .memory)) (sym (w .durable)));
-    logged = ap (λ (gs : List Group). commits (gs ++ d .after)) (form-one d) ∙ sym (w .durable);
+    logged = λ e. ap (λ (gs : List Group). commits (gs ++ d .after)) (form-one d e) ∙ sym (w .durable);
+    standing = let (gone, whole) = standing-last d in (commits gone, w .durable ∙ ap commits whole ∙ commits-append gone (standingIn d));
     numbered = rw (w .durable) (consecutive-numbered (w .numbers .history));
     first = (w .assigned .0, rw (w .durable) (w .assigned .1));
     settled = w .settled;

@@ -4,6 +4,7 @@ use mathlib.Core.Path.{_≡_}
 use mathlib.Core.List.{List, [], _∷_, _++_, List·Memᴰ}
 use lib.ListN.{length}
 use Rattle.layout.specs.{abortLen}
+use Rattle.layout.specs.declared.Form.the-variants.{One}
 use Rattle.recovery.specs.Group.{Group, committed, aborted, groupsSize}
 use Rattle.recovery.specs.Lists.{All}
 use Rattle.recovery.specs.Ledger.{Commit, Ledger}
@@ -24,8 +25,10 @@ Numbered n (c ∷ cs) = (c .csn ≡ suc n) × Numbered (suc n) cs
 pub record Claim (o : Opening) (d : Disk) (k : Ledger) : Type 0 where
   -- one more restart leaves the opening memory with the writes of the durable ones laid over it
   pub restores : recovered d ≡ layCommits (k .durable) (o .memory)
-  -- the log, read from its first byte, has as its commits exactly the durable ones in order, with ids, numbers and writes
-  pub logged : commits (standingIn d) ≡ k .durable
+  -- form one: the log, read from its first byte, has as its commits exactly the durable ones in order, with ids, numbers and writes
+  pub logged : d .form ≡ One → commits (standingIn d) ≡ k .durable
+  -- either form: those whose commits stand in the log are the last so many of them
+  pub standing : (gone : List Commit) × (k .durable ≡ gone ++ commits (standingIn d))
   -- the numbers being 1, 2, 3 and on, or what follows the opening one
   pub numbered : Numbered (o .csn) (k .durable)
   -- the durable ones are the first so many assigned

@@ -6,6 +6,8 @@ use mathlib.Core.List.{List, [], _∷_, _++_, map, reverse}
 use mathlib.Core.Option.{some}
 use lib.ListN.{length, take, drop, replicate, length-replicate}
 use Rattle.layout.specs.{redoLen, commitLen}
+use Rattle.layout.specs.declared.Form.{Form}
+use Rattle.layout.specs.declared.Form.the-variants.{One, Two}
 use Rattle.recovery.specs.Group.{Write, Group, committed, aborted, redoSize, groupsSize, lastCsn, fitting}
 use Rattle.recovery.specs.Lists.{All}
 use Rattle.recovery.specs.Savepoint.{setName, countAt}
@@ -15,28 +17,32 @@ use Rattle.recovery.specs.Restart.{groupId, undone, aborts, recover}
 use Rattle.recovery.specs.Ledger.{Event, unchanged, begun, wrote, savepointSet, wentBack, precommitted, rolledBack, flushed, settled, restarted, cut}
 use Rattle.recovery.specs.Ledger.{Ledger, noLedger, enter}
 
--- What a history opens from: the length of memory, the bytes that the log can take, and an image's memory and last commit
--- number, with no transaction.
+-- What a history opens from: the disk's form, the length of memory, the bytes that the log can take, and an image's memory, last commit
+-- number and last id, with no transaction.
 pub record Opening : Type 0 where
+  pub form : Form
   pub size : ℕ
   pub capacity : ℕ
   pub memory : List ℕ
   pub csn : ℕ
+  pub lastId : ℕ
   pub sized : length memory ≡ size
 
--- a fresh disk: zeros, and commit numbers from 1 on
-abbrev pub freshOpening : ℕ → ℕ → Opening
-freshOpening size capacity = record { size = size; capacity = capacity; memory = replicate size 0; csn = 0; sized = length-replicate size 0 }
+-- a fresh disk: zeros, commit numbers and ids from 1 on
+abbrev pub freshOpening : Form → ℕ → ℕ → Opening
+freshOpening form size capacity =
+    record { form = form; size = size; capacity = capacity; memory = replicate size 0; csn = 0; lastId = 0; sized = length-replicate size 0 }
 
--- what recovery needs of a checkpoint image; csn: the last commit number on disk; lastId: the last id given, 0 where none was since the opening
+-- what recovery needs of a checkpoint image; csn: the last commit number on disk; lastId: the last id given, the opening's where none was since
 pub record Image : Type 0 where
   pub txs : List Tx
   pub memory : List ℕ
   pub csn : ℕ
   pub lastId : ℕ
 
--- the image in use, and every group stored whole since the opening: those stored before the image was, and those after it
+-- the form; the image in use, and every group stored whole since the opening: those stored before the image was, and those after it
 pub record Disk : Type 0 where
+  pub form : Form
   pub image : Image
   pub before : List Group
   pub after : List Group
@@ -45,14 +51,27 @@ pub record Disk : Type 0 where
 abbrev pub historyOf : Disk → List Group
 historyOf d = d .before ++ d .after
 
--- What stands in the log: room, offsets and bytes go by it. First the part before the image's place. The log is never wiped, so that its whole
--- history stands in it; what rests on that cites `form-one` (proofs/Log.antt).
+-- What stands in the log: room, offsets and bytes go by it. First the part before the image's place. In form one the log is never wiped, so that
+-- its whole history stands in it; what rests on that cites `form-one` (proofs/Log.antt). In form two a checkpoint goes on in an area that it has
+-- cleared (document 02, A.9): "the image naming it with log end 0".
+abbrev pub standingIf : Form → List Group → List Group
+standingIf One gs = gs
+standingIf Two gs = []
+
 unfoldable pub standingBefore : Disk → List Group
-standingBefore d = d .before
+standingBefore d = standingIf (d .form) (d .before)
 
 -- from the log's first byte to its end
 abbrev pub standingIn : Disk → List Group
 standingIn d = standingBefore d ++ d .after
+
+-- The commit number that what stands in the log goes on from: the opening's in form one; in form two "numbers going on from its image" (A.9).
+abbrev pub numberIf : Form → ℕ → ℕ → ℕ
+numberIf One opening image = opening
+numberIf Two opening image = image
+
+unfoldable pub numberBefore : Opening → Disk → ℕ
+numberBefore o d = numberIf (d .form) (o .csn) (d .image .csn)
 
 -- csn: the last commit number on disk; lastId: the last id given
 pub record Live : Type 0 where
@@ -72,7 +91,8 @@ diskOf (down d) = d
 diskOf (up d l) = d
 
 abbrev pub openingDisk : Opening → Disk
-openingDisk o = record { image = record { txs = []; memory = o .memory; csn = o .csn; lastId = 0 }; before = []; after = [] }
+openingDisk o =
+    record { form = o .form; image = record { txs = []; memory = o .memory; csn = o .csn; lastId = o .lastId }; before = []; after = [] }
 
 -- r is what the list has under its id
 abbrev pub Listed : Tx → List Tx → Type 0
@@ -169,7 +189,7 @@ afterAbort r l =
 
 -- groups of the tail stored at the log's end
 abbrev pub storing : List Group → Disk → Disk
-storing gs d = record { image = d .image; before = d .before; after = d .after ++ gs }
+storing gs d = record { form = d .form; image = d .image; before = d .before; after = d .after ++ gs }
 
 -- Flush k: stores the first k groups of the tail, or all if fewer; the commit number on disk becomes that of the last commit
 -- stored, if any.
@@ -186,7 +206,12 @@ withoutRedo t = record { id = t .id; committing = t .committing; csn = t .csn; u
 
 abbrev pub afterCheckpoint : Disk → Live → Disk
 afterCheckpoint d l =
-    record { image = record { txs = map withoutRedo (l .txs); memory = l .memory; csn = l .csn; lastId = l .lastId }; before = historyOf d; after = [] }
+    record {
+      form = d .form;
+      image = record { txs = map withoutRedo (l .txs); memory = l .memory; csn = l .csn; lastId = l .lastId };
+      before = historyOf d;
+      after = [];
+    }
 
 -- Restart: what it undoes, the memory it leaves, and the live state, up to the last id.
 abbrev pub undoneBy : Disk → List Tx

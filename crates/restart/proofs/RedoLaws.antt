@@ -72,11 +72,11 @@ front-by s (some (commit i n)) e = step redoStep [] redo-shrinks 0 s ∙ rw e
 front-by s (some (abort i)) e = step redoStep [] redo-shrinks 0 s ∙ rw e
 
 -- of a whole group these are its writes
-pub front-body : (prev id : ℕ) (ws : List Write) (s : List ℕ) → readBody prev id s ≡ some ws → frontWrites s ≡ ws
-front-body prev id [] s e = front-by s _ (body-inv prev id s [] e)
-front-body prev id (w ∷ ws) s e =
-    let i = body-inv prev id s (w ∷ ws) e in
-    front-by s _ (i .0) ∙ ap (λ (vs : List Write). w ∷ vs) (front-body prev id ws (drop (7 + length (w .bytes)) s) (i .1))
+pub front-body : (next id : ℕ) (ws : List Write) (s : List ℕ) → readBody next id s ≡ some ws → frontWrites s ≡ ws
+front-body next id [] s e = front-by s _ (body-inv next id s [] e)
+front-body next id (w ∷ ws) s e =
+    let i = body-inv next id s (w ∷ ws) e in
+    front-by s _ (i .0) ∙ ap (λ (vs : List Write). w ∷ vs) (front-body next id ws (drop (7 + length (w .bytes)) s) (i .1))
 
 -- ---- the code's turns
 
@@ -91,20 +91,20 @@ module _ (s m : List ℕ) (id : ℕ) (w : Write) (e : readRecord s ≡ some (red
 
 -- the records that are left, up to the place where they end
 pub record Body (size : ℕ) (s : List ℕ) (at : ℕ) : Type 0 where
-  pub prev : ℕ
+  pub next : ℕ
   pub id : ℕ
   pub writes : List Write
-  pub read : readBody prev id (drop at s) ≡ some writes
+  pub read : readBody next id (drop at s) ≡ some writes
   pub ends : at + redoSize writes ≡ size
 
 -- one of them
 pub body-here : (size : ℕ) (s : List ℕ) (at : ℕ) → Body size s at → at < size → (id : ℕ) × (w : Write) × (readRecord (drop at s) ≡ some (redo id w))
 body-here size s at b h = go (b .writes) (b .read) (b .ends)
   where
-    go : (ws : List Write) → readBody (b .prev) (b .id) (drop at s) ≡ some ws → at + redoSize ws ≡ size
+    go : (ws : List Write) → readBody (b .next) (b .id) (drop at s) ≡ some ws → at + redoSize ws ≡ size
         → (id : ℕ) × (w : Write) × (readRecord (drop at s) ≡ some (redo id w))
     go [] e l = absurd (omega (arith, l, h))
-    go (w ∷ ws) e l = (b .id, w, body-inv (b .prev) (b .id) (drop at s) (w ∷ ws) e .0)
+    go (w ∷ ws) e l = (b .id, w, body-inv (b .next) (b .id) (drop at s) (w ∷ ws) e .0)
 
 -- a turn of the loop, to the next one
 module _ (size : ℕ) (s m c : List ℕ) (at k : ℕ) (b : Body size s at) (h : at < size) (fits : k ≡ frontSize (readRecord (drop at s)))
@@ -119,10 +119,10 @@ module _ (size : ℕ) (s m c : List ℕ) (at k : ℕ) (b : Body size s at) (h : 
   pub redo-turn : RedoTurn
   redo-turn = go (b .writes) (b .read) (b .ends)
     where
-      go : (ws : List Write) → readBody (b .prev) (b .id) (drop at s) ≡ some ws → at + redoSize ws ≡ size → RedoTurn
+      go : (ws : List Write) → readBody (b .next) (b .id) (drop at s) ≡ some ws → at + redoSize ws ≡ size → RedoTurn
       go [] e l = absurd (omega (arith, l, h))
       go (w ∷ ws) e l =
-          let i = body-inv (b .prev) (b .id) (drop at s) (w ∷ ws) e in
+          let i = body-inv (b .next) (b .id) (drop at s) (w ∷ ws) e in
           let n : k ≡ 7 + length (w .bytes) = fits ∙ ap frontSize (i .0) in
           let d = length-drop at s in
           let r = record-within (drop at s) _ (i .0) in
@@ -134,10 +134,10 @@ module _ (size : ℕ) (s m c : List ℕ) (at k : ℕ) (b : Body size s at) (h : 
             inside = omega (arith, n, d, r);
             rest =
                 record {
-                  prev = b .prev;
+                  next = b .next;
                   id = b .id;
                   writes = ws;
-                  read = ap (readBody (b .prev) (b .id)) (sym there) ∙ i .1;
+                  read = ap (readBody (b .next) (b .id)) (sym there) ∙ i .1;
                   ends = omega (arith, n, l);
                 };
             same = ap (λ (vs : List Write). redoAll layBytes vs m) (front-by (drop at s) _ (i .0))
@@ -148,6 +148,6 @@ module _ (size : ℕ) (s m c : List ℕ) (at k : ℕ) (b : Body size s at) (h : 
 pub redo-done : (size : ℕ) (s m : List ℕ) (at : ℕ) → Body size s at → size ≤ at → redoAll layBytes (frontWrites (drop at s)) m ≡ m
 redo-done size s m at b h = go (b .writes) (b .read) (b .ends)
   where
-    go : (ws : List Write) → readBody (b .prev) (b .id) (drop at s) ≡ some ws → at + redoSize ws ≡ size → redoAll layBytes (frontWrites (drop at s)) m ≡ m
-    go [] e l = ap (λ (vs : List Write). redoAll layBytes vs m) (front-body (b .prev) (b .id) [] (drop at s) e)
+    go : (ws : List Write) → readBody (b .next) (b .id) (drop at s) ≡ some ws → at + redoSize ws ≡ size → redoAll layBytes (frontWrites (drop at s)) m ≡ m
+    go [] e l = ap (λ (vs : List Write). redoAll layBytes vs m) (front-body (b .next) (b .id) [] (drop at s) e)
     go (w ∷ ws) e l = absurd (omega (arith, l, h))

@@ -148,7 +148,7 @@ module _ (ids : List TxId) (n : ℕ) (log : List ℕ) (w : Went) where
       → k ≡ redoSize ws + 8 → slot ≡ slotIn ids n id → m ≡ redoAll layBytes (frontWrites (drop (w .pass .end) log)) (w .memory)
       → turnStep ids n log w ≡ turnEndBy m (past (w .pass) slot id csn 1 (w .pass .end + k)) Nowhere
   turn-commit id csn k slot ws m e h x q =
-      let f = front-body (w .pass .csn .0) id ws (drop (w .pass .end) log) (group-inv _ _ (committed id csn ws) e .1) in
+      let f = front-body (w .pass .csn .0 + 1) id ws (drop (w .pass .end) log) (group-inv _ _ (committed id csn ws) e .1) in
       rw (q, h, x, f) (turn-by _ e)
 
   -- a commit alone leaves memory

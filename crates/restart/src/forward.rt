@@ -83,7 +83,7 @@ fn redo_one(memory: &mut [u8], s: &[u8]) -> usize
 
 // Does the redo records of the group at the front of s, in order: its first size bytes. They were read with the group, and are not tested again.
 fn redo_all(memory: &mut [u8], s: &[u8], size: usize)
-    requires { ⌜ ((prev : ℕ) × (id : ℕ) × (ws : List Write) × (readBody prev id (now s) ≡ some ws) × (redoSize ws ≡ size)) ⌝ }
+    requires { ⌜ ((next : ℕ) × (id : ℕ) × (ws : List Write) × (readBody next id (now s) ≡ some ws) × (redoSize ws ≡ size)) ⌝ }
     requires { ⌜ length (now memory) ≡ memoryLen ⌝ }
     ensures { λ _. ⌜ now (memory .exit) ≡ redoAll layBytes (frontWrites (now (s .entry))) (now (memory .entry)) ⌝ }
 {

@@ -8,8 +8,8 @@ use lib.ListN.{replicate, length-replicate}
 use Rattle.recovery.specs.Restart.{undoOrder}
 use Rattle.log.specs.Record.{readRecord, readRedo, readCommit, readAbort}
 use Rattle.log.specs.Reader.{run, whole as all}
-use Rattle.log.specs.Group.{readBody, readGroup}
-use Rattle.log.specs.Log.{readLog}
+use Rattle.log.specs.Group.{readBody, groupWith}
+use Rattle.log.specs.Log.{readLogWith, readLog}
 use Rattle.log.proofs.Basics.{clash}
 use Rattle.transaction.specs.Flat.{emptyRecords, emptyTx}
 use Rattle.transaction.specs.Rules.{headOk, savepointsOk, stateOk, heldAgainst}
@@ -71,7 +71,7 @@ repliesIn none = none
 repliesIn (some x) = some (x .replies)
 
 computed : repliesIn (quickRun calls start) ≡ some replies
-unfolding calls replies undoOrder readRecord readRedo readCommit readAbort run all readBody readGroup readLog emptyRecords emptyTx headOk savepointsOk stateOk heldAgainst pushed freshTx
+unfolding calls replies undoOrder readRecord readRedo readCommit readAbort run all readBody groupWith readLogWith readLog emptyRecords emptyTx headOk savepointsOk stateOk heldAgainst pushed freshTx
     written withRead precommitted emptyImage past forwardOf isRunning isLost runningOf lostOf recoverOf unrecovered unfit begunState writtenState readState
     precommittedState loadOf openOf stepsOf examineOf recoveredState restartOf carriedOut
 computed = refl

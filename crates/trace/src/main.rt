@@ -1,17 +1,4 @@
 // trace: a stream of calls on standard input, 64 bytes each; after each call one line of what it answered and left (docs/STREAM.md).
-mod line;
-mod record;
-
-use crate::line::Report;
-use crate::line::adler;
-use crate::line::print_line;
-use crate::line::print_unknown;
-use crate::record::IDS;
-use crate::record::Record;
-use crate::record::data_of;
-use crate::record::ids_count;
-use crate::record::ids_of;
-use crate::record::read_record;
 use disk::call::restart;
 use disk::equal::equal;
 use inspect::groups::first_groups;
@@ -25,6 +12,16 @@ use libc::STDIN_FILENO;
 use log::stores::copy;
 use log::stores::fill;
 use log::stores::least;
+use report::line::Report;
+use report::line::adler;
+use report::line::print_line;
+use report::line::print_unknown;
+use report::record::IDS;
+use report::record::Record;
+use report::record::data_of;
+use report::record::ids_count;
+use report::record::ids_of;
+use report::record::read_record;
 use store::Answer;
 use store::State;
 ghost use mathlib.Core.Path.{_≡_};

@@ -4,7 +4,7 @@ use mathlib.Core.Path.{sym, ap}
 use lib.ListN.{length, length-append}
 use lib.Seq.{length-take-le}
 use borrow.Author.Needs.{needs}
-use Rattle.trace.proofs.Ids.{count-few, ids-length}
+use Rattle.report.proofs.Ids.{count-few, ids-length}
 use Rattle.trace.proofs.outcomes_call.Statement.{statement}
 use Rattle.trace.proofs.outcomes_call.Tie as tie
 

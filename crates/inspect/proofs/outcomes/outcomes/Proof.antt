@@ -3,8 +3,11 @@ use native.Mathlib.Omega.{arith}
 use borrow.Author.Needs.{needs}
 use borrow.Author.Tests.{not-true, not-false}
 use mathlib.Core.Bool.{true}
-use mathlib.Core.Path.{_≡_, refl, sym, ap, _∙_}
+use mathlib.Core.Path.{_≡_, refl, sym, ap, ap₂, _∙_}
 use lib.ListN.{length}
+use Rattle.layout.specs.Parts.{logPart}
+use Rattle.log.specs.Log.{readLogWith}
+use Rattle.log.proofs.LogLaws.{log-next}
 use Rattle.store.specs.Answer.{done}
 use Rattle.inspect.specs.Outcomes.{rising, WalkTold, groupsOn}
 use Rattle.inspect.specs.Walk.{walkedOver}
@@ -82,10 +85,11 @@ returns-4 c =
     let f = w .before .before .before .before .before in
     let a = entry f .args in
     let gs = groupsOn (a .disk .now) in
+    let e : readLogWith 1 (logPart (a .disk .now)) ≡ gs = sym (log-next 0 (logPart (a .disk .now))) in
     as-outcomes (outcomes-done (a .disk .now) (a .ids .now) (a .out .now) (f .before .before .before .before .before .if1 .left) (equal f) (sorted f))
-    (ap told (w .walk-log .ensures .0))
+    (ap told (w .walk-log .ensures .0 ∙ ap length e))
     (w .walk-log .ensures .1
-    ∙ ap (walkedOver (a .ids .now) gs) (f .fill-zero .ensures)
+    ∙ ap₂ (walkedOver (a .ids .now)) e (f .fill-zero .ensures)
     ∙ walked-zeros (a .ids .now) gs (length (a .out .now)) (equal f))
   where
     told : ℕ → WalkTold

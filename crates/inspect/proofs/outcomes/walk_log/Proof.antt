@@ -8,14 +8,14 @@ use Rattle.inspect.proofs.outcomes.walk_log.Statement.{statement}
 use Rattle.inspect.proofs.outcomes.walk_log.Tie as tie
 
 abbrev Inv-loop : tie.InvT-loop
-Inv-loop log ids out₀ w₀ out w =
+Inv-loop log next ids out₀ w₀ out w =
     (w .at ≤ length log)
     × (w .groups ≤ w .at)
     × (length out ≡ length ids)
     × (walksFrom ids log w₀ out₀ ≡ walksFrom ids log w out)
 
 abbrev μ-loop : tie.MeasureT-loop
-μ-loop log ids out₀ w₀ out w = length log - w .at
+μ-loop log next ids out₀ w₀ out w = length log - w .at
 
 loop-holds : tie.Need-loop-holds Inv-loop μ-loop
 loop-holds c = (omega arith, omega arith, c .before .before .before .pre .1, refl)

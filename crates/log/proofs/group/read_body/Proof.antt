@@ -31,11 +31,11 @@ use Rattle.log.proofs.group.read_body.Statement.{statement}
 use Rattle.log.proofs.group.read_body.Tie as tie
 
 abbrev Inv-loop : tie.InvT-loop
-Inv-loop s id prev at₀ at =
-    (at ≤ length s) × (endOf (stopOf s) (committedIf (id .0) (prev .0 + 1) (readBody (prev .0) (id .0) s)) ≡ bodyEnd (prev .0) (id .0) at (drop at s))
+Inv-loop s id next at₀ at =
+    (at ≤ length s) × (endOf (stopOf s) (committedIf (id .0) next (readBody next (id .0) s)) ≡ bodyEnd next (id .0) at (drop at s))
 
 abbrev μ-loop : tie.MeasureT-loop
-μ-loop s id prev at₀ at = length s - at
+μ-loop s id next at₀ at = length s - at
 
 -- places of the code by name
 
@@ -51,28 +51,19 @@ turnFromThen2 c = c .before .before .before .before .before .before .before .bef
 abbrev entryFromElse1 : tie.Else1 Inv-loop μ-loop → tie.Start Inv-loop μ-loop
 entryFromElse1 c = c .before .before .before .before .before .before .before .before .before .before
 
-abbrev afterHead2FromThen4 : tie.Then4 Inv-loop μ-loop → tie.After-head2 Inv-loop μ-loop
-afterHead2FromThen4 c = c .before .before .before .before .before .before .before .before .before .before
+abbrev afterHead2FromThen3 : tie.Then3 Inv-loop μ-loop → tie.After-head2 Inv-loop μ-loop
+afterHead2FromThen3 c = c .before .before .before .before .before .before
 
-abbrev afterHead2FromElse4 : tie.Else4 Inv-loop μ-loop → tie.After-head2 Inv-loop μ-loop
-afterHead2FromElse4 c = c .before .before .before .before .before .before .before .before .before .before
+abbrev afterHead2FromElse3 : tie.Else3 Inv-loop μ-loop → tie.After-head2 Inv-loop μ-loop
+afterHead2FromElse3 c = c .before .before .before .before .before .before
 
-abbrev turnFromThen3 : tie.Then3 Inv-loop μ-loop → tie.At-loop Inv-loop μ-loop
-turnFromThen3 c = c .before .before .before .before .before .before .before .before .before .before .before
-
-abbrev turnFromThen4 : tie.Then4 Inv-loop μ-loop → tie.At-loop Inv-loop μ-loop
-turnFromThen4 c = c .before .before .before .before .before .before .before .before .before .before .before .before .before .before
-
-abbrev turnFromElse4 : tie.Else4 Inv-loop μ-loop → tie.At-loop Inv-loop μ-loop
-turnFromElse4 c = c .before .before .before .before .before .before .before .before .before .before .before .before .before .before
-
-abbrev entryFromElse4 : tie.Else4 Inv-loop μ-loop → tie.Start Inv-loop μ-loop
-entryFromElse4 c = c .before .before .before .before .before .before .before .before .before .before .before .before .before .before .before .before
+abbrev turnFromAfterHead2 : tie.After-head2 Inv-loop μ-loop → tie.At-loop Inv-loop μ-loop
+turnFromAfterHead2 c = c .before .before .before .before
 
 loop-holds : tie.Need-loop-holds Inv-loop μ-loop
 loop-holds c =
     let a = c .before .args in
-    (omega arith, body-start (a .s .now) (committedIf (a .id .0) (a .prev .0 + 1) (readBody (a .prev .0) (a .id .0) (a .s .now))))
+    (omega arith, body-start (a .s .now) (committedIf (a .id .0) (a .next) (readBody (a .next) (a .id .0) (a .s .now))))
 
 sub-read-record : tie.Need-sub-read-record Inv-loop μ-loop
 sub-read-record c = search needs
@@ -120,9 +111,9 @@ over-redo : (c : tie.Else1 Inv-loop μ-loop)
     → let s = entryFromElse1 c .args .s .now in
     let at = turnFromElse1 c .loop .at in
     let id = entryFromElse1 c .args .id .0 in
-    let prev = entryFromElse1 c .args .prev .0 in
-    let next = at + 7 + c .before .before .before .before .head .given .0 .1 .1 .0 in
-    Turned s at next (bodyEnd prev id at (drop at s)) (bodyEnd prev id next (drop next s))
+    let next = entryFromElse1 c .args .next in
+    let to = at + 7 + c .before .before .before .before .head .given .0 .1 .1 .0 in
+    Turned s at to (bodyEnd next id at (drop at s)) (bodyEnd next id to (drop to s))
 over-redo c =
     let w = redo-at (c .before .before .before .before) in
     body-turn _ _ _ _ (w .0) _ _ (turnFromElse1 c .loop .inv .0) (w .1) (c .if1 .left) (omega (arith, w .3))
@@ -149,43 +140,33 @@ returns-2 : tie.Need-returns-2 Inv-loop μ-loop
 returns-2 c = sym (turnFromThen2 c .loop .inv .1
     ∙ body-other-commit _ _ _ _ _ _ (commit-at (c .before .before .before .before)) (c .if2 .taken))
 
+cast-if3 : tie.Need-cast-if3 Inv-loop μ-loop
+cast-if3 c = search needs
+
 returns-3 : tie.Need-returns-3 Inv-loop μ-loop
 returns-3 c =
-    sym
-    (turnFromThen3 c .loop .inv .1
-    ∙ body-other-csn _ _ _ _ _ _ (commit-at (c .before .before .before .before .before .before .before)) (c .before .before .before .if2 .left)
-    (λ e. omega (arith, e, c .if3 .taken)))
+    let h = afterHead2FromThen3 c in
+    sym (turnFromAfterHead2 h .loop .inv .1 ∙ body-other-csn _ _ _ _ _ _ (commit-at h) (c .before .before .if2 .left) (c .if3 .taken))
 
-sub-if4 : tie.Need-sub-if4 Inv-loop μ-loop
-sub-if4 c = search needs
+add-t23 : tie.Need-add-t23 Inv-loop μ-loop
+add-t23 c =
+    let h = afterHead2FromElse3 c in
+    let entry = turnFromAfterHead2 h .before .before in
+    let s = entry .args .s .now in
+    let at = turnFromAfterHead2 h .loop .at in
+    let l : 8 ≤ length s - at = rw length-drop at (record-within (drop at s) _ (commit-at h)) in
+    omega (arith, entry .good)
 
 returns-4 : tie.Need-returns-4 Inv-loop μ-loop
 returns-4 c =
-    sym
-    (turnFromThen4 c .loop .inv .1
-    ∙ body-other-csn _ _ _ _ _ _ (commit-at (afterHead2FromThen4 c))
-    (c .before .before .before .before .before .before .if2 .left) (λ e. c .if4 .taken (omega (arith, e))))
-
-add-t24 : tie.Need-add-t24 Inv-loop μ-loop
-add-t24 c =
-    let s = entryFromElse4 c .args .s .now in
-    let at = turnFromElse4 c .loop .at in
-    let l : 8 ≤ length s - at = rw length-drop at
-    (record-within (drop at s) _ (commit-at (afterHead2FromElse4 c))) in
-    omega (arith, entryFromElse4 c .good)
-
-returns-5 : tie.Need-returns-5 Inv-loop μ-loop
-returns-5 c =
-    sym
-    (turnFromElse4 c .loop .inv .1
-    ∙ body-last _ _ _ _ _ _ (commit-at (afterHead2FromElse4 c))
-    (c .before .before .before .before .before .before .if2 .left) (omega (arith, c .if4 .left, c .before .before .before .if3 .left)))
+    let h = afterHead2FromElse3 c in
+    sym (turnFromAfterHead2 h .loop .inv .1 ∙ body-last _ _ _ _ _ _ (commit-at h) (c .before .before .if2 .left) (c .if3 .left))
 
 enum-told : tie.Need-enum-told Inv-loop μ-loop
 enum-told c = search needs
 
-returns-6 : tie.Need-returns-6 Inv-loop μ-loop
-returns-6 c = sym (c .before .before .before .before .loop .inv .1
+returns-5 : tie.Need-returns-5 Inv-loop μ-loop
+returns-5 c = sym (c .before .before .before .before .loop .inv .1
     ∙ body-abort _ _ _ _ _ (head-abort _ _ _ (sym (read-at (c .before .before)) ∙ c .enum-told .given .1)))
 
 enum-known-head-3 : tie.Need-enum-known-head-3 Inv-loop μ-loop
@@ -197,16 +178,16 @@ nothing-at : (c : tie.After-head3 Inv-loop μ-loop)
     (readRecord t ≡ none) × (c .head3 .given .0 .0 ≡ stopOf t)
 nothing-at c = head-nothing _ _ _ (sym (read-at (c .before .before)) ∙ c .head3 .given .1)
 
+returns-6 : tie.Need-returns-6 Inv-loop μ-loop
+returns-6 c =
+    let l = c .before .before .before .before .before .before .loop in
+    sym (l .inv .1 ∙ body-none _ _ _ _ (nothing-at (c .before .before) .0) ∙ ap NoGroup (stop-inside (l .at) _ (omega (arith, c .if4 .taken))))
+
 returns-7 : tie.Need-returns-7 Inv-loop μ-loop
 returns-7 c =
     let l = c .before .before .before .before .before .before .loop in
-    sym (l .inv .1 ∙ body-none _ _ _ _ (nothing-at (c .before .before) .0) ∙ ap NoGroup (stop-inside (l .at) _ (omega (arith, c .if5 .taken))))
-
-returns-8 : tie.Need-returns-8 Inv-loop μ-loop
-returns-8 c =
-    let l = c .before .before .before .before .before .before .loop in
     let n = nothing-at (c .before .before) in
-    ap NoGroup (n .1) ∙ sym (l .inv .1 ∙ body-none _ _ _ _ (n .0) ∙ ap NoGroup (stop-front (l .at) _ (c .if5 .left)))
+    ap NoGroup (n .1) ∙ sym (l .inv .1 ∙ body-none _ _ _ _ (n .0) ∙ ap NoGroup (stop-front (l .at) _ (c .if4 .left)))
 
 pub read-body-spec : {M : Type 1} → statement M
 read-body-spec =
@@ -228,13 +209,12 @@ read-body-spec =
     loop-again
     enum-known-head-2
     returns-2
+    cast-if3
     returns-3
-    sub-if4
+    add-t23
     returns-4
-    add-t24
-    returns-5
     enum-told
-    returns-6
+    returns-5
     enum-known-head-3
-    returns-7
-    returns-8)
+    returns-6
+    returns-7)

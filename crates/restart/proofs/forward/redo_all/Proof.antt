@@ -28,7 +28,7 @@ abbrev μ-loop : tie.MeasureT-loop
 loop-holds : tie.Need-loop-holds Inv-loop μ-loop
 loop-holds c =
     let r = c .before .before .pre .0 in
-    (omega arith, omega arith, refl, refl, record { prev = r .0; id = r .1; writes = r .2; read = r .3; ends = omega (arith, r .4) })
+    (omega arith, omega arith, refl, refl, record { next = r .0; id = r .1; writes = r .2; read = r .3; ends = omega (arith, r .4) })
 
 sub-redo-one : tie.Need-sub-redo-one Inv-loop μ-loop
 sub-redo-one c = search needs

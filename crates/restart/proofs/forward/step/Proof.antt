@@ -147,7 +147,7 @@ redo-all-requires c κs =
     let a = s .args in
     let e = commit-at (f .before .before) in
     let g = group-inv _ _ (committed _ _ (e .0)) (e .1) in
-    ((a .p .csn .0, _, e .0, ap (readBody (a .p .csn .0) _) (from (a .log .now) (a .p .end)) ∙ g .1, omega (arith, e .2)), s .pre .1 .0)
+    ((a .p .csn .0 + 1, _, e .0, ap (readBody (a .p .csn .0 + 1) _) (from (a .log .now) (a .p .end)) ∙ g .1, omega (arith, e .2)), s .pre .1 .0)
 
 same-length : tie.Need-same-length
 same-length c = search needs

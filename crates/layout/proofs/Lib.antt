@@ -1,0 +1,2 @@
+-- The laws of a disk's forms.
+pub mod Forms
