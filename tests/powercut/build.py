@@ -24,10 +24,13 @@ TOOLS = {
     "dumpe2fs": "e2fsprogs",
     "cpio": "cpio",
     "setpriv": "util-linux",
+    "strip": "binutils",
     "cc": "gcc",
     "cargo": "cargo",
     BUSYBOX: "busybox-static",
 }
+TOOLS_FOR_KERNEL = {"apt-cache": "apt", "apt-get": "apt", "dpkg": "dpkg"}
+TOOLS_FOR_LIBRARY = {"rt": "rt, the Rattle toolchain; or LUPPANETH_LIB names the folder of libluppaneth.a"}
 MODULES = [
     "lib/crc16",
     "lib/libcrc32c",
@@ -48,32 +51,50 @@ def run(*command, **more):
     return subprocess.run([str(word) for word in command], check=True, text=True, **more)
 
 
+def fail(text):
+    sys.exit(f"tests/powercut/run: {text}")
+
+
+def need(tools):
+    missing = {package for tool, package in tools.items() if not shutil.which(tool)}
+    if missing:
+        fail(f"missing on this machine, by the names of Debian's packages: {', '.join(sorted(missing))}")
+
+
 def need_tools():
     os.environ["PATH"] += os.pathsep.join(["", "/usr/sbin", "/sbin", str(Path.home() / ".cargo/bin")])
-    missing = {package for tool, package in TOOLS.items() if not shutil.which(tool)}
-    if missing:
-        sys.exit(f"tests/powercut/run: missing on this machine: {' '.join(sorted(missing))} (names of Debian's packages)")
+    need(TOOLS)
 
 
 def kernel(folder):
     """Debian's kernel, unpacked and not installed. Its folder, which has boot and lib/modules."""
     unpacked = folder / "kernel"
     if not unpacked.exists():
-        depends = run("apt-cache", "depends", "linux-image-amd64", stdout=subprocess.PIPE).stdout
-        name = re.search(r"Depends: (linux-image-\S+)", depends)
-        if not name:
-            sys.exit("tests/powercut/run: apt knows no linux-image-amd64 to take a kernel from; try apt-get update")
-        run("apt-get", "download", "-qq", name[1], cwd=folder)
-        (package,) = folder.glob("linux-image-*.deb")
-        run("dpkg", "-x", package, folder / "unpacking")
-        package.unlink()
-        (folder / "unpacking").rename(unpacked)
+        need(TOOLS_FOR_KERNEL)
+        try:
+            fetch_kernel(folder, unpacked)
+        except subprocess.CalledProcessError as error:
+            fail(f"no kernel: {error}; unpacked from a package linux-image-* (dpkg -x), it is looked for in {unpacked}")
     return unpacked
+
+
+def fetch_kernel(folder, unpacked):
+    depends = run("apt-cache", "depends", "linux-image-amd64", stdout=subprocess.PIPE).stdout
+    name = re.search(r"Depends: (linux-image-\S+)", depends)
+    if not name:
+        fail("apt knows no package linux-image-amd64 to take a kernel from; try apt-get update")
+    run("apt-get", "download", "-qq", name[1], cwd=folder)
+    (package,) = folder.glob("linux-image-*.deb")
+    partly = folder / "unpacking"
+    run("dpkg", "-x", package, partly)
+    package.unlink()
+    partly.rename(unpacked)
 
 
 def library():
     """The folder of libluppaneth.a: proved and built here, unless LUPPANETH_LIB names another."""
     if "LUPPANETH_LIB" not in os.environ:
+        need(TOOLS_FOR_LIBRARY)
         run("rt", "staticlib", "luppaneth", cwd=ROOT)
         os.environ["LUPPANETH_LIB"] = str(ROOT / "target/staticlib")
     return Path(os.environ["LUPPANETH_LIB"])

@@ -39,13 +39,13 @@ class Ledger:
     told: int | None = None  # the last step that an opening has told so far, while its lines come
 
     def read(self, text, may_fail):
-        """All that stood on the console of one run, whose last line may have been cut off. may_fail: a write was answered by an error. Answers where
-        the cut fell."""
+        """All that stood on the console of one run, whose last line may have been cut off. may_fail: the drive answered an error. Answers where the
+        cut fell."""
         self.place = MOUNT
         for line in text.split("\n")[:-1]:
             self.line(line, may_fail)
-        # If an opening's lines broke off before the last step reported, the next run tells.
-        if self.told is not None and self.told >= self.reported:
+        # An opening's lines may have broken off. What they told is reported; whether there was more, the next run tells.
+        if self.told is not None and self.told > self.reported:
             self.found(self.told)
         self.told = None
         return self.place
@@ -112,7 +112,7 @@ def number(text):
 
 
 def harmless(line, may_fail):
-    """Lines that say nothing about a booking; those of the kernel about the write that failed among them."""
-    if line in ("", "machine waits", "machine is done"):
+    """Lines that say nothing about a booking; those of the kernel about the error that it was answered among them."""
+    if line in ("", "machine is done"):
         return True
     return may_fail and re.match(r"\[ *\d+\.\d+\] .*(I/O error|failed to convert|lost async page write)", line)
