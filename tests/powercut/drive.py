@@ -1,8 +1,9 @@
 """A drive with a volatile write cache, as an NBD server in this process.
 
 What was written since the last flush is held by sectors, each with all its versions. When the current fails, each such sector is left as it was or
-as one of its versions. The file system's own blocks alone are left whole: ext4 does not mount with a block of its journal that is new in some of its
-sectors. The drive chooses the moment itself, by its plan: at a write, at a flush, or when it is told to.
+as one of its versions. The file system's own blocks alone are left whole, old or new: with their sectors at will the kernel once called a transaction
+of ext4's journal corrupt, and it is not ext4 that is tested. The drive chooses the moment itself, by its plan: at a write, at a flush, or when it is
+told to.
 """
 
 import socket
