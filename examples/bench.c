@@ -157,7 +157,7 @@ int main(int argc, char **argv)
     unsigned last;
     if (argc == 2 && strcmp(argv[1], "--help") == 0)
         return usage(stdout, DONE);
-    if (argc < 2 || argc > 4 || steps < 0 || pause < 0)
+    if (argc < 2 || argc > 4 || argv[1][0] == '-' || steps < 0 || pause < 0)
         return usage(stderr, BAD_USAGE);
     need(&f, lup_file_open(&f, argv[1]));
     tell_opened(&f);
@@ -168,5 +168,9 @@ int main(int argc, char **argv)
             need(&f, lup_file_checkpoint(&f));
     }
     lup_file_close(&f);
+    if (fflush(stdout) != 0 || ferror(stdout)) {
+        fprintf(stderr, "bench: what it has to tell can't be written\n");
+        return FAILED;
+    }
     return DONE;
 }

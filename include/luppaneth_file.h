@@ -10,7 +10,7 @@
  *
  * Each call returns 0 for done, a luppaneth_number where the store refuses, or a number below 0 (luppaneth.h); lup_file_error then has the text.
  * After an error of the file or its drive in flush or checkpoint, and from the rename on in renew, the handle is poisoned: every call but lup_file_close
- * answers LUP_POISONED. What was reported as flushed is kept; close, and open again to learn which of the other bookings are.
+ * answers LUP_POISONED, and f->store is emptied. What was reported as flushed is kept; close, and open again to learn which of the other bookings are.
  * Threads: as luppaneth.h says of a store. For Linux. C99 or newer, or C++. */
 #ifndef LUPPANETH_FILE_H
 #define LUPPANETH_FILE_H
@@ -20,6 +20,11 @@
 #ifdef __cplusplus
 extern "C" {
 #endif
+
+/* The calls that a program begins with have the version's number in their names for the linker, as lup_init sees to it in luppaneth.h. */
+#define lup_file_open LUPPANETH_NUMBERED(lup_file_open_, LUPPANETH_VERSION)
+#define lup_file_look LUPPANETH_NUMBERED(lup_file_look_, LUPPANETH_VERSION)
+#define lup_file_check LUPPANETH_NUMBERED(lup_file_check_, LUPPANETH_VERSION)
 
 #define LUP_FILE_PATH_LEN 4096
 #define LUP_FILE_TEXT_LEN (LUP_FILE_PATH_LEN + 256)
@@ -79,7 +84,8 @@ int lup_file_checkpoint(struct lup_file *f);
 
 /* For when the log is full (LUPPANETH_LOG_FULL; lup_log_left(&f->store) tells in time): makes FILE.renew, a fresh disk with all that is booked, durable, and
  * renames it over FILE. What runs is given up; ids and commit numbers start anew. After an error that does not poison, the old file goes on. A FILE.renew
- * that a killed renew has left is made fresh; anything else of that name is an error and stays. */
+ * that a killed renew has left (empty, or no image and at most its eight bookings) is made fresh; anything else of that name is an error and stays. A
+ * file with a second name (a hard link) is not renewed, since that name would stay with the old one. f->found and f->torn stay those of the opening. */
 int lup_file_renew(struct lup_file *f);
 
 /* Closes, and drops the lock. Flushes nothing. Of a handle that is not open nothing is done; then it has to be zeroed, or one that was open. */
@@ -88,7 +94,7 @@ void lup_file_close(struct lup_file *f);
 /* What went wrong in the last call that was not done, with the file's name. */
 const char *lup_file_error(const struct lup_file *f);
 
-/* Reads a disk into f->store.disk, for lup_read_page, lup_outcomes and lup_first_groups on &f->store. The file is only read, under a shared lock, and closed
+/* Of a handle that is not open. Reads a disk into f->store.disk, for lup_read_page, lup_outcomes and lup_first_groups on &f->store. The file is only read, under a shared lock, and closed
  * again; it is never made. */
 int lup_file_look(struct lup_file *f, const char *path);
 

@@ -15,7 +15,8 @@
 #include <sys/stat.h>
 #include <unistd.h>
 
-enum { SECTOR = 512, TORN_FILES = 64, TRIES = 64 };
+/* RENEWED: the bookings that carry a pattern over. */
+enum { SECTOR = 512, TORN_FILES = 64, TRIES = 64, RENEWED = 8 };
 
 /* A handle's state. A zeroed one is closed; one that is being opened answers nothing yet. */
 enum { CLOSED = 0, OPEN = 1, POISONED = 2 };
@@ -49,10 +50,14 @@ static int answered(struct lup_file *f, const char *call, int answer)
     return answer == 0 ? 0 : wrong(f, answer, "%s: number %d: %s", call, answer, lup_text(answer));
 }
 
-/* The file may have less than f->store holds, so nothing more is answered from it. */
+/* The file may have less than f->store holds, so nothing more is answered from it: emptied, f->store refuses every call by number 2 and tells of no
+ * booking as durable. */
 static int poison(struct lup_file *f, const char *what)
 {
+    int failed = errno;
     f->state = POISONED;
+    lup_init(&f->store);
+    errno = failed;
     return wrong(f, LUP_FILE_FAILED, "%s: %s; what was reported as flushed is kept; open the store again to learn which of the others are", what,
                  strerror(errno));
 }
@@ -176,17 +181,25 @@ static int is_no_file(struct lup_file *f, mode_t mode)
     return wrong(f, LUP_NO_DISK, "it is %s, and a disk is a regular file", kind);
 }
 
-/* Whether the path names the file that is open. Then f->path is its real path, so that a symlink or a later chdir does no harm. */
-static bool is_named(struct lup_file *f, const char *path)
+static bool same_file(const struct stat *a, const struct stat *b)
+{
+    return a->st_dev == b->st_dev && a->st_ino == b->st_ino;
+}
+
+/* 0 if the path names the file that is open, AGAIN if it names another or none by now. Then f->path is its real path, so that a symlink or a later chdir
+ * does no harm. */
+static int is_named(struct lup_file *f, const char *path)
 {
     char real[LUP_FILE_PATH_LEN];
     struct stat open_one, named;
-    if (realpath(path, real) == NULL || fstat(f->file, &open_one) != 0 || stat(real, &named) != 0)
-        return false;
-    if (open_one.st_dev != named.st_dev || open_one.st_ino != named.st_ino)
-        return false;
+    if (fstat(f->file, &open_one) != 0)
+        return system_failed(f, "fstat");
+    if (realpath(path, real) == NULL || stat(real, &named) != 0)
+        return errno == ENOENT ? AGAIN : system_failed(f, "its real path");
+    if (!same_file(&open_one, &named))
+        return AGAIN;
     strcpy(f->path, real);
-    return true;
+    return 0;
 }
 
 /* A lock by flock belongs to this opening of the file: it keeps out another one in the same process, and a close of that one does not drop it. */
@@ -203,7 +216,7 @@ static int open_once(struct lup_file *f, const char *path, int flags, int lock)
         return is_no_file(f, found.st_mode);
     if (flock(f->file, lock | LOCK_NB) != 0)
         return errno == EWOULDBLOCK ? wrong(f, LUP_TAKEN, "somebody else has it open") : system_failed(f, "flock");
-    return is_named(f, path) ? 0 : AGAIN;
+    return is_named(f, path);
 }
 
 /* Between the opening and the lock somebody may have renewed the store, which puts another file in its place: the lock on the old one keeps nobody out. */
@@ -217,12 +230,17 @@ static int open_locked(struct lup_file *f, const char *path, int flags, int lock
     return answer == AGAIN ? wrong(f, LUP_TAKEN, "it is another file each time it is opened") : answer;
 }
 
-/* f->store.disk is all zero. The length comes in one step, so that no short file is left; then zeros, so that the room is there. */
+/* f->store.disk is all zero. The length comes in one step, so that no short file is left; then zeros, so that the room is there. Where it isn't, the file is
+ * empty again, to be made anew. */
 static int make_fresh(struct lup_file *f)
 {
-    if (ftruncate(f->file, LUPPANETH_DISK_LEN) != 0 || put(f->file, f->store.disk, 0, LUPPANETH_DISK_LEN) != 0)
-        return -1;
-    return synced(fsync, f->file);
+    int failed;
+    if (ftruncate(f->file, LUPPANETH_DISK_LEN) == 0 && put(f->file, f->store.disk, 0, LUPPANETH_DISK_LEN) == 0 && synced(fsync, f->file) == 0)
+        return 0;
+    failed = errno;
+    if (ftruncate(f->file, 0) == 0)
+        errno = failed;
+    return -1;
 }
 
 static int load(struct lup_file *f)
@@ -306,8 +324,10 @@ static bool has_torn(struct lup_file *f)
 {
     unsigned char *copy = malloc(LUPPANETH_DISK_LEN);
     int file = open(f->torn, O_RDWR | O_NONBLOCK | O_NOFOLLOW | O_CLOEXEC);
-    struct stat found;
-    bool same = copy != NULL && file >= 0 && fstat(file, &found) == 0 && found.st_size == LUPPANETH_DISK_LEN && get(file, copy, LUPPANETH_DISK_LEN) == 0 &&
+    struct stat found, open_one;
+    /* not the file itself under a second name */
+    bool other = file >= 0 && fstat(file, &found) == 0 && fstat(f->file, &open_one) == 0 && !same_file(&found, &open_one);
+    bool same = copy != NULL && other && found.st_size == LUPPANETH_DISK_LEN && get(file, copy, LUPPANETH_DISK_LEN) == 0 &&
                 memcmp(copy, f->store.disk, LUPPANETH_DISK_LEN) == 0 && put(file, copy, 0, LUPPANETH_DISK_LEN) == 0 && synced(fsync, file) == 0;
     free(copy);
     shut(file);
@@ -520,27 +540,56 @@ int lup_file_checkpoint(struct lup_file *f)
 
 /* ---- renewing */
 
-/* FILE.renew, locked. There may be one that a killed renew left: a disk without an image, or still empty. Nothing else is written over. */
+/* 0 if a killed renew may have left next's file: empty, or a disk with no image and no more than what a renew books. */
+static int left_by_renew(struct lup_file *next)
+{
+    const size_t group = 8 + LUPPANETH_MAX_WRITES * (7 + LUPPANETH_MAX_WRITE);
+    const unsigned char *disk = next->store.disk;
+    struct stat found;
+    int answer;
+    if (fstat(next->file, &found) != 0)
+        return system_failed(next, "fstat");
+    if (found.st_size == 0)
+        return 0;
+    answer = load(next);
+    if (answer == LUP_FILE_FAILED)
+        return answer;
+    if (answer == 0 && find(next) == 0 && next->found.durable <= RENEWED && next->found.last_id <= RENEWED && lup_used(disk, LUPPANETH_LOG) == 0 &&
+        lup_used(disk + LUPPANETH_LOG, LUPPANETH_LOG_LEN) <= RENEWED * group)
+        return 0;
+    return wrong(next, LUP_NO_DISK, "it is there, and no renew has left it");
+}
+
+/* For those who may use the old one, and nobody else: an owner and a group that can't be given get nothing. */
+static int give_rights(int file, const struct stat *old)
+{
+    mode_t mode = old->st_mode & 0777;
+    if (fchown(file, old->st_uid, old->st_gid) != 0 && fchown(file, (uid_t)-1, old->st_gid) != 0)
+        mode &= ~(mode_t)S_IRWXG;
+    return fchmod(file, mode);
+}
+
+/* FILE.renew, locked. What a killed renew left is made fresh; nothing else is written over. */
 static int open_renewed(struct lup_file *next, const struct lup_file *f)
 {
     char path[LUP_FILE_PATH_LEN + 8];
-    unsigned char first = 0;
-    struct stat old, found;
+    struct stat old;
     int answer;
     snprintf(path, sizeof path, "%s.renew", f->path);
     answer = begin(next, path);
-    if (answer == 0)
-        answer = open_locked(next, path, O_RDWR | O_CREAT | O_NOFOLLOW, LOCK_EX);
     if (answer != 0)
         return answer;
-    if (fstat(f->file, &old) != 0 || fstat(next->file, &found) != 0 || (found.st_size != 0 && get(next->file, &first, 1) != 0))
-        return system_failed(next, "read");
-    if ((found.st_size != 0 && found.st_size != LUPPANETH_DISK_LEN) || first != 0)
-        return wrong(next, LUP_NO_DISK, "it is there, and no renew has left it");
-    /* for those who may use the old one; where it is not ours to give away it stays ours */
-    if (fchown(next->file, old.st_uid, old.st_gid) != 0)
-        errno = 0;
-    if (fchmod(next->file, old.st_mode & 07777) != 0 || make_fresh(next) != 0)
+    if (fstat(f->file, &old) != 0)
+        return system_failed(next, "fstat");
+    if (old.st_nlink > 1)
+        return wrong(next, LUP_FILE_FAILED, "%s has a second name (a hard link), which would stay with the old file", f->path);
+    answer = open_locked(next, path, O_RDWR | O_CREAT | O_NOFOLLOW, LOCK_EX);
+    if (answer == 0)
+        answer = left_by_renew(next);
+    if (answer != 0)
+        return answer;
+    memset(next->store.disk, 0, LUPPANETH_DISK_LEN);
+    if (give_rights(next->file, &old) != 0 || make_fresh(next) != 0)
         return system_failed(next, "making a fresh disk");
     return 0;
 }
@@ -560,7 +609,7 @@ static int fill_renewed(struct lup_file *next, const struct lup_file *f)
  * same, and then the old file has no name any more: what is booked on it would be lost. */
 static int rename_renewed(struct lup_file *next, struct lup_file *f)
 {
-    if (!is_named(f, f->path))
+    if (is_named(f, f->path) != 0)
         return wrong(next, LUP_FILE_FAILED, "rename: %s is no longer the file that is open", f->path);
     return rename(next->path, f->path) == 0 ? 0 : poison(f, "rename of the renewed file");
 }

@@ -303,7 +303,13 @@ static void test_renew(void)
     memset(bytes, 'x', sizeof bytes);
     bytes[0] = 0;
     make_file("renewed.renew", bytes, sizeof bytes);
-    expect(lup_file_renew(&f) == 0 && f.store.memory[5] == 'a' && f.store.memory[9] == 'e', "a renew over a half-made disk");
+    renew_is_hindered("somebody else's bytes that are in the way");
+    expect(has("renewed.renew", bytes, sizeof bytes), "they are as they were");
+    memset(bytes, 0, sizeof bytes);
+    memset(bytes + LUPPANETH_LOG, 'x', 100);
+    make_file("renewed.renew", bytes, sizeof bytes);
+    expect(link("renewed", "second") == 0 && lup_file_renew(&f) == LUP_FILE_FAILED && says(&f, "second name"), "a file with a second name");
+    expect(unlink("second") == 0 && lup_file_renew(&f) == 0 && f.store.memory[5] == 'a' && f.store.memory[9] == 'e', "a renew over a half-made disk");
     lup_file_close(&f);
     expect(stat("renewed", &found) == 0 && (found.st_mode & 0777) == 0600, "a renew keeps the mode");
     expect(lup_file_open(&f, "renewed") == 0 && f.found.durable == 8 && f.found.cleared == 0 && f.store.memory[9] == 'e', "what a renew leaves");

@@ -43,9 +43,8 @@ fn booked(store: &Store<FileDevice>) -> Result<usize, luppaneth::Error> {
         .count())
 }
 
-fn run() -> Result<(), Box<dyn Error>> {
-    let path = env::args().nth(1).ok_or("usage: bench FILE")?;
-    let mut store = Store::open(FileDevice::open(&path)?)?;
+fn run(path: &str) -> Result<(), Box<dyn Error>> {
+    let mut store = Store::open(FileDevice::open(path)?)?;
     if store.found().cleared > 0 {
         // What a power cut in the middle of a flush leaves; if it is much, somebody should look at the copy.
         println!(
@@ -81,7 +80,20 @@ fn run() -> Result<(), Box<dyn Error>> {
 }
 
 fn main() -> ExitCode {
-    match run() {
+    const USAGE: &str =
+        "usage: bench FILE: books a step every half second, and goes on where it was";
+    let path = match &env::args().skip(1).collect::<Vec<_>>()[..] {
+        [help] if help == "--help" => {
+            println!("{USAGE}");
+            return ExitCode::SUCCESS;
+        }
+        [path] if !path.starts_with('-') => path.clone(),
+        _ => {
+            eprintln!("{USAGE}");
+            return ExitCode::from(2);
+        }
+    };
+    match run(&path) {
         Ok(()) => ExitCode::SUCCESS,
         Err(error) => {
             // What is wrong, and what helps.

@@ -3,12 +3,12 @@
 use std::error;
 use std::ffi::OsString;
 use std::fmt;
-use std::fs::{self, File, Metadata, OpenOptions, TryLockError};
+use std::fs::{self, File, Metadata, OpenOptions, Permissions, TryLockError};
 use std::io::{self, ErrorKind};
-use std::os::unix::fs::{fchown, FileExt, MetadataExt};
+use std::os::unix::fs::{fchown, FileExt, MetadataExt, OpenOptionsExt, PermissionsExt};
 use std::path::{Path, PathBuf};
 
-use crate::calls::{Disk, DISK_LEN, POINTER};
+use crate::calls::{Csn, Disk, TxId, DISK_LEN, LOG_START};
 use crate::device::{zeros, Device};
 use crate::error::Error;
 use crate::store::Store;
@@ -105,8 +105,6 @@ impl FileDevice {
             device.make_fresh()?;
         }
         device.has_length()?;
-        // Each time: the process that created the file may not have come to this, or failed in it.
-        sync_directory(&device.path)?;
         Ok(device)
     }
 
@@ -160,6 +158,7 @@ impl FileDevice {
     /// # }
     /// ```
     pub fn renew(store: &mut Store<FileDevice>) -> Result<(), Error> {
+        store.durable()?;
         let path = store.device().path.clone();
         let fresh = store.device().successor()?;
         let over = fresh.path.clone();
@@ -184,38 +183,58 @@ impl FileDevice {
         let path = with_ending(&self.path, ".renew");
         let mut options = OpenOptions::new();
         options.read(true).write(true).create(true).truncate(false);
-        let linked = path.is_symlink();
-        let device = FileDevice::locked(&path, &options, false)?.keep_torn(self.keep_torn);
-        if linked || !device.left_by_a_renewal()? {
-            let text = "it is in the way of a renewal and not left by one; move it away";
-            return Err(wrong(&path, ErrorKind::AlreadyExists, text));
-        }
         let old = self
             .file
             .metadata()
             .map_err(failed(&self.path, "looking at it"))?;
-        // Where it is not ours to give away, it stays ours.
-        let _ = fchown(&device.file, Some(old.uid()), Some(old.gid()));
-        let allowed = device.file.set_permissions(old.permissions());
+        if old.nlink() > 1 {
+            let text = "it has a second name (a hard link), which would stay with the old file";
+            return Err(wrong(&self.path, ErrorKind::InvalidInput, text));
+        }
+        let linked = path.is_symlink();
+        let mut device = FileDevice::locked(&path, &options, false)?.keep_torn(self.keep_torn);
+        if linked || !device.left_by_a_renewal()? {
+            let text = "it is in the way of a renewal and not left by one; move it away";
+            return Err(wrong(&path, ErrorKind::AlreadyExists, text));
+        }
+        let allowed = device.give_rights(&old);
         allowed.map_err(failed(&path, "making it"))?;
         device.make_fresh()?;
         Ok(device)
     }
 
-    /// Empty, or a disk without an image: a renewal that was killed leaves no other.
-    fn left_by_a_renewal(&self) -> io::Result<bool> {
-        let len = self.len()?;
-        let mut pointer = [0];
-        if len > 0 {
-            let read = self.file.read_exact_at(&mut pointer, POINTER as u64);
-            read.map_err(failed(&self.path, "reading"))?;
+    /// Empty, or a disk with no image and no more than what a renewal books: one that was killed leaves no other.
+    fn left_by_a_renewal(&mut self) -> io::Result<bool> {
+        const BOOKED: usize = 8 * (8 + 16 * (7 + 32));
+        if self.len()? == 0 {
+            return Ok(true);
         }
-        Ok(len == 0 || len == DISK_LEN as u64 && pointer == [0])
+        if self.has_length().is_err() {
+            return Ok(false);
+        }
+        let mut disk = zeros();
+        self.load(&mut disk)?;
+        let zero = |bytes: &[u8]| bytes.iter().all(|&byte| byte == 0);
+        let few = Store::check(self)
+            .is_ok_and(|found| found.durable <= Csn(8) && found.last_id <= TxId(8));
+        Ok(few && zero(&disk[..LOG_START]) && zero(&disk[LOG_START + BOOKED..]))
+    }
+
+    /// For those who may use the old file, and nobody else: an owner and a group that can't be given get nothing.
+    fn give_rights(&self, old: &Metadata) -> io::Result<()> {
+        let mut mode = old.mode() & 0o777;
+        let given = fchown(&self.file, Some(old.uid()), Some(old.gid()))
+            .or_else(|_| fchown(&self.file, None, Some(old.gid())));
+        if given.is_err() {
+            mode &= !0o070;
+        }
+        self.file.set_permissions(Permissions::from_mode(mode))
     }
 
     /// Somebody may have given its name to another file, which is not ours to replace.
     fn has_its_name(&self) -> io::Result<()> {
-        if !leads_to(&self.path, &self.file)? {
+        // A link in its place is another name.
+        if self.path.is_symlink() || !leads_to(&self.path, &self.file)? {
             let text = "it is no longer the file that is open";
             return Err(wrong(&self.path, ErrorKind::NotFound, text));
         }
@@ -265,8 +284,12 @@ impl FileDevice {
     fn make_fresh(&self) -> io::Result<()> {
         let made = self.file.set_len(DISK_LEN as u64);
         let made = made.and_then(|()| self.file.write_all_at(&*zeros::<DISK_LEN>(), 0));
-        made.and_then(|()| self.file.sync_all())
-            .map_err(failed(&self.path, "making it"))
+        let made = made.and_then(|()| self.file.sync_all());
+        made.map_err(|error| {
+            // Empty again, to be made anew, and no disk without room.
+            let _ = self.file.set_len(0);
+            failed(&self.path, "making it")(error)
+        })
     }
 
     fn write(&self, at: usize, bytes: &[u8]) -> io::Result<()> {
@@ -287,7 +310,7 @@ impl FileDevice {
         };
         let taken = (0..COPIES).take_while(|&number| name(number).symlink_metadata().is_ok());
         let free = taken.count();
-        if free > 0 && fs::read(name(free - 1)).is_ok_and(|bytes| bytes == disk) {
+        if free > 0 && self.has_copy(&name(free - 1), disk) {
             // Its bytes may be in the kernel's memory alone.
             return kept(name(free - 1), OpenOptions::new().write(true), disk);
         }
@@ -295,11 +318,26 @@ impl FileDevice {
             let text = format!("{COPIES} torn disks are kept beside it already");
             return Err(wrong(&self.path, ErrorKind::AlreadyExists, text));
         }
-        kept(
-            name(free),
-            OpenOptions::new().write(true).create_new(true),
-            disk,
-        )
+        let found = self.file.metadata();
+        let mode = found.map_err(failed(&self.path, "looking at it"))?.mode() & 0o777;
+        let mut options = OpenOptions::new();
+        options.write(true).create_new(true).mode(mode);
+        let copy = name(free);
+        kept(copy.clone(), &options, disk).inspect_err(|error| {
+            // Half a copy would be taken for one; what was there before is not ours.
+            if error.kind() != ErrorKind::AlreadyExists {
+                let _ = fs::remove_file(&copy);
+            }
+        })
+    }
+
+    /// Whether a file beside this one has these bytes: a regular one, and not this one under a second name.
+    fn has_copy(&self, copy: &Path, disk: &Disk) -> bool {
+        let named = copy.symlink_metadata().ok();
+        let regular = named.filter(|found| found.is_file() && found.len() == DISK_LEN as u64);
+        regular.is_some()
+            && leads_to(copy, &self.file).is_ok_and(|same| !same)
+            && fs::read(copy).is_ok_and(|bytes| bytes == disk)
     }
 }
 
@@ -365,6 +403,11 @@ fn sync_directory(path: &Path) -> io::Result<()> {
 
 impl Device for FileDevice {
     fn load(&mut self, disk: &mut Disk) -> io::Result<()> {
+        if !self.looking {
+            // At each opening: who made the file, or renamed it, may not have come to this, or failed in it.
+            self.has_its_name()?;
+            sync_directory(&self.path)?;
+        }
         let read = self.file.read_exact_at(disk, 0);
         read.map_err(failed(&self.path, "reading"))
     }

@@ -518,7 +518,7 @@ impl<D: Device> Store<D> {
         const PART: usize = WRITE_MAX * WRITES_MAX;
         let pattern = self.pattern()?;
         let mut store = Store::open(fresh)?;
-        if store.durable()? != Csn(0) {
+        if nonzero(&*store.working.disk) + store.found.cleared != 0 {
             return Err(Error::NotFresh);
         }
         for part in (0..MEMORY_LEN).step_by(PART) {

@@ -288,6 +288,81 @@ fn a_renewal_takes_over_what_a_killed_one_left_and_nothing_else() {
     assert_eq!(open(&path).unwrap().read(0, 4).unwrap(), b"blue");
 }
 
+/// A device that is opened again after a failure: what is booked in a file that has no name any more would be lost.
+#[test]
+fn a_device_without_its_name_is_not_opened_again() {
+    let path = path("nameless");
+    let store = open(&path).unwrap();
+    fs::rename(&path, beside(&path, ".away")).unwrap();
+    for link in [false, true] {
+        if link {
+            symlink("disk.away", &path).unwrap();
+        }
+        let mut device = FileDevice::open(beside(&path, ".other")).unwrap();
+        assert!(Store::check(&mut device).is_ok());
+        fs::rename(beside(&path, ".other"), beside(&path, ".third")).unwrap();
+        let error = Store::open(device).unwrap_err();
+        assert!(error.to_string().contains("no longer the file"), "{error}");
+    }
+    let error = Store::open(store.into_device()).unwrap_err();
+    assert!(error.to_string().contains("no longer the file"), "{error}");
+}
+
+#[test]
+fn a_file_with_a_second_name_is_not_renewed() {
+    let path = path("linked");
+    let mut store = open(&path).unwrap();
+    fs::hard_link(&path, beside(&path, ".second")).unwrap();
+    let error = FileDevice::renew(&mut store).unwrap_err();
+    assert!(error.to_string().contains("second name"), "{error}");
+    fs::remove_file(beside(&path, ".second")).unwrap();
+    FileDevice::renew(&mut store).unwrap();
+}
+
+/// Another store under the name that a renewal takes: with an image, or with more than a renewal books.
+#[test]
+fn a_renewal_leaves_another_store_alone() {
+    let path = path("another");
+    let mut store = open(&path).unwrap();
+    let renew = beside(&path, ".renew");
+    for image in [true, false] {
+        let mut other = open(&renew).unwrap();
+        for _ in 0..9 {
+            other.book(|tx| tx.write(0, b"ruby")).unwrap();
+            other.flush().unwrap();
+        }
+        if image {
+            other.checkpoint().unwrap();
+        }
+        drop(other);
+        let bytes = fs::read(&renew).unwrap();
+        assert!(FileDevice::renew(&mut store).is_err());
+        assert_eq!(fs::read(&renew).unwrap(), bytes);
+        fs::remove_file(&renew).unwrap();
+    }
+}
+
+/// What stands under the copy's name may be anything: an opening neither waits for it, nor takes it for the copy, nor writes over it.
+#[test]
+fn a_copy_is_a_file_of_its_own() {
+    let path = path("copies");
+    fs::write(&path, torn_disk()).unwrap();
+    fs::set_permissions(&path, fs::Permissions::from_mode(0o600)).unwrap();
+    let torn = beside(&path, ".torn");
+    assert!(Command::new("mkfifo")
+        .arg(&torn)
+        .status()
+        .unwrap()
+        .success());
+    fs::hard_link(&path, beside(&path, ".torn.1")).unwrap();
+    symlink("disk", beside(&path, ".torn.2")).unwrap();
+    let store = open(&path).unwrap();
+    assert!(matches!(store.device().torn(), Torn::Kept(copy) if copy.ends_with("disk.torn.3")));
+    let copy = beside(&path, ".torn.3");
+    assert_eq!(fs::read(&copy).unwrap(), torn_disk());
+    assert_eq!(fs::metadata(&copy).unwrap().mode() & 0o777, 0o600);
+}
+
 /// Somebody who opens while another renews gets the file that the path leads to, or is told that it is taken.
 #[test]
 fn openings_beside_renewals_lose_nothing() {
