@@ -13,6 +13,7 @@
 #include <stdlib.h>
 #include <sys/file.h>
 #include <sys/stat.h>
+#include <time.h>
 #include <unistd.h>
 
 /* RENEWED: the bookings that carry a pattern over. */
@@ -202,6 +203,19 @@ static int is_named(struct lup_file *f, const char *path)
     return 0;
 }
 
+/* Waits a little, a tenth of a second in all, for somebody who only looks, or for a child that was just forked and has not closed yet what it took over. */
+static int locked(int file, int lock)
+{
+    const struct timespec pause = {0, 5000000};
+    int tries = 20;
+    int answer = flock(file, lock);
+    for (; answer != 0 && (errno == EWOULDBLOCK || errno == EINTR) && tries > 0; tries--) {
+        nanosleep(&pause, NULL);
+        answer = flock(file, lock);
+    }
+    return answer;
+}
+
 /* A lock by flock belongs to this opening of the file: it keeps out another one in the same process, and a close of that one does not drop it. */
 static int open_once(struct lup_file *f, const char *path, int flags, int lock)
 {
@@ -214,7 +228,7 @@ static int open_once(struct lup_file *f, const char *path, int flags, int lock)
         return system_failed(f, "fstat");
     if (!S_ISREG(found.st_mode))
         return is_no_file(f, found.st_mode);
-    if (flock(f->file, lock | LOCK_NB) != 0)
+    if (locked(f->file, lock | LOCK_NB) != 0)
         return errno == EWOULDBLOCK ? wrong(f, LUP_TAKEN, "somebody else has it open") : system_failed(f, "flock");
     return is_named(f, path);
 }

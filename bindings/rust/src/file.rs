@@ -7,6 +7,8 @@ use std::fs::{self, File, Metadata, OpenOptions, Permissions, TryLockError};
 use std::io::{self, ErrorKind};
 use std::os::unix::fs::{fchown, FileExt, MetadataExt, OpenOptionsExt, PermissionsExt};
 use std::path::{Path, PathBuf};
+use std::thread;
+use std::time::Duration;
 
 use crate::calls::{Csn, Disk, TxId, DISK_LEN, LOG_START};
 use crate::device::{zeros, Device};
@@ -18,6 +20,9 @@ const SECTOR: usize = 512;
 
 /// Copies of torn disks that are kept beside a file.
 const COPIES: usize = 64;
+
+/// How often a lock that somebody else has is asked for again.
+const PATIENCE: usize = 20;
 
 /// A disk in a regular file of 33,691 bytes, locked (`flock`) while it is open.
 ///
@@ -364,15 +369,27 @@ fn is_regular(path: &Path, found: &Metadata) -> io::Result<()> {
     }
 }
 
+/// Waits a little for somebody who only looks, or for a process that was just started and has not closed yet what it took over.
 fn lock(file: &File, path: &Path, looking: bool) -> io::Result<()> {
-    let locked = match looking {
-        true => file.try_lock_shared(),
-        false => file.try_lock(),
-    };
-    locked.map_err(|error| match error {
-        TryLockError::WouldBlock => wrong(path, ErrorKind::WouldBlock, "somebody else has it open"),
-        TryLockError::Error(error) => failed(path, "flock")(error),
-    })
+    let mut patience = PATIENCE;
+    loop {
+        let locked = match looking {
+            true => file.try_lock_shared(),
+            false => file.try_lock(),
+        };
+        match locked {
+            Ok(()) => return Ok(()),
+            Err(TryLockError::Error(error)) => return Err(failed(path, "flock")(error)),
+            Err(TryLockError::WouldBlock) if patience == 0 => {
+                let text = "somebody else has it open";
+                return Err(wrong(path, ErrorKind::WouldBlock, text));
+            }
+            Err(TryLockError::WouldBlock) => {
+                patience -= 1;
+                thread::sleep(Duration::from_millis(5));
+            }
+        }
+    }
 }
 
 /// Whether the path still leads to this file. Between its opening and its locking somebody may have renamed another over it, as a renewal does;
