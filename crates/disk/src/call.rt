@@ -1,11 +1,11 @@
 // The call that takes no state: restart.
 use crate::examine::examine;
-use layout::DISK_LEN;
 use layout::LOG_LEN;
-use layout::LOG_START;
 use layout::MAX_TXS;
 use layout::MEMORY_LEN;
 use layout::TAIL_LEN;
+use layout::geometry::disk_ok;
+use layout::geometry::log_at;
 use log::Csn;
 use log::TxId;
 use log::stop::Stop;
@@ -95,7 +95,7 @@ pub fn restart(disk: &mut [u8], memory: &mut [u8], tail: &mut [u8], allowed: usi
     ensures { λ _. ⌜ now (tail .exit) ≡ restartOf (now (disk .entry)) (now (memory .entry)) (now (tail .entry)) allowed .tail ⌝ }
     ensures { λ r. ⌜ r .stop ≡ stoppedOf (now (disk .entry)) (now (memory .entry)) (now (tail .entry)) allowed ⌝ }
 {
-    if disk.len() != DISK_LEN {
+    if !disk_ok(disk.len()) {
         return refused(1);
     }
     if memory.len() != MEMORY_LEN {
@@ -109,7 +109,9 @@ pub fn restart(disk: &mut [u8], memory: &mut [u8], tail: &mut [u8], allowed: usi
         return refused(found.number);
     }
     let end = found.end;
-    let cleared = clear_log(&mut disk[LOG_START..LOG_START + LOG_LEN], end, allowed);
+    let area = found.area;
+    let log = log_at(area);
+    let cleared = clear_log(&mut disk[log..log + LOG_LEN], end, allowed);
     let made = cleared.made;
     let stop = cleared.stop;
     if made < LOG_LEN - end {
