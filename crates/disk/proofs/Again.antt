@@ -33,18 +33,18 @@ use Rattle.disk.proofs.Restarting.{cutFrom, doneFrom, restart-meant, re
 
 -- what the first n stores of a clearing leave of the log: the front as it was, and zeros
 pub cleared : (n end : ℕ) (disk : List ℕ) → length disk ≡ 33691 → end ≤ 16384
-    → logPart (apply (take n (clearing end)) disk) ≡ take (end + (16384 - end - n)) (logPart disk) ++ replicate (16384 - end - (16384 - end - n)) 0
+    → logPart 0 (apply (take n (clearing end)) disk) ≡ take (end + (16384 - end - n)) (logPart 0 disk) ++ replicate (16384 - end - (16384 - end - n)) 0
 cleared n end disk d h =
     let low = end + (16384 - end - n) in
     let k = 16384 - end - (16384 - end - n) in
     let l = log-length disk d in
-    let r : drop (low + k) (logPart disk) ≡ [] = drop-of-length-le (logPart disk) {i = low + k} (omega arith) in
-    ap (λ (ss : List Store). logPart (apply (take n ss) disk)) (clears-moved 17307 end (16384 - end))
+    let r : drop (low + k) (logPart 0 disk) ≡ [] = drop-of-length-le (logPart 0 disk) {i = low + k} (omega arith) in
+    ap (λ (ss : List Store). logPart 0 (apply (take n ss) disk)) (clears-moved 17307 end (16384 - end))
     ∙ part-first 17307 16384 n (clears end (16384 - end)) disk
-    ∙ ap (λ (ss : List Store). apply ss (logPart disk)) (first-clears n end (16384 - end))
-    ∙ apply-clears low k (logPart disk) (omega arith)
-    ∙ ap (λ (x : List ℕ). take low (logPart disk) ++ (replicate k 0 ++ x)) r
-    ∙ ap (λ (x : List ℕ). take low (logPart disk) ++ x) (append-nil (replicate k 0))
+    ∙ ap (λ (ss : List Store). apply ss (logPart 0 disk)) (first-clears n end (16384 - end))
+    ∙ apply-clears low k (logPart 0 disk) (omega arith)
+    ∙ ap (λ (x : List ℕ). take low (logPart 0 disk) ++ (replicate k 0 ++ x)) r
+    ∙ ap (λ (x : List ℕ). take low (logPart 0 disk) ++ x) (append-nil (replicate k 0))
 
 -- and the rest of the disk open-is as before
 pub cleared-alike : (n end : ℕ) (disk : List ℕ) → end ≤ 16384 → OpenAlike (apply (take n (clearing end)) disk) disk
@@ -96,14 +96,14 @@ module _ (disk : List ℕ) (d : length disk ≡ 33691) (a : Accepted disk) where
       let size = groups-size in
       let l = log-length disk d in
       let gs = groupsOf (imageIn disk) (logIn disk) in
-      let log : logIn disk ≡ drop i (logPart disk) = opened-log disk (a .opened) in
-      let torn : logIn left ≡ take (p - i) (drop i (logPart disk)) ++ replicate k 0 =
+      let log : logIn disk ≡ drop i (logPart 0 disk) = opened-log disk (a .opened) in
+      let torn : logIn left ≡ take (p - i) (drop i (logPart 0 disk)) ++ replicate k 0 =
       opened-log left (alike .number ∙ a .opened)
       ∙ ap (λ (x : Image). logFrom (x .logend) left) (alike .image)
       ∙ ap (drop i) (cleared n end disk d within)
-      ∙ torn-rest csn (logPart disk) p k i (omega arith) (omega arith) in
+      ∙ torn-rest csn (logPart 0 disk) p k i (omega arith) (omega arith) in
       ap (readLog csn) torn
-      ∙ log-torn csn gs (drop i (logPart disk)) (p - i) k (ap (readLog csn) (sym log))
+      ∙ log-torn csn gs (drop i (logPart 0 disk)) (p - i) k (ap (readLog csn) (sym log))
       ∙ fitting-all (p - i) gs (omega arith)
 
   pub means-again : (n : ℕ) → examineOf (apply (take n (clearing end)) disk) ≡ examineOf disk

@@ -10,6 +10,7 @@ use lib.Seq.{sets, take-take, drop-drop, length-take-le}
 use lib.Dec.{eqb}
 use borrow.Author.Tests.{ne-eqb}
 use Rattle.layout.specs.Parts.{imageAt, imagePart}
+use Rattle.layout.specs.declared.Form.the-variants.{One}
 use Rattle.log.proofs.RoundTrip.{drop-take}
 use Rattle.log.proofs.StoreLaws.{sets-all}
 use Rattle.log.proofs.Basics.{clash}
@@ -22,7 +23,7 @@ use Rattle.image.proofs.HeadLaws.{read-shows, read-image, blank-shows, blank-im
 use Rattle.disk.specs.Open.{noImage, imageNamed, loadOf}
 use Rattle.disk.specs.Heads.{headsNamed}
 
-pub slot-within : (pointer : ℕ) → imageAt pointer ≤ 8654
+pub slot-within : (pointer : ℕ) → imageAt One pointer ≤ 8654
 slot-within pointer = go (eqb pointer 1)
   where
     go : (b : Bool) → cond b 1 8654 ≤ 8654
@@ -65,16 +66,16 @@ memory-loaded slot disk memory h d m =
 
 -- the bytes of its transactions
 abbrev pub txsPart : ℕ → List ℕ → List ℕ
-txsPart pointer disk = take 4544 (drop (imageAt pointer + 4109) disk)
+txsPart pointer disk = take 4544 (drop (imageAt One pointer + 4109) disk)
 
-txs-part : (pointer : ℕ) (disk : List ℕ) → drop 4109 (imagePart pointer disk) ≡ txsPart pointer disk
-txs-part pointer disk = drop-take 4109 4544 (drop (imageAt pointer) disk) ∙ ap (take 4544) (drop-drop 4109 (imageAt pointer) disk)
+txs-part : (pointer : ℕ) (disk : List ℕ) → drop 4109 (imagePart One pointer disk) ≡ txsPart pointer disk
+txs-part pointer disk = drop-take 4109 4544 (drop (imageAt One pointer) disk) ∙ ap (take 4544) (drop-drop 4109 (imageAt One pointer) disk)
 
 pub heads-none : (pointer : ℕ) (disk : List ℕ) → pointer ≡ 0 → headsNamed pointer disk ≡ blankHeads true
 unfolding headsNamed
 heads-none pointer disk e = rw e
 
-pub heads-image : (pointer : ℕ) (disk : List ℕ) → (pointer ≡ 0 → ⊥) → headsNamed pointer disk ≡ headsOf (imagePart pointer disk)
+pub heads-image : (pointer : ℕ) (disk : List ℕ) → (pointer ≡ 0 → ⊥) → headsNamed pointer disk ≡ headsOf (imagePart One pointer disk)
 unfolding headsNamed
 heads-image pointer disk n = rw (ne-eqb pointer 0 n)
 
@@ -84,22 +85,22 @@ pub record Named (h : Heads) (s : List ℕ) (d : Decoded) : Type 0 where
   pub image : imageBy h s ≡ d .image
   pub ok : d .ok ≡ true
 
-read-named : (pointer : ℕ) (disk : List ℕ) (y : Option Content) → readImage (imagePart pointer disk) ≡ y → headsIf y .ok ≡ true
+read-named : (pointer : ℕ) (disk : List ℕ) (y : Option Content) → readImage (imagePart One pointer disk) ≡ y → headsIf y .ok ≡ true
     → Named (headsIf y) (txsPart pointer disk) (decodedOf y)
 unfolding blankHeads
 read-named pointer disk none q e = clash (cc)
 read-named pointer disk (some c) q e =
     subst (λ (s : List ℕ). Named (headsIn c) s (decodedOf (some c))) (txs-part pointer disk)
-    (record { shows = read-shows (imagePart pointer disk) c q; image = read-image (imagePart pointer disk) c q; ok = refl })
+    (record { shows = read-shows (imagePart One pointer disk) c q; image = read-image (imagePart One pointer disk) c q; ok = refl })
 
 pub named : (pointer : ℕ) (disk : List ℕ) → headsNamed pointer disk .ok ≡ true → Named (headsNamed pointer disk) (txsPart pointer disk) (loadOf pointer disk .decoded)
 unfolding headsNamed loadOf
 named pointer disk = go (eqb pointer 0)
   where
-    go : (b : Bool) → cond b (blankHeads true) (headsOf (imagePart pointer disk)) .ok ≡ true
-        → Named (cond b (blankHeads true) (headsOf (imagePart pointer disk))) (txsPart pointer disk) (cond b noImage (imageNamed pointer disk) .decoded)
+    go : (b : Bool) → cond b (blankHeads true) (headsOf (imagePart One pointer disk)) .ok ≡ true
+        → Named (cond b (blankHeads true) (headsOf (imagePart One pointer disk))) (txsPart pointer disk) (cond b noImage (imageNamed pointer disk) .decoded)
     go true e = record { shows = blank-shows (txsPart pointer disk); image = blank-image (txsPart pointer disk); ok = refl }
-    go false e = read-named pointer disk (readImage (imagePart pointer disk)) refl e
+    go false e = read-named pointer disk (readImage (imagePart One pointer disk)) refl e
 
 pub not-named : (pointer : ℕ) (disk : List ℕ) → headsNamed pointer disk .ok ≡ false → loadOf pointer disk .decoded .ok ≡ false
 unfolding headsNamed loadOf blankHeads notDecoded
@@ -109,6 +110,6 @@ not-named pointer disk = go (eqb pointer 0)
     unread none e = refl
     unread (some c) e = e
 
-    go : (b : Bool) → cond b (blankHeads true) (headsOf (imagePart pointer disk)) .ok ≡ false → cond b noImage (imageNamed pointer disk) .decoded .ok ≡ false
+    go : (b : Bool) → cond b (blankHeads true) (headsOf (imagePart One pointer disk)) .ok ≡ false → cond b noImage (imageNamed pointer disk) .decoded .ok ≡ false
     go true e = e
-    go false e = unread (readImage (imagePart pointer disk)) e
+    go false e = unread (readImage (imagePart One pointer disk)) e

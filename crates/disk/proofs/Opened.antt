@@ -9,6 +9,7 @@ use lib.Seq.{drop-drop, take-all, length-take-le}
 use lib.Dec.{eqb, ltb}
 use borrow.Author.Tests.{eq-eqb, ne-eqb, eqb-true, lt-ltb, le-ltb, ltb-true, ltb-false}
 use Rattle.layout.specs.Parts.{part, pointerOf, imageAt, imagePart, logPart}
+use Rattle.layout.specs.declared.Form.the-variants.{One}
 use Rattle.log.specs.Stores.{Store, apply}
 use Rattle.log.proofs.Basics.{clash}
 use Rattle.log.proofs.PartLaws.{moved, Within, outside-take, outside-within, part-outside, byte-same}
@@ -30,7 +31,7 @@ use Rattle.disk.proofs.Loading.{slot-within, txsPart, named, not-named}
 
 -- ---- the log
 
-pub log-length : (disk : List ℕ) → length disk ≡ 33691 → length (logPart disk) ≡ 16384
+pub log-length : (disk : List ℕ) → length disk ≡ 33691 → length (logPart 0 disk) ≡ 16384
 log-length disk d = length-take-le 16384 (drop 17307 disk) (rw (length-drop 17307 disk) (omega arith))
 
 -- a disk of its length ends with the log
@@ -115,7 +116,7 @@ loaded-keeps pointer disk = go (eqb pointer 0)
     go : (b : Bool) → cond b noImage (imageNamed pointer disk) .decoded .ok ≡ true
         → keepsRules (cond b noImage (imageNamed pointer disk) .decoded .image) ≡ true
     go true e = refl
-    go false e = decode-keeps (imagePart pointer disk) e
+    go false e = decode-keeps (imagePart One pointer disk) e
 
 loaded-length : (pointer : ℕ) (disk : List ℕ) → length disk ≡ 33691 → length (loadOf pointer disk .memory) ≡ 4096
 unfolding loadOf memoryOf
@@ -125,9 +126,9 @@ loaded-length pointer disk d = go (eqb pointer 0)
     go true = length-replicate {A = ℕ} 4096 0
     go false =
         let s = slot-within pointer in
-        let a : length (imagePart pointer disk) ≡ 8653 =
-        length-take-le 8653 (drop (imageAt pointer) disk) (rw (length-drop (imageAt pointer) disk) (omega arith)) in
-        length-take-le 4096 (drop 13 (imagePart pointer disk)) (rw (length-drop 13 (imagePart pointer disk)) (omega arith))
+        let a : length (imagePart One pointer disk) ≡ 8653 =
+        length-take-le 8653 (drop (imageAt One pointer) disk) (rw (length-drop (imageAt One pointer) disk) (omega arith)) in
+        length-take-le 4096 (drop 13 (imagePart One pointer disk)) (rw (length-drop 13 (imagePart One pointer disk)) (omega arith))
 
 module _ (disk : List ℕ) (e : openOf disk .number ≡ 0) where
   pub opened-rules : keepsRules (openOf disk .image) ≡ true
@@ -206,7 +207,7 @@ pub record OpenAlike (x y : List ℕ) : Type 0 where
 abbrev chosen : ℕ → Loaded → List ℕ → OpenedDisk
 chosen pointer l disk = cond (ltb 2 pointer) (notOpened 3) (ofLoaded l disk)
 
-pub open-alike : (x y : List ℕ) → pointerOf x ≡ pointerOf y → imagePart (pointerOf y) x ≡ imagePart (pointerOf y) y → OpenAlike x y
+pub open-alike : (x y : List ℕ) → pointerOf x ≡ pointerOf y → imagePart One (pointerOf y) x ≡ imagePart One (pointerOf y) y → OpenAlike x y
 unfolding loadOf openOf
 open-alike x y p e =
     let q = pointerOf y in
@@ -236,4 +237,4 @@ log-stores-alike k ss disk w =
     let kept : (at n : ℕ) → at + n ≤ 17307 → part at n left ≡ part at n disk =
     λ at n h. part-outside at n (take k (moved 17307 ss)) disk (outside-take at n k (moved 17307 ss) (outside-within at n 17307 16384 ss w (λ l. h))) in
     open-alike left disk (byte-same 0 1 left disk (omega arith) (kept 0 1 (omega arith)))
-    (kept (imageAt (pointerOf disk)) 8653 (omega (arith, slot-within (pointerOf disk))))
+    (kept (imageAt One (pointerOf disk)) 8653 (omega (arith, slot-within (pointerOf disk))))

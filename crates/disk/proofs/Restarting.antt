@@ -25,17 +25,17 @@ pub clearing-length : (end : ℕ) → length (clearing end) ≡ 16384 - end
 clearing-length end = length-clears (17307 + end) (16384 - end)
 
 -- what clearing the log leaves on the disk that it is lent of, and how many stores that takes
-pub log-cleared : (n end : ℕ) (d ys : List ℕ) → length d ≡ 33691 → end ≤ 16384 → ys ≡ apply (take n (clears end (length (logPart d) - end))) (logPart d)
+pub log-cleared : (n end : ℕ) (d ys : List ℕ) → length d ≡ 33691 → end ≤ 16384 → ys ≡ apply (take n (clears end (length (logPart 0 d) - end))) (logPart 0 d)
     → take 17307 d ++ (ys ++ drop 16384 (drop 17307 d)) ≡ apply (take n (clearing end)) d
 log-cleared n end d ys l h e =
-    let k = length (logPart d) - end in
+    let k = length (logPart 0 d) - end in
     part-lent 17307 16384 n (clears end k) d ys (within-clears 16384 end k (omega (arith, log-length d l, h))) e
     ∙ ap (λ (ss : List Store). apply (take n ss) d)
     (sym (clears-moved 17307 end k) ∙ ap (λ (j : ℕ). clears (17307 + end) (j - end)) (log-length d l))
 
-pub log-count : (end : ℕ) (d : List ℕ) → length d ≡ 33691 → length (clears end (length (logPart d) - end)) ≡ length (clearing end)
+pub log-count : (end : ℕ) (d : List ℕ) → length d ≡ 33691 → length (clears end (length (logPart 0 d) - end)) ≡ length (clearing end)
 log-count end d l =
-    length-clears end (length (logPart d) - end) ∙ ap (λ (k : ℕ). k - end) (log-length d l) ∙ sym (clearing-length end)
+    length-clears end (length (logPart 0 d) - end) ∙ ap (λ (k : ℕ). k - end) (log-length d l) ∙ sym (clearing-length end)
 
 -- a disk that is accepted, with n stores allowed: cut or done
 abbrev pub cutFrom : Meaning → List ℕ → ℕ → DiskOutcome

@@ -34,14 +34,14 @@ pub stop-read : (disk : List ℕ) → length disk ≡ 33691 → Accepted disk �
 stop-read disk d a =
     let i = imageIn disk .logend in
     let csn = imageIn disk .ondisk .0 in
-    let log : logIn disk ≡ drop i (logPart disk) = opened-log disk (a .opened) in
-    let at = log-stop-at csn i (logPart disk) in
+    let log : logIn disk ≡ drop i (logPart 0 disk) = opened-log disk (a .opened) in
+    let at = log-stop-at csn i (logPart 0 disk) in
     let size = ap (λ (s : List ℕ). i + groupsSize (readLog csn s)) (sym log) ∙ groups-size disk d a in
     sym (ap (logStop csn) log ∙ at ∙ stop-found disk _ size)
 
 module _ (disk : List ℕ) (d : length disk ≡ 33691) where
   left : length (logFrom (examineOf disk .result .end) disk) ≡ 16384 - examineOf disk .result .end
-  left = length-drop (examineOf disk .result .end) (logPart disk) ∙ ap (λ (n : ℕ). n - examineOf disk .result .end) (log-length disk d)
+  left = length-drop (examineOf disk .result .end) (logPart 0 disk) ∙ ap (λ (n : ℕ). n - examineOf disk .result .end) (log-length disk d)
 
   pub full-at-end : stopFound disk ≡ Full → examineOf disk .result .end ≡ 16384
   unfolding stopFound
@@ -74,11 +74,11 @@ left-zeros disk memory tail n w =
     let front-size : end + (16384 - end - n) ≡ end = omega (arith, w .enough) in
     let zeros : 16384 - end - (16384 - end - n) ≡ 16384 - end = omega (arith, w .enough) in
     let room = roomy disk in
-    let front : length (take end (logPart disk)) ≡ end = length-take-le end (logPart disk) (omega (arith, log-length disk d)) in
-    let log : logPart cleared-disk ≡ take end (logPart disk) ++ replicate (16384 - end) 0 =
-    cleared n end disk d (omega arith) ∙ ap₂ (λ (a b : ℕ). take a (logPart disk) ++ replicate b 0) front-size zeros in
+    let front : length (take end (logPart 0 disk)) ≡ end = length-take-le end (logPart 0 disk) (omega (arith, log-length disk d)) in
+    let log : logPart 0 cleared-disk ≡ take end (logPart 0 disk) ++ replicate (16384 - end) 0 =
+    cleared n end disk d (omega arith) ∙ ap₂ (λ (a b : ℕ). take a (logPart 0 disk) ++ replicate b 0) front-size zeros in
     ap stopFound is ∙ sym (stop-found cleared-disk end (sym same)) ∙ ap (λ (s : List ℕ). stopOf (drop end s)) log
-    ∙ ap stopOf (drop-at (take end (logPart disk)) (replicate (16384 - end) 0) end front)
+    ∙ ap stopOf (drop-at (take end (logPart 0 disk)) (replicate (16384 - end) 0) end front)
 
 -- a restart again, with whatever memory, tail and stores, tells full or zero
 pub again-not-torn : (disk memory tail memory' tail' : List ℕ) (n k : ℕ) → Done? (restartOf disk memory tail n)

@@ -7,6 +7,7 @@ use lib.ListN.{replicate}
 use lib.Dec.{eqb}
 use Rattle.layout.specs.{tailLen, logStart, logLen}
 use Rattle.layout.specs.Parts.{pointerOf, imageAt, imagePart}
+use Rattle.layout.specs.declared.Form.the-variants.{One}
 use Rattle.image.specs.declared.read.Heads.{Heads}
 use Rattle.image.specs.Heads.{blankHeads, headsOf}
 use Rattle.restart.specs.Turns.{abortsLaid}
@@ -17,7 +18,7 @@ use Rattle.disk.specs.Examine.{Meaning}
 
 -- the heads of the image that a pointer byte names, or of none
 unfoldable pub headsNamed : ℕ → List ℕ → Heads
-headsNamed pointer disk = cond (eqb pointer 0) (blankHeads true) (headsOf (imagePart pointer disk))
+headsNamed pointer disk = cond (eqb pointer 0) (blankHeads true) (headsOf (imagePart One pointer disk))
 
 -- nothing of a disk that is refused
 unfoldable pub shutBy : ℕ → Opened
@@ -29,7 +30,7 @@ placesIn disk =
     record {
       number = 0;
       heads = headsNamed (pointerOf disk) disk;
-      image = imageAt (pointerOf disk);
+      image = imageAt One (pointerOf disk);
       from = logStart + openOf disk .image .logend;
       to = logStart + logLen;
     }

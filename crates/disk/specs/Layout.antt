@@ -9,7 +9,7 @@ use Rattle.layout.specs.Parts.{logPart}
 
 -- the log from a place of it on
 abbrev pub logFrom : ℕ → List ℕ → List ℕ
-logFrom at disk = drop at (logPart disk)
+logFrom at disk = drop at (logPart 0 disk)
 
 -- each lent buffer has its length
 abbrev pub lengthsOk : List ℕ → List ℕ → List ℕ → Bool

@@ -6,6 +6,7 @@ use lib.ListN.{replicate}
 use lib.Dec.{eqb, ltb}
 use Rattle.layout.specs.{memoryLen, namesB}
 use Rattle.layout.specs.Parts.{pointerOf, imagePart}
+use Rattle.layout.specs.declared.Form.the-variants.{One}
 use Rattle.image.specs.declared.Image.{Image}
 use Rattle.image.specs.Reading.{memoryOf}
 use Rattle.image.specs.Pack.{emptyImage}
@@ -21,7 +22,7 @@ abbrev pub noImage : Loaded
 noImage = record { decoded = record { ok = true; image = emptyImage }; memory = replicate memoryLen 0 }
 
 abbrev pub imageNamed : ℕ → List ℕ → Loaded
-imageNamed pointer disk = record { decoded = decodeOf (imagePart pointer disk); memory = memoryOf (imagePart pointer disk) }
+imageNamed pointer disk = record { decoded = decodeOf (imagePart One pointer disk); memory = memoryOf (imagePart One pointer disk) }
 
 unfoldable pub loadOf : ℕ → List ℕ → Loaded
 loadOf pointer disk = cond (eqb pointer 0) noImage (imageNamed pointer disk)

@@ -17,6 +17,7 @@ ghost use mathlib.Core.Path.{_≡_};
 ghost use lib.ListN.{length};
 ghost use Rattle.layout.specs.{memoryLen, diskLen};
 ghost use Rattle.layout.specs.Parts.{imageAt};
+ghost use Rattle.layout.specs.declared.Form.the-variants.{One};
 ghost use Rattle.disk.specs.Open.{loadOf, notOpened, openOf};
 ghost use Rattle.disk.specs.Heads.{headsNamed, shutBy, openedOf};
 
@@ -31,7 +32,7 @@ pub struct Opened {
 
 // Where the image stands that a pointer byte of 1 or 2 names.
 fn image_at(pointer: u8) -> usize
-    ensures { λ r. ⌜ r ≡ imageAt pointer ⌝ }
+    ensures { λ r. ⌜ r ≡ imageAt One pointer ⌝ }
 {
     if pointer == NAMES_A {
         return IMAGE_A;

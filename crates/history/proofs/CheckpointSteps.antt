@@ -8,6 +8,7 @@ use mathlib.Core.Path.{_≡_, refl, sym, ap, _∙_, subst}
 use lib.ListN.{length, take, drop}
 use Rattle.layout.specs.Parts.{part, pointerOf, imagePart}
 use Rattle.layout.specs.declared.Form.the-variants.{One}
+use Rattle.layout.specs.declared.Form.the-variants.{One}
 use Rattle.recovery.specs.Group.{Group, groupsSize}
 use Rattle.recovery.specs.Machine.{Disk, standingBefore, standingIn, numberBefore, Live, down, up, checkpoints, checkpointIsCut, afterCheckpoint, withoutRedo}
 use Rattle.recovery.proofs.Log.{checkpoint-stands, checkpoint-number}
@@ -114,10 +115,10 @@ module _ {from : Start} (w : World) (d : Disk) (l : Live) (o : OnDisk from (w .d
     pointer : pointerOf left ≡ targetName p
     pointer = new-pointer s (w .disk) m t a z h
 
-    part-is : imagePart (pointerOf left) left ≡ image ++ rest
-    part-is = ap (λ (q : ℕ). imagePart q left) pointer ∙ new-image s (w .disk) m t a z h
+    part-is : imagePart One (pointerOf left) left ≡ image ++ rest
+    part-is = ap (λ (q : ℕ). imagePart One q left) pointer ∙ new-image s (w .disk) m t a z h
 
-    restored : Restored (imageOf s) m (imagePart (pointerOf left) left)
+    restored : Restored (imageOf s) m (imagePart One (pointerOf left) left)
     restored = subst (Restored (imageOf s) m) (sym part-is) (image-restored (imageOf s) sized (fit s t (v .fits) .image) m rest (v .memory))
 
     above : pointerOf left ≡ 0 → ⊥

@@ -68,7 +68,7 @@ refusedOutcomes n out = record { result = refusedWalk n; outcomes = out }
 
 -- the log's groups, from its first byte on, whatever pointer byte and images hold
 abbrev pub groupsOn : List ℕ → List Group
-groupsOn disk = readLog 0 (logPart disk)
+groupsOn disk = readLog 0 (logPart 0 disk)
 
 abbrev pub walkedLog : List Group → List ℕ → OutcomesLeft
 walkedLog gs ids = record { result = record { says = done; groups = length gs }; outcomes = map (lastOutcome gs) ids }

@@ -8,6 +8,7 @@ use lib.ListN.{length, take, drop, getD, set, length-append, length-drop}
 use lib.Seq.{sets, sets-eq, length-sets, take-all, take-length, take-append-le, length-take-le, getD-set-same}
 use borrow.Author.Tests.{eq-eqb, ne-eqb}
 use Rattle.layout.specs.Parts.{part, pointerOf, imageAt, imagePart, logPart}
+use Rattle.layout.specs.declared.Form.the-variants.{One}
 use Rattle.log.specs.Stores.{Store, store, apply, copies}
 use Rattle.log.proofs.StoreLaws.{length-copies, copies-cut}
 use Rattle.log.proofs.PartLaws.{part-copied, outside-take, outside-append, outside-copies, part-outside, byte-same}
@@ -107,7 +108,7 @@ module _ (s : State) (d m : List ℕ) (n : ℕ) (l : length m ≡ 4096) where
       ∙ ap (sets d (targetAt p)) (take-all n bytes (omega (arith, k, h))))
 
 -- the image that a pointer byte names stands beside the place where the next one goes
-slots-apart : (pointer n : ℕ) → pointer ≤ 2 → n ≤ 8653 → imageAt pointer < targetAt pointer + n → imageAt pointer + 8653 ≤ targetAt pointer
+slots-apart : (pointer n : ℕ) → pointer ≤ 2 → n ≤ 8653 → imageAt One pointer < targetAt pointer + n → imageAt One pointer + 8653 ≤ targetAt pointer
 slots-apart zero n l h g = absurd (omega (arith, h, g))
 slots-apart (suc zero) n l h g = omega arith
 slots-apart (suc (suc zero)) n l h g = absurd (omega (arith, h, g))
@@ -126,7 +127,7 @@ module _ (s : State) (d m t : List ℕ) (n : ℕ) (z : diskNumber s d m t ≡ 0)
   slot-range : (1 ≤ slot) × (slot ≤ 8654)
   slot-range = go (intoA (pointerOf d))
     where
-      go : (b : Bool) → (1 ≤ imageAt (cond b 1 2)) × (imageAt (cond b 1 2) ≤ 8654)
+      go : (b : Bool) → (1 ≤ imageAt One (cond b 1 2)) × (imageAt One (cond b 1 2) ≤ 8654)
       go true = (omega arith, omega arith)
       go false = (omega arith, omega arith)
 
@@ -136,7 +137,7 @@ module _ (s : State) (d m t : List ℕ) (n : ℕ) (z : diskNumber s d m t ≡ 0)
       omega (arith, length-content (contentOf (imageOf s)) m (a .memory), image-small (imageOf s) (a .fits .image))
 
   -- the log is not touched
-  pub kept-log : logPart left ≡ logPart d
+  pub kept-log : logPart 0 left ≡ logPart 0 d
   kept-log =
       let images = outside-copies 17307 16384 slot image (λ h. omega (arith, h, slot-range .1, image-length)) in
       part-outside 17307 16384 (take n (checkpointStores s d m)) d
@@ -155,8 +156,8 @@ module _ (s : State) (d m t : List ℕ) (n : ℕ) (z : diskNumber s d m t ≡ 0)
     pub kept-pointer : pointerOf left ≡ pointerOf d
     kept-pointer = byte-same 0 1 left d (omega arith) (kept-part 0 1 (λ l. slot-range .0))
 
-    pub kept-image : pointerOf d ≤ 2 → imagePart (pointerOf d) left ≡ imagePart (pointerOf d) d
-    kept-image l = kept-part (imageAt (pointerOf d)) 8653 (slots-apart (pointerOf d) (length image) l image-length)
+    pub kept-image : pointerOf d ≤ 2 → imagePart One (pointerOf d) left ≡ imagePart One (pointerOf d) d
+    kept-image l = kept-part (imageAt One (pointerOf d)) 8653 (slots-apart (pointerOf d) (length image) l image-length)
 
   -- then it names the slot that holds the image
   module _ (h : imageSize (imageOf s) < n) where

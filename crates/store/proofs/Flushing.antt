@@ -149,7 +149,7 @@ module _ (s : State) (d m t : List ℕ) (k allowed : ℕ) where
 
     -- made is the number of stores made, ys what they left of the log part
     module _ (made : ℕ) (ys : List ℕ) (f : made ≡ min allowed (length (copies (s .logend) (take (read .end) t))))
-        (g : ys ≡ apply (take allowed (copies (s .logend) (take (read .end) t))) (logPart d)) where
+        (g : ys ≡ apply (take allowed (copies (s .logend) (take (read .end) t))) (logPart 0 d)) where
       abbrev left : List ℕ
       left = take 17307 d ++ (ys ++ drop 16384 (drop 17307 d))
 

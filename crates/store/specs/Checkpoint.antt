@@ -5,6 +5,7 @@ use mathlib.Core.List.{List, [], _∷_, _++_}
 use lib.Dec.{eqb}
 use Rattle.layout.specs.{namesA, namesB}
 use Rattle.layout.specs.Parts.{pointerOf, imageAt}
+use Rattle.layout.specs.declared.Form.the-variants.{One}
 use Rattle.log.specs.Stores.{Store, store, copies}
 use Rattle.image.specs.Format.{encodeImage}
 use Rattle.store.specs.declared.State.{State}
@@ -23,7 +24,7 @@ abbrev pub targetName : ℕ → ℕ
 targetName pointer = cond (intoA pointer) namesA namesB
 
 abbrev pub targetAt : ℕ → ℕ
-targetAt pointer = imageAt (targetName pointer)
+targetAt pointer = imageAt One (targetName pointer)
 
 abbrev pub imageStores : ℕ → List ℕ → List Store
 imageStores pointer bytes = storesAt (targetAt pointer) (targetName pointer) bytes

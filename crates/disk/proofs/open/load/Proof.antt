@@ -6,6 +6,7 @@ use lib.ListN.{take, drop, replicate}
 use Rattle.image.specs.Heads.{headsOf}
 use Rattle.image.specs.Reading.{memoryOf}
 use Rattle.layout.specs.Parts.{imageAt}
+use Rattle.layout.specs.declared.Form.the-variants.{One}
 use Rattle.disk.specs.Open.{Loaded}
 use Rattle.disk.proofs.Loading.{slot-within, load-none, load-image, memory-loaded, heads-none, heads-image}
 use Rattle.disk.proofs.open.load.Statement.{statement}
@@ -81,7 +82,7 @@ returns-2 c =
     let a = start .args in
     let e = load-image (a .pointer) (a .disk .now) (x .before .if1 .left) in
     let f = x .image-at .result in
-    let s : f ≡ imageAt (a .pointer) = x .image-at .ensures in
+    let s : f ≡ imageAt One (a .pointer) = x .image-at .ensures in
     let z : f + 8653 - f ≡ 8653 = omega arith in (
       c .read-heads .ensures
           ∙ ap headsOf (ap₂ (λ (n k : ℕ). take n (drop k (a .disk .now))) z s)

@@ -5,6 +5,7 @@ use mathlib.Core.Path.{_≡_, sym, ap, ap₂, _∙_}
 use borrow.Author.Needs.{needs}
 use borrow.Author.Tests.{not-true, not-false}
 use Rattle.layout.specs.Parts.{pointerOf, imageAt}
+use Rattle.layout.specs.declared.Form.the-variants.{One}
 use Rattle.image.specs.declared.read.Heads.{Heads}
 use Rattle.disk.specs.declared.open.Opened.{Opened}
 use Rattle.disk.specs.Open.{OpenedDisk, notOpened, openOf}
@@ -86,7 +87,7 @@ returns-3 c =
     let logend : l .load .result .logend ≡ openOf disk .image .logend =
     ap (λ (h : Heads). h .logend) heads ∙ sym (ap (λ (o : Opened). o .heads .logend) places) ∙ handed disk zero .logend in (
       ap₂ (λ (h : Heads) (i : ℕ). record { number = 0; heads = h; image = i; from = 17307 + l .load .result .logend; to = 33691 }) heads (c .before .image-at .ensures)
-          ∙ ap (λ (n : ℕ). record { number = 0; heads = headsNamed q disk; image = imageAt q; from = 17307 + n; to = 33691 }) logend
+          ∙ ap (λ (n : ℕ). record { number = 0; heads = headsNamed q disk; image = imageAt One q; from = 17307 + n; to = 33691 }) logend
           ∙ sym places,
       l .load .ensures .1 ∙ sym (ap (λ (x : OpenedDisk). x .memory) is),
     )

@@ -85,7 +85,7 @@ returns-4 c =
     let f = w .before .before .before .before .before in
     let a = entry f .args in
     let gs = groupsOn (a .disk .now) in
-    let e : readLogWith 1 (logPart (a .disk .now)) ≡ gs = sym (log-next 0 (logPart (a .disk .now))) in
+    let e : readLogWith 1 (logPart 0 (a .disk .now)) ≡ gs = sym (log-next 0 (logPart 0 (a .disk .now))) in
     as-outcomes (outcomes-done (a .disk .now) (a .ids .now) (a .out .now) (f .before .before .before .before .before .if1 .left) (equal f) (sorted f))
     (ap told (w .walk-log .ensures .0 ∙ ap length e))
     (w .walk-log .ensures .1
