@@ -50,6 +50,7 @@ fn recovered(end: u16, csn: Csn, last: TxId) -> State
         assigned: csn,
         lastid: last,
         count: 0,
+        area: 0,
         txs: [none; MAX_TXS],
     }
 }

@@ -176,6 +176,7 @@ module _ {from : Start} (w : World) (d : Disk) (l : Live) (o : OnDisk from (w .d
               fits = v .fits;
               sizes = v .sizes;
               view = v .view;
+              area = v .area;
               end = v .end ∙ ap groupsSize (sym same-stands);
               zeros = ap (drop (s .logend)) (kept-log s (w .disk) m t a z) ∙ v .zeros;
               neat = v .neat;

@@ -226,6 +226,7 @@ module _ {from : Start} (w : World) (d : Disk) (l : Live) (o : OnDisk from (w .d
                   lastId = s .lastid .0;
                 }) (flush-tail s t k)
                 ∙ ap (afterFlush k) (v .view);
+            area = v .area;
             end = omega (arith, ends a gs stored-firsts, ap groupsSize stored-firsts, ap groupsSize firsts-same);
             zeros = zeros;
             neat = neat-after;

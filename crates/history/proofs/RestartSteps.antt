@@ -141,6 +141,7 @@ module _ {from : Start} (disk : List ℕ) (d : Disk) (o : OnDisk from disk d) (n
         fits = usable disk ok (examineOf disk .result .csn) (examineOf disk .result .last);
         sizes = recovered-sized state refl refl;
         view = view;
+        area = refl;
         end = ends;
         zeros =
             ap (drop end) (left-is k)

@@ -47,6 +47,8 @@ pub record LiveOn (w : World) (d : Disk) (l : Live) : Type 0 where
   pub fits : unfit (w .state) (w .tail) ≡ false
   pub sizes : SizedState (w .state)
   pub view : live (w .state) (w .memory) (w .tail) ≡ l
+  -- the log of form one
+  pub area : w .state .area ≡ 0
   pub end : w .state .logend ≡ groupsSize (standingIn d)
   pub zeros : logFrom (w .state .logend) (w .disk) ≡ replicate (16384 - w .state .logend) 0
   pub neat : Neat (w .state .ondisk .0) (w .tail)

@@ -255,4 +255,5 @@ module _ (s : State) (t : List ℕ) (k : ℕ) where
         room = omega (arith, f .room, ap groupsSize flush-tail, size-split k groups);
         states = f .states;
         tail = rw (flush-tail, eq-eqb _ _ last) (rest-zero (and-right c z (f .tail)));
+        area = f .area;
       }

@@ -41,6 +41,7 @@ shows-self s =
       assigned = refl;
       lastid = refl;
       count = refl;
+      area = refl;
       listed = λ i b.
           record {
             id = refl;
@@ -142,6 +143,7 @@ module _ (s r : State) (h : ShowsSame s r) where
           assigned = h .assigned;
           lastid = h .lastid;
           count = h .count;
+          area = h .area;
           listed = h .listed;
         }
 

@@ -5,7 +5,7 @@ use mathlib.Core.Bool.{Bool, true, false, cond, _&&_}
 use mathlib.Core.List.{List, [], _∷_}
 use mathlib.Core.Path.{_≡_}
 use lib.Dec.{eqb, leb}
-use Rattle.layout.specs.{logLen, maxTxs, diskLen}
+use Rattle.layout.specs.{logLen, maxTxs, maxArea, diskLen}
 use Rattle.transaction.specs.Lists.{every, sumOf}
 use Rattle.transaction.specs.Rules.{stateOk, roomOf}
 use Rattle.store.specs.declared.State.{State}
@@ -17,9 +17,9 @@ use Rattle.image.specs.Rules.{boundsOk, outlinesOk}
 use Rattle.store.specs.Rules.{keepsImageRules, tailLength, tailOk, roomUsed}
 use Rattle.store.specs.Numbers.{Check, firstNumber, sharedChecks, check6}
 
--- recovered, and the image rules of the counters
-unfoldable pub countersOk : Bool → ℕ → ℕ → ℕ → ℕ → Bool
-countersOk recovered logend ondisk assigned count = recovered && boundsOk logend ondisk assigned count
+-- recovered, an area that some form has, and the image rules of the counters
+unfoldable pub countersOk : Bool → ℕ → ℕ → ℕ → ℕ → ℕ → Bool
+countersOk recovered area logend ondisk assigned count = recovered && leb area maxArea && boundsOk logend ondisk assigned count
 
 abbrev pub ruleBroken : Measured
 ruleBroken = record { ok = false; room = 0 }

@@ -13,7 +13,7 @@ use Rattle.store.specs.Stored.{DiskOutcome, Plan, storedBy}
 -- the state with this log end and commit number on disk
 abbrev pub withLog : State → ℕ → Csn → State
 withLog s logend ondisk =
-    record { recovered = s .recovered; logend = logend; ondisk = ondisk; assigned = s .assigned; lastid = s .lastid; count = s .count; txs = s .txs }
+    record { recovered = s .recovered; logend = logend; ondisk = ondisk; assigned = s .assigned; lastid = s .lastid; count = s .count; area = s .area; txs = s .txs }
 
 -- "the first k groups of the tail, or all if fewer"
 abbrev pub firstGroups : State → List ℕ → ℕ → List Group
