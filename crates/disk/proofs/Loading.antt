@@ -5,12 +5,13 @@ use mathlib.Core.Bool.{Bool, true, false, cond}
 use mathlib.Core.List.{List}
 use mathlib.Core.Option.{Option, none, some}
 use mathlib.Core.Path.{_≡_, refl, sym, ap, _∙_, subst}
-use lib.ListN.{length, take, drop, length-drop}
-use lib.Seq.{sets, take-take, drop-drop, length-take-le}
+use lib.ListN.{length, getD, take, drop, length-drop}
+use lib.Seq.{sets, take-take, drop-drop, length-take-le, getD-take, getD-drop}
 use lib.Dec.{eqb}
 use borrow.Author.Tests.{ne-eqb}
 use Rattle.layout.specs.Parts.{areaBytes, lengthBy, imageAt, imagePart}
 use Rattle.layout.specs.declared.Form.{Form}
+use Rattle.layout.specs.declared.Form.the-variants.{One, Two}
 use Rattle.layout.proofs.Places.{image-within}
 use Rattle.log.proofs.RoundTrip.{drop-take}
 use Rattle.log.proofs.StoreLaws.{sets-all}
@@ -21,8 +22,12 @@ use Rattle.image.specs.Reading.{memoryOf, readImage}
 use Rattle.image.specs.Decode.{Decoded, notDecoded, decodedOf}
 use Rattle.image.specs.Heads.{blankHeads, headsIn, headsIf, headsOf, imageBy, HeadsFit}
 use Rattle.image.proofs.HeadLaws.{read-shows, read-image, blank-shows, blank-image}
-use Rattle.disk.specs.Open.{noImage, imageBytes, imageNamed, loadOf}
+use Rattle.disk.specs.Open.{noImage, imageBytes, imageNamed, loadOf, areaNamed}
 use Rattle.disk.specs.Heads.{headsNamed, imageStart}
+
+pub longest : (form : Form) → lengthBy form ≤ 50077
+longest One = omega arith
+longest Two = omega arith
 
 -- behind its area byte the image has its 8,653 bytes, within the disk
 pub start-within : (form : Form) (pointer : ℕ) → imageStart form pointer + 8653 ≤ lengthBy form
@@ -63,6 +68,23 @@ memory-loaded slot disk memory h m =
     ap (λ (vs : List ℕ). sets memory 0 vs) (lent slot 13 4109 disk (omega arith))
     ∙ sets-all (take 4096 (drop (slot + 13) disk)) memory (l ∙ sym m)
     ∙ memory-part slot disk
+
+-- ---- the area that it names
+
+pub area-none : (pointer : ℕ) (disk : List ℕ) → pointer ≡ 0 → areaNamed Two pointer disk ≡ 1
+unfolding areaNamed
+area-none pointer disk e = rw e
+
+-- its first byte
+pub area-byte : (pointer : ℕ) (disk : List ℕ) → (pointer ≡ 0 → ⊥) → areaNamed Two pointer disk ≡ getD disk (imageAt Two pointer) 0
+unfolding areaNamed
+area-byte pointer disk n =
+    let at = imageAt Two pointer in
+    let i : at + 0 ≡ at = omega arith in
+    ap (λ (b : Bool). cond b 1 (getD (imagePart Two pointer disk) 0 0)) (ne-eqb pointer 0 n)
+    ∙ getD-take 8654 (drop at disk) 0 0 (omega arith)
+    ∙ getD-drop at disk 0 0
+    ∙ ap (λ (j : ℕ). getD disk j 0) i
 
 -- ---- the heads in place of the image
 

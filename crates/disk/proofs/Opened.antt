@@ -30,7 +30,7 @@ use Rattle.disk.specs.declared.open.Opened.{Opened}
 use Rattle.disk.specs.Layout.{logFrom}
 use Rattle.disk.specs.Open.{Loaded, noImage, imageBytes, imageNamed, loadOf, areaNamed, placeOk, OpenedDisk, notOpened, openedBy, ofLoaded, openBy, openOf}
 use Rattle.disk.specs.Heads.{headsNamed, imageStart, placesIn, shutBy, openedOf}
-use Rattle.disk.proofs.Loading.{start-within, image-bytes, txsPart, named, not-named}
+use Rattle.disk.proofs.Loading.{longest, start-within, image-bytes, txsPart, named, not-named}
 
 -- ---- the log of an area
 
@@ -211,10 +211,6 @@ handed-number disk = go (eqb (openOf disk .number) 0) refl
     go true e = sym (eqb-true (openOf disk .number) 0 e)
     go false e = refl
 
-longest : (form : Form) → lengthBy form ≤ 50077
-longest One = omega arith
-longest Two = omega arith
-
 -- the heads show the image, and the places are those of its transactions and of the log
 pub record Handed (o : Opened) (disk : List ℕ) : Type 0 where
   pub area : o .area ≡ openOf disk .area
@@ -314,11 +310,8 @@ module _ (x y : List ℕ) (f : formOf x ≡ formOf y) (p : pointerOf x ≡ point
         memory = ap (λ (z : OpenedDisk). z .memory) chosen ∙ s .3 ∙ sym (ap (λ (z : OpenedDisk). z .memory) itself);
       }
     where
-      abbrev Same : {A : Type 0} → (OpenedDisk → A) → Bool → Bool → ℕ → Loaded → Type 0
-      Same part b c area l = part (choice b c area l x) ≡ part (choice b c area l y)
-
-      same : (b c : Bool) (area : ℕ) (l : Loaded)
-          → Same (λ z. z .number) b c area l × Same (λ z. z .area) b c area l × Same (λ z. z .image) b c area l × Same (λ z. z .memory) b c area l
+      same : (b c : Bool) (area : ℕ) (l : Loaded) → let i = choice b c area l x in let j = choice b c area l y in
+          (i .number ≡ j .number) × (i .area ≡ j .area) × (i .image ≡ j .image) × (i .memory ≡ j .memory)
       same true c area l = (refl, refl, refl, refl)
       same false true area l = (refl, refl, refl, refl)
       same false false area l = (refl, refl, refl, refl)

@@ -23,8 +23,8 @@ use Rattle.disk.specs.Layout.{logFrom, lengthsOk}
 use Rattle.disk.specs.Examine.{Meaning, examineOf}
 
 -- Step 5: "Both commit numbers = the last found; log end = the end found." Step 6: "No transaction is left."
-unfoldable pub recoveredState : ℕ → Csn → TxId → State
-recoveredState end csn last = record { recovered = true; logend = end; ondisk = csn; assigned = csn; lastid = last; count = 0; area = 0; txs = replicate maxTxs emptyTx }
+unfoldable pub recoveredState : ℕ → ℕ → Csn → TxId → State
+recoveredState area end csn last = record { recovered = true; logend = end; ondisk = csn; assigned = csn; lastid = last; count = 0; area = area; txs = replicate maxTxs emptyTx }
 
 -- Step 6: "Store zero at every log place from 33,690 down to the log's end." "Restart clears the area in force alone" (document 02, A.9).
 abbrev pub clearing : ℕ → ℕ → List Store
@@ -39,7 +39,7 @@ restartPlan m =
     record {
       stores = clearing (m .result .area) (m .result .end);
       value = m .result .undone;
-      state = recoveredState (m .result .end) (m .result .csn) (m .result .last);
+      state = recoveredState (m .result .area) (m .result .end) (m .result .csn) (m .result .last);
       memory = m .memory;
       tail = m .tail;
     }

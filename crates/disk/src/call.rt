@@ -39,8 +39,8 @@ pub struct Restarted {
 }
 
 // Step 5's state. "No transaction is left."
-fn recovered(end: u16, csn: Csn, last: TxId) -> State
-    ensures { λ r. ⌜ r ≡ recoveredState end csn last ⌝ }
+fn recovered(area: u8, end: u16, csn: Csn, last: TxId) -> State
+    ensures { λ r. ⌜ r ≡ recoveredState area end csn last ⌝ }
 {
     let none = Tx::empty();
     State {
@@ -50,7 +50,7 @@ fn recovered(end: u16, csn: Csn, last: TxId) -> State
         assigned: csn,
         lastid: last,
         count: 0,
-        area: 0,
+        area: area,
         txs: [none; MAX_TXS],
     }
 }
@@ -128,7 +128,7 @@ pub fn restart(disk: &mut [u8], memory: &mut [u8], tail: &mut [u8], allowed: usi
     }
     let csn = found.csn;
     let last = found.last;
-    let state = recovered(end as u16, csn, last);
+    let state = recovered(area, end as u16, csn, last);
     Restarted {
         answer: Answer::Done,
         undone: found.undone,
