@@ -9,7 +9,7 @@ use lib.ListN.{length, getD, take, drop, length-drop}
 use lib.Seq.{sets, take-take, drop-drop, length-take-le, getD-take, getD-drop}
 use lib.Dec.{eqb}
 use borrow.Author.Tests.{ne-eqb}
-use Rattle.layout.specs.Parts.{areaBytes, lengthBy, imageAt, imagePart}
+use Rattle.layout.specs.Parts.{areaBytes, lengthBy, imageAt, imagePart, logAt}
 use Rattle.layout.specs.declared.Form.{Form}
 use Rattle.layout.specs.declared.Form.the-variants.{One, Two}
 use Rattle.layout.proofs.Places.{image-within}
@@ -28,6 +28,14 @@ use Rattle.disk.specs.Heads.{headsNamed, imageStart}
 pub longest : (form : Form) → lengthBy form ≤ 50077
 longest One = omega arith
 longest Two = omega arith
+
+pub log-low : (area : ℕ) → logAt area ≤ 33693
+log-low area = go (eqb area 0) (eqb area 1)
+  where
+    go : (b c : Bool) → cond b 17307 (cond c 17309 33693) ≤ 33693
+    go true c = omega arith
+    go false true = omega arith
+    go false false = omega arith
 
 -- behind its area byte the image has its 8,653 bytes, within the disk
 pub start-within : (form : Form) (pointer : ℕ) → imageStart form pointer + 8653 ≤ lengthBy form

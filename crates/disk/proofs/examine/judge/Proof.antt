@@ -197,7 +197,12 @@ returns-3 : tie.Need-returns-3
 returns-3 c =
     let x = c .before .before .before .before .before .before .before .before .before .before in
     answered (means (diskAt (opened (at x))) (zero (at x)) (omega (arith, c .before .before .before .before .if2 .left, total x)))
-    (record { found = ap (λ (k : ℕ). examinedAt k _ _) (shown (at x) .area) ∙ ap₂ (λ (n : ℕ) (r : Recovered). examinedAt _ n r) (shown (at x) .logend) (found x); tail = laid x })
+    (record {
+      found =
+          ap (λ (k : ℕ). examinedAt k (opened (at x) .«open» .result .heads .logend) (x .recover .result .answer)) (shown (at x) .area)
+          ∙ ap₂ (λ (n : ℕ) (r : Recovered). examinedAt (openOf (diskAt (opened (at x))) .area) n r) (shown (at x) .logend) (found x);
+      tail = laid x;
+    })
     (x .recover .ensures .1 .0 ∙ ap (λ (o : AfterSteps). o .memory) (steps x))
   where
     examinedAt : ℕ → ℕ → Recovered → Examined
