@@ -27,10 +27,11 @@ apply-append [] ys d = refl
 apply-append (store i v ∷ xs) ys d = apply-append xs ys (set d i v)
 
 take-two : (n : ℕ) (xs ys : List Store) → take n (xs ++ ys) ≡ take n xs ++ take (n - length xs) ys
-take-two zero [] ys = refl
-take-two zero (x ∷ xs) ys = refl
-take-two (suc n) [] ys = refl
-take-two (suc n) (x ∷ xs) ys = ap (λ (ss : List Store). x ∷ ss) (take-two n xs ys)
+take-two zero xs ys = let e : 0 - length xs ≡ 0 = omega arith in sym (ap (λ (k : ℕ). take k ys) e)
+take-two (suc n) [] ys = let e : suc n - 0 ≡ suc n = omega arith in sym (ap (λ (k : ℕ). take k ys) e)
+take-two (suc n) (x ∷ xs) ys =
+    let e : suc n - suc (length xs) ≡ n - length xs = omega arith in
+    ap (λ (ss : List Store). x ∷ ss) (take-two n xs ys ∙ ap (λ (k : ℕ). take n xs ++ take k ys) (sym e))
 
 module _ (at name : ℕ) (bytes : List ℕ) where
   pub length-slot : length (storesAt at name bytes) ≡ length bytes + 1
@@ -115,6 +116,17 @@ wiped area at n k allowed made d ys a e q f g =
           ∙ ap (λ (ss : List Store). apply (take allowed ss) d) (sym (clears-moved at 0 k) ∙ ap (λ (i : ℕ). clears i k) z ∙ here),
     )
 
+-- the image's stores as the code makes them
+pub image-stores : (area pointer at name : ℕ) (form : Form) (bytes : List ℕ) → name ≡ targetName pointer → form ≡ areaForm area → at ≡ imageAt form name
+    → storesAt at name bytes ≡ imageStores area pointer bytes
+image-stores area pointer at name form bytes n f a = ap₂ (λ (i k : ℕ). storesAt i k bytes) (a ∙ ap₂ (λ (g : Form) (k : ℕ). imageAt g k) f n) n
+
+pub byte-one : (area : ℕ) → area ≡ 0 → areaByte area ≡ []
+byte-one area e = rw e
+
+pub byte-two : (area : ℕ) → (area ≡ 0 → ⊥) → areaByte area ≡ area ∷ []
+byte-two area h = rw (ne-eqb area 0 h)
+
 -- an image encoded behind its area byte: b is the buffer, x what was left of it from its second byte on
 sets-behind : (a : ℕ) (l : List ℕ) (i : ℕ) (vs : List ℕ) → sets (a ∷ l) (suc i) vs ≡ a ∷ sets l i vs
 sets-behind a l i [] = refl
@@ -130,9 +142,6 @@ slot-encoded area n (y ∷ b) x vs h l q e =
     ap (λ (c : List ℕ). area ∷ c) (ap₂ _++_ same rest ∙ append-nil (sets b 0 vs))
     ∙ sym (sets-behind area b 0 vs)
     ∙ ap (λ (c : List ℕ). sets (y ∷ b) 0 (c ++ vs)) (sym (byte-two area h))
-  where
-    byte-two : (a : ℕ) → (a ≡ 0 → ⊥) → areaByte a ≡ a ∷ []
-    byte-two a g = rw (ne-eqb a 0 g)
 
 -- ---- forms and areas
 
@@ -152,7 +161,7 @@ own-form form area e = subst (λ (f : Form). areaOk f area ≡ true) (sym (form-
 pub byte-length : (form : Form) (area : ℕ) → areaOk form area ≡ true → length (areaByte area) ≡ areaBytes form
 byte-length = by-area (λ (f : Form) (a : ℕ). length (areaByte a) ≡ areaBytes f) refl refl refl
 
-wiped-within : (form : Form) (area : ℕ) → areaOk form area ≡ true → wipedLen area ≤ 16384
+pub wiped-within : (form : Form) (area : ℕ) → areaOk form area ≡ true → wipedLen area ≤ 16384
 wiped-within = by-area (λ (f : Form) (a : ℕ). wipedLen a ≤ 16384) (omega arith) (omega arith) (omega arith)
 
 -- in form two the other area is another one, in form one nothing is wiped
@@ -294,7 +303,7 @@ module _ (form : Form) (area : ℕ) (ok : areaOk form area ≡ true) (d bytes : 
           (outside-clears at k (logAt next) (wipedLen next) (λ g. image-before-log form name next next-ok)) in
           let room : length (part at k d) ≡ k =
           length-take-le k (drop at d) (rw (length-drop at d) (omega (arith, disk, image-within form name))) in
-          let all : take (length bytes) (copies slot bytes) ≡ copies slot bytes = take-all _ _ (omega (arith, length-copies slot bytes)) in
+          let all : take (length bytes) (copies slot bytes) ≡ copies slot bytes = take-all (length bytes) (copies slot bytes) (omega (arith, length-copies slot bytes)) in
           let there : copies slot bytes ≡ copies (at + 0) bytes = ap (λ (i : ℕ). copies i bytes) (slot-is ∙ sym e) in
           behind at k (image-after-pointer form name)
           ∙ ap (λ (ss : List Store). part at k (apply ss x)) (sym all ∙ ap (take (length bytes)) there)
@@ -309,6 +318,7 @@ module _ (form : Form) (area : ℕ) (ok : areaOk form area ≡ true) (d bytes : 
           let w = wipedLen next in
           let at = logAt next in
           let z : at + 0 ≡ at = omega arith in
+          let y : 0 + w ≡ w = omega arith in
           let long : length (logPart next d) ≡ 16384 =
           length-take-le 16384 (drop at d) (rw (length-drop at d) (omega (arith, disk, log-within form next next-ok))) in
           behind at 16384 (omega (arith, image-after-pointer form name, image-before-log form name next next-ok))
@@ -317,4 +327,4 @@ module _ (form : Form) (area : ℕ) (ok : areaOk form area ≡ true) (d bytes : 
           ∙ ap (λ (ss : List Store). part at 16384 (apply ss d)) (ap (λ (i : ℕ). clears i w) (sym z) ∙ clears-moved at 0 w)
           ∙ part-inside at 16384 (clears 0 w) d
           ∙ apply-clears 0 w (logPart next d) (omega (arith, long, wiped-within form next next-ok))
-          ∙ ap (λ (j : ℕ). replicate w 0 ++ drop j (logPart next d)) (omega arith)
+          ∙ ap (λ (j : ℕ). replicate w 0 ++ drop j (logPart next d)) y
