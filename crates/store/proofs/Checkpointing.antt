@@ -85,7 +85,7 @@ switched-image : (s : State) → keepsImageRules s ≡ true → keepsImageRules 
 switched-image s e =
     other-first (leb (s .logend) 16384) (leb (s .ondisk .0) (s .assigned .0)) (leb (length (outlinesOf s)) 8)
     (outlinesOk (s .lastid .0) (s .assigned .0) (outlinesOf s)) (leb (switchedState s .logend) 16384) e
-    (le-leb _ _ (omega (arith, switched-end s, image-logend (imageOf s) e)))
+    (le-leb (switchedState s .logend) 16384 (omega (arith, switched-end s, image-logend (imageOf s) e)))
 
 -- it passes number 2 as the state before
 pub switched-keeps : (s : State) (t : List ℕ) → Fit s t → Fit (switchedState s) t
@@ -131,6 +131,13 @@ pub record Encoded (s : State) (d m b : List ℕ) (n : ℕ) : Type 0 where
   pub bytes : take n b ≡ imageBytes s m
   pub counted : length (take n b) ≡ n
   pub small : n ≤ areaBytes (areaForm (s .area)) + 8653
+
+pub wiped-low : (area : ℕ) → wipedLen area ≤ 16384
+wiped-low area = go (eqb area 0)
+  where
+    go : (b : Bool) → cond b 0 16384 ≤ 16384
+    go true = omega arith
+    go false = omega arith
 
 one-at-most : (form : Form) → areaBytes form ≤ 1
 one-at-most One = omega arith

@@ -2,7 +2,7 @@
 -- leaves pass number 2.
 use Prim.Native.Nat.{ℕ, _+_, _-_, _≤_, _<_, min}
 use native.Mathlib.Omega.{arith}
-use mathlib.Core.Bool.{Bool, true, _&&_}
+use mathlib.Core.Bool.{Bool, true, false, cond, _&&_}
 use mathlib.Core.List.{List, [], _∷_, _++_, append-nil}
 use mathlib.Core.Path.{_≡_, refl, sym, ap, ap₂, _∙_}
 use lib.ListN.{length, take, drop, replicate, length-drop, take-append-drop}
@@ -63,6 +63,15 @@ groups-none : (gs : List Group) → groupsSize gs ≡ 0 → gs ≡ []
 groups-none [] e = refl
 groups-none (committed id n ws ∷ gs) e = absurd (omega arith)
 groups-none (aborted id ∷ gs) e = absurd (omega arith)
+
+-- no area stands further back
+pub area-low : (area : ℕ) → logAt area ≤ 33693
+area-low area = go (eqb area 0) (eqb area 1)
+  where
+    go : (a b : Bool) → cond a 17307 (cond b 17309 33693) ≤ 33693
+    go true b = omega arith
+    go false true = omega arith
+    go false false = omega arith
 
 -- ---- the cases, as the code comes to them
 

@@ -1,8 +1,8 @@
 use borrow.Author.Needs.{needs}
-use mathlib.Core.Bool.{Bool}
+use mathlib.Core.Bool.{true}
 use mathlib.Core.Path.{_≡_, sym, ap, _∙_}
 use borrow.Author.Tests.{not-true, not-false}
-use Rattle.layout.specs.Parts.{areaOk}
+use Rattle.layout.specs.Parts.{formBy, diskOk, areaOk}
 use Rattle.layout.specs.declared.Form.{Form}
 use Rattle.store.specs.Extents.{bareState}
 use Rattle.store.specs.Admission.{diskAdmission}
@@ -23,11 +23,24 @@ returns c = c .not-admitted .ensures ∙ rw (sym (c .before .before .disk-ok .en
 admit-requires : tie.Need-admit-requires
 admit-requires c κs = search needs
 
+-- the admission without the disk
+abbrev entry : tie.After-admit → tie.Start
+entry x = x .before .before .before .before
+
+long : (x : tie.After-admit) → diskOk (entry x .args .disk) ≡ true
+long x = sym (x .before .before .disk-ok .ensures) ∙ not-false _ (x .before .if1 .left)
+
+-- whether the disk's form has the area
+has : (c : tie.After-area-ok) → c .area-ok .result ≡ areaOk (formBy (entry (c .before .before .before .before) .args .disk)) (entry (c .before .before .before .before) .args .self .area)
+has c =
+    c .area-ok .ensures
+    ∙ ap (λ (f : Form). areaOk f (entry (c .before .before .before .before) .args .self .area)) (c .before .form-of .ensures)
+
 returns-2 : tie.Need-returns-2
 returns-2 c =
-    let a = c .before .before .before .before .before .args in
-    admit-stays (bareState (a .self)) (a .disk) (a .memory) (a .tail .now) (sym (c .before .before .before .disk-ok .ensures) ∙ not-false _ (c .before .before .if1 .left))
-    (c .before .admit .result) (c .before .admit .ensures) (c .if2 .taken)
+    let x = c .before .before in
+    let a = entry x .args in
+    admit-stays (bareState (a .self)) (a .disk) (a .memory) (a .tail .now) (long x) (x .admit .result) (x .admit .ensures) (c .if2 .taken)
 
 form-of-requires : tie.Need-form-of-requires
 form-of-requires c κs = search needs
@@ -41,23 +54,19 @@ not-admitted-requires-2 c κs = search needs
 returns-3 : tie.Need-returns-3
 returns-3 c =
     let judged = c .before .before in
-    let x = judged .before .before .before in
-    let start = x .before .before .before .before in
-    let a = start .args in
+    let x = judged .before .before .before .before in
+    let a = entry x .args in
     c .not-admitted2 .ensures
-    ∙ admit-clash (bareState (a .self)) (a .disk) (a .memory) (a .tail .now) (sym (x .before .before .disk-ok .ensures) ∙ not-false _ (x .before .if1 .left))
-    (x .admit .result) (x .admit .ensures) (judged .before .before .if2 .left)
-    (sym (judged .area-ok .ensures ∙ ap (λ (f : Form). areaOk f (a .self .area)) (judged .before .form-of .ensures)) ∙ not-true _ (c .before .if3 .taken))
+    ∙ admit-clash (bareState (a .self)) (a .disk) (a .memory) (a .tail .now) (long x) (x .admit .result) (x .admit .ensures) (judged .before .before .if2 .left)
+    (sym (has judged) ∙ not-true _ (c .before .if3 .taken))
 
 returns-4 : tie.Need-returns-4
 returns-4 c =
     let judged = c .before in
-    let x = judged .before .before .before in
-    let start = x .before .before .before .before in
-    let a = start .args in
-    admit-passes (bareState (a .self)) (a .disk) (a .memory) (a .tail .now) (sym (x .before .before .disk-ok .ensures) ∙ not-false _ (x .before .if1 .left))
-    (x .admit .result) (x .admit .ensures)
-    (sym (judged .area-ok .ensures ∙ ap (λ (f : Form). areaOk f (a .self .area)) (judged .before .form-of .ensures)) ∙ not-false _ (c .if3 .left))
+    let x = judged .before .before .before .before in
+    let a = entry x .args in
+    admit-passes (bareState (a .self)) (a .disk) (a .memory) (a .tail .now) (long x) (x .admit .result) (x .admit .ensures)
+    (sym (has judged) ∙ not-false _ (c .if3 .left))
 
 pub admit-disk-spec : {M : Type 1} → statement M
 admit-disk-spec =
