@@ -7,6 +7,7 @@ use mathlib.Core.List.{List, _++_, append-assoc}
 use mathlib.Core.Path.{_≡_, refl, sym, ap, ap₂, _∙_, subst}
 use lib.ListN.{length, take, drop, replicate, length-take, length-append, take-append-drop}
 use lib.Seq.{sets, sets-eq, length-take-le, take-all, take-at, drop-at, drop-drop}
+use Rattle.layout.specs.Parts.{logAt}
 use Rattle.recovery.specs.Group.{Group, groupsSize, lastCsn, fitting}
 use Rattle.recovery.specs.Ledger as ledger
 use Rattle.recovery.specs.Machine.{Disk, standingIn, numberBefore, Live, down, up, flushes, flushIsCut, storing, afterFlush}
@@ -90,6 +91,10 @@ module _ {from : Start} (w : World) (d : Disk) (l : Live) (o : OnDisk from (w .d
 
   -- ---- what n stores leave
 
+  -- into the log of form one
+  stores-one : flushStores s t k ≡ copies (17307 + s .logend) (take size t)
+  stores-one = ap (λ (a : ℕ). copies (logAt a + s .logend) (take size t)) (v .area)
+
   module _ (n : ℕ) where
     abbrev left : List ℕ
     left = apply (take n (flushStores s t k)) (w .disk)
@@ -104,7 +109,10 @@ module _ {from : Start} (w : World) (d : Disk) (l : Live) (o : OnDisk from (w .d
     new-length = omega (arith, length-take n (encodeLog firsts), length-log firsts)
 
     left-is : wholeLog left ≡ sets log (s .logend) new
-    left-is = part-copied 17307 16384 n (s .logend) (take size t) (w .disk) ∙ ap (λ (x : List ℕ). sets log (s .logend) (take n x)) bytes
+    left-is =
+        ap (λ (ss : List Store). wholeLog (apply (take n ss) (w .disk))) stores-one
+        ∙ part-copied 17307 16384 n (s .logend) (take size t) (w .disk)
+        ∙ ap (λ (x : List ℕ). sets log (s .logend) (take n x)) bytes
 
     left-length : length left ≡ 33691
     left-length = length-apply (take n (flushStores s t k)) (w .disk) ∙ o .long
@@ -154,7 +162,7 @@ module _ {from : Start} (w : World) (d : Disk) (l : Live) (o : OnDisk from (w .d
 
     left-alike : OpenAlike left (w .disk)
     left-alike =
-        subst (λ (ss : List Store). OpenAlike (apply (take n ss) (w .disk)) (w .disk)) (sym (copies-moved 17307 (s .logend) (take size t)))
+        subst (λ (ss : List Store). OpenAlike (apply (take n ss) (w .disk)) (w .disk)) (sym (stores-one ∙ copies-moved 17307 (s .logend) (take size t)))
         (log-stores-alike n (copies (s .logend) (take size t)) (w .disk)
         (within-copies 16384 (s .logend) (take size t) (omega (arith, length-take size t, room))))
 

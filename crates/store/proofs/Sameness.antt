@@ -8,6 +8,7 @@ use mathlib.Core.Path.{_≡_, refl, ap, ap₂, _∙_}
 use lib.ListN.{length}
 use lib.Dec.{eqb, ltb}
 use borrow.Author.Tests.{eqb-true}
+use Rattle.layout.specs.Parts.{formBy, diskOk, areaOk}
 use Rattle.recovery.specs.Lists.{any}
 use Rattle.transaction.specs.declared.Tx.{Tx}
 use Rattle.transaction.specs.Lists.{upFrom, every, sumOf}
@@ -21,7 +22,7 @@ use Rattle.store.specs.State.{txAt, txsOf, outlineAt, outlinesOf, hasId,
 use Rattle.store.specs.Rules.{keepsImageRules, tailLength, tailOk, roomUsed, unfit}
 use Rattle.store.specs.declared.admit.Admission.{Admission}
 use Rattle.store.specs.Numbers.{Check, check, firstNumber, numberBy}
-use Rattle.store.specs.Admission.{notAdmitted, refusal, admission, diskAdmission, choice}
+use Rattle.store.specs.Admission.{notAdmitted, refusal, admission, ofForm, diskAdmission, choice}
 use Rattle.store.specs.Same.{SameRanges, SameSavepoints, SameTx, ShowsSame}
 
 pub record AlikeTx (t u : Tx) : Type 0 where
@@ -179,7 +180,8 @@ module _ (s r : State) (h : Alike s r) where
 
   pub disk-alike : (d lent : ℕ) (t : List ℕ) → diskAdmission s d lent t ≡ diskAdmission r d lent t
   unfolding diskAdmission
-  disk-alike d lent t = ap (λ (x : Admission). cond (eqb d 33691) x (notAdmitted 1)) (admission-alike lent t)
+  disk-alike d lent t =
+      ap₂ (λ (a : ℕ) (x : Admission). cond (diskOk d) (ofForm (areaOk (formBy d) a) x) (notAdmitted 1)) (h .area) (admission-alike lent t)
 
   pub choice-alike : (x : Admission) (id : ℕ) (cs ds : List Check) → firstNumber cs ≡ firstNumber ds → choice s x id cs ≡ choice r x id ds
   unfolding choice

@@ -3,9 +3,9 @@ use Prim.Native.Nat.{ℕ}
 use mathlib.Core.List.{List}
 use mathlib.Core.Path.{ap, _∙_}
 use lib.ListN.{set}
-use Rattle.store.proofs.Checkpointing.{slot-short, slot-whole}
-use Rattle.store.proofs.checkpoint.store_at.Statement.{statement}
-use Rattle.store.proofs.checkpoint.store_at.Tie as tie
+use Rattle.slots.proofs.Switching.{slot-short, slot-whole}
+use Rattle.slots.proofs.store_at.Statement.{statement}
+use Rattle.slots.proofs.store_at.Tie as tie
 
 copy-up-requires : tie.Need-copy-up-requires
 copy-up-requires c κs = search needs
