@@ -2,12 +2,14 @@
 use Prim.Native.Nat.{ℕ, _+_, _-_, _≤_, _<_}
 use native.Mathlib.Decide.{decLe}
 use native.Mathlib.Omega.{arith}
-use mathlib.Core.Bool.{Bool, true, false, cond}
+use mathlib.Core.Bool.{Bool, true, false, cond, _&&_}
 use mathlib.Core.List.{List, _++_, append-nil, map}
-use mathlib.Core.Path.{_≡_, refl, sym, ap, _∙_, subst}
+use mathlib.Core.Path.{_≡_, refl, sym, ap, ap₂, _∙_, subst}
 use lib.ListN.{length, take, drop, replicate}
-use Rattle.layout.specs.Parts.{areaOk, pointerOf, imagePart, logPart, otherArea}
+use Rattle.layout.specs.Parts.{formBy, formOf, areaOk, pointerOf, imagePart, logPart, otherArea}
+use Rattle.layout.specs.declared.Form.{Form}
 use Rattle.layout.specs.declared.Form.the-variants.{One}
+use Rattle.layout.proofs.Forms.{form-told}
 use Rattle.recovery.specs.Group.{Group, groupsSize}
 use Rattle.recovery.specs.Machine.{Disk, standingBefore, standingIn, numberBefore, Live, down, up, checkpoints, checkpointIsCut, afterCheckpoint, withoutRedo}
 use Rattle.recovery.proofs.Log.{checkpoint-stands, checkpoint-number}
@@ -34,9 +36,9 @@ use Rattle.slots.proofs.Switching.{kept-pointer, kept-image, kept-log, new-poin
 use Rattle.store.proofs.Checkpointing.{switched-one, bytes-small, switched-length}
 use Rattle.store.proofs.Stepping.{same-or-other}
 use Rattle.disk.specs.Layout.{logFrom}
-use Rattle.disk.specs.Open.{Loaded, imageNamed, loadOf, OpenedDisk, openedBy, openOf}
+use Rattle.disk.specs.Open.{Loaded, imageNamed, loadOf, areaNamed, placeOk, OpenedDisk, openedBy, openOf}
 use Rattle.disk.proofs.Loading.{load-image}
-use Rattle.disk.proofs.Opened.{open-is, open-inv, open-alike}
+use Rattle.disk.proofs.Opened.{loadedIn, namedIn, placedIn, open-is, open-inv, open-alike}
 use Rattle.history.specs.Calls.{checkpoint, stored, World, stepOf}
 use Rattle.history.proofs.OnDisk.{Start, opens, groupsFrom, OnDisk, same-opened}
 use Rattle.history.proofs.Shows.{LiveOn, awake, rests, cut-rests, FollowsBy, refused-follows, checkpoint-refuses}
@@ -99,7 +101,7 @@ module _ {from : Start} (w : World) (d : Disk) (l : Live) (o : OnDisk from (w .d
   same-groups : (n : ℕ) → groupsFrom n left ≡ groupsFrom n (w .disk)
   same-groups n = ap (readLog n) same-log
 
-  same-end : (gs : List Group) → Groupless (logFrom (groupsSize gs) (w .disk)) → Groupless (logFrom (groupsSize gs) left)
+  same-end : (gs : List Group) → Groupless (logFrom 0 (groupsSize gs) (w .disk)) → Groupless (logFrom 0 (groupsSize gs) left)
   same-end gs h = subst Groupless (ap (drop (groupsSize gs)) (sym same-log)) h
 
   -- ---- cut: the image in use is the old one
@@ -111,8 +113,10 @@ module _ {from : Start} (w : World) (d : Disk) (l : Live) (o : OnDisk from (w .d
     shows-cut : OnDisk from left d
     shows-cut =
         same-opened (w .disk) left d d o left-length
-        (open-alike left (w .disk) (kept-pointer One (s .area) ok (w .disk) (imageBytes (switchedState s) m) (o .long) small a few)
-        (kept-image One (s .area) ok (w .disk) (imageBytes (switchedState s) m) (o .long) small a few (open-inv (w .disk) (o .opened) .low)))
+        (open-alike left (w .disk) (ap formBy (length-apply (take a (checkpointStores s (w .disk) m)) (w .disk)))
+        (kept-pointer One (s .area) ok (w .disk) (imageBytes (switchedState s) m) (o .long) small a few)
+        (subst (λ (f : Form). imagePart f p left ≡ imagePart f p (w .disk)) (sym (form-told One (w .disk) (o .long)))
+        (kept-image One (s .area) ok (w .disk) (imageBytes (switchedState s) m) (o .long) small a few (open-inv (w .disk) (o .opened) .low))))
         refl refl
         (same-groups (numberBefore (opens from) d) ∙ o .log) (same-end (standingIn d) (o .ended))
 
@@ -165,16 +169,27 @@ module _ {from : Start} (w : World) (d : Disk) (l : Live) (o : OnDisk from (w .d
     above : pointerOf left ≡ 0 → ⊥
     above e = absurd (omega (arith, e, pointer, named (intoA p) .1))
 
-    loads : loadOf (pointerOf left) left ≡ imageNamed (pointerOf left) left
-    loads = load-image (pointerOf left) left above
+    formed : formOf left ≡ One
+    formed = form-told One left left-length
 
-    loads-ok : loadOf (pointerOf left) left .decoded .ok ≡ true
+    loads : loadedIn left ≡ imageNamed One (pointerOf left) left
+    loads = ap (λ (f : Form). loadOf f (pointerOf left) left) formed ∙ load-image One (pointerOf left) left above
+
+    loads-ok : loadedIn left .decoded .ok ≡ true
     loads-ok = ap (λ (x : Loaded). x .decoded .ok) loads ∙ restored .ok
 
-    opens-new : openOf left ≡ openedBy (imageNamed (pointerOf left) left) left
+    -- form one asks nothing of area and log end
+    placed : placedIn left ≡ true
+    placed = ap (λ (f : Form). placeOk f (namedIn left) (loadedIn left .decoded .image .logend)) formed
+
+    zero-named : namedIn left ≡ 0
+    unfolding areaNamed
+    zero-named = ap (λ (f : Form). areaNamed f (pointerOf left) left) formed
+
+    opens-new : openOf left ≡ openedBy 0 (imageNamed One (pointerOf left) left) left
     opens-new =
-        open-is left (subst (λ (q : ℕ). q ≤ 2) (sym pointer) (named (intoA p) .0)) loads-ok
-        ∙ ap (λ (x : Loaded). openedBy x left) loads
+        open-is left (subst (λ (q : ℕ). q ≤ 2) (sym pointer) (named (intoA p) .0)) (ap₂ _&&_ loads-ok placed)
+        ∙ ap₂ (λ (k : ℕ) (x : Loaded). openedBy k x left) zero-named loads
 
     -- what stands in the log stays as it was
     same-stands : standingIn (afterCheckpoint d l) ≡ standingIn d
@@ -198,7 +213,7 @@ module _ {from : Start} (w : World) (d : Disk) (l : Live) (o : OnDisk from (w .d
               ∙ o .log
               ∙ sym same-stands;
           ended =
-              subst (λ (gs : List Group). Groupless (logFrom (groupsSize gs) left)) (sym same-stands) (same-end (standingIn d) (o .ended));
+              subst (λ (gs : List Group). Groupless (logFrom 0 (groupsSize gs) left)) (sym same-stands) (same-end (standingIn d) (o .ended));
         }
 
     done-follows : FollowsBy from (up d l) (checkpoint a) (stepOf (checkpoint a) w)

@@ -30,10 +30,10 @@ use Rattle.store.proofs.Storing.{diskNumber, stored-cut, stored-done}
 use Rattle.store.proofs.Flushing.{flush-length, flush-room, flush-tail, flush-keeps}
 use Rattle.store.proofs.Stepping.{same-or-other}
 use Rattle.disk.specs.Layout.{logFrom}
-use Rattle.disk.proofs.Opened.{log-length, OpenAlike, log-stores-alike}
+use Rattle.disk.proofs.Opened.{OpenAlike, log-stores-alike}
 use Rattle.history.specs.Calls.{flush, stored, World, stepOf}
 use Rattle.history.proofs.Padded.{padded, padded-front, padded-shifted}
-use Rattle.history.proofs.OnDisk.{Start, opens, wholeLog, groupsFrom, OnDisk, same-opened}
+use Rattle.history.proofs.OnDisk.{Start, opens, wholeLog, groupsFrom, OnDisk, same-opened, zero-ok, whole-length}
 use Rattle.history.proofs.Shows.{Neat, LiveOn, awake, rests, cut-rests, FollowsBy, refused-follows, flush-refuses}
 
 module _ {from : Start} (w : World) (d : Disk) (l : Live) (o : OnDisk from (w .disk) d) (v : LiveOn w d l)
@@ -120,15 +120,15 @@ module _ {from : Start} (w : World) (d : Disk) (l : Live) (o : OnDisk from (w .d
     -- in three parts
     parts : wholeLog left ≡ take (s .logend) log ++ (new ++ drop (s .logend + length new) log)
     parts =
-        let l = log-length (w .disk) (o .long) in
+        let l = whole-length (w .disk) (o .long) in
         left-is ∙ sets-eq new log (s .logend) (omega (arith, l, new-length, room))
         ∙ append-assoc (take (s .logend) log) new (drop (s .logend + length new) log)
 
     front-length : length (take (s .logend) log) ≡ s .logend
-    front-length = let l = log-length (w .disk) (o .long) in length-take-le (s .logend) log (omega (arith, l, room))
+    front-length = let l = whole-length (w .disk) (o .long) in length-take-le (s .logend) log (omega (arith, l, room))
 
     -- what stands from the log's old end on
-    behind : logFrom (s .logend) left ≡ new ++ replicate (16384 - s .logend - length new) 0
+    behind : logFrom 0 (s .logend) left ≡ new ++ replicate (16384 - s .logend - length new) 0
     behind =
         ap (drop (s .logend)) parts
         ∙ drop-at (take (s .logend) log) (new ++ drop (s .logend + length new) log) (s .logend) front-length
@@ -150,11 +150,11 @@ module _ {from : Start} (w : World) (d : Disk) (l : Live) (o : OnDisk from (w .d
         ∙ ap (λ (j : ℕ). take j log) (v .end) in
         log-same (numberBefore (opens from) d) gs log (wholeLog left) (o .log) same
         ∙ ap (λ (hs : List Group). gs ++ hs)
-        (ap₂ readLog number (ap (λ (j : ℕ). logFrom j left) (sym (v .end)) ∙ behind)
+        (ap₂ readLog number (ap (λ (j : ℕ). logFrom 0 j left) (sym (v .end)) ∙ behind)
         ∙ log-cut (s .ondisk .0) firsts n (16384 - s .logend - length new) firsts-formed)
 
     -- and no whole group stands behind them
-    ended-left : Groupless (logFrom (s .logend + groupsSize (fitting n firsts)) left)
+    ended-left : Groupless (logFrom 0 (s .logend + groupsSize (fitting n firsts)) left)
     ended-left =
         let j = groupsSize (fitting n firsts) in
         subst Groupless (sym (sym (drop-drop j (s .logend) (wholeLog left)) ∙ ap (drop j) behind))
@@ -163,7 +163,7 @@ module _ {from : Start} (w : World) (d : Disk) (l : Live) (o : OnDisk from (w .d
     left-alike : OpenAlike left (w .disk)
     left-alike =
         subst (λ (ss : List Store). OpenAlike (apply (take n ss) (w .disk)) (w .disk)) (sym (stores-one ∙ copies-moved 17307 (s .logend) (take size t)))
-        (log-stores-alike n (copies (s .logend) (take size t)) (w .disk)
+        (log-stores-alike 0 n (copies (s .logend) (take size t)) (w .disk) (zero-ok (w .disk) (o .long))
         (within-copies 16384 (s .logend) (take size t) (omega (arith, length-take size t, room))))
 
     ends : (gs : List Group) → fitting n firsts ≡ gs → s .logend + groupsSize (fitting n firsts) ≡ groupsSize (standingIn (storing gs d))
@@ -176,7 +176,7 @@ module _ {from : Start} (w : World) (d : Disk) (l : Live) (o : OnDisk from (w .d
         ∙ log-left
         ∙ ap (λ (hs : List Group). standingIn d ++ hs) e
         ∙ sym (stored-stands gs d))
-        (subst (λ (j : ℕ). Groupless (logFrom j left)) (ends gs e) ended-left)
+        (subst (λ (j : ℕ). Groupless (logFrom 0 j left)) (ends gs e) ended-left)
 
   -- ---- the call
 
@@ -208,7 +208,7 @@ module _ {from : Start} (w : World) (d : Disk) (l : Live) (o : OnDisk from (w .d
       let whole : new a ≡ encodeLog firsts = take-all a (encodeLog firsts) (omega (arith, length-log firsts, h)) in
       let n : length (new a) ≡ size = ap length whole ∙ length-log firsts in
       let rest : 16384 - s .logend - length (new a) ≡ 16384 - (s .logend + size) = omega (arith, n) in
-      let zeros : logFrom (s .logend + size) (left a) ≡ replicate (16384 - (s .logend + size)) 0 =
+      let zeros : logFrom 0 (s .logend + size) (left a) ≡ replicate (16384 - (s .logend + size)) 0 =
       sym (drop-drop size (s .logend) (wholeLog (left a)))
       ∙ ap (drop size) (behind a)
       ∙ drop-at (new a) (replicate (16384 - s .logend - length (new a)) 0) size n

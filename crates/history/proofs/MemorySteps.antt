@@ -101,7 +101,7 @@ module _ {from : Start} (w : World) (d : Disk) (l : Live) (o : OnDisk from (w .d
     view = view;
     area = same .2 ∙ v .area;
     end = same .0 ∙ v .end;
-    zeros = subst (λ (n : ℕ). logFrom n (w .disk) ≡ replicate (16384 - n) 0) (sym (same .0)) (v .zeros);
+    zeros = subst (λ (n : ℕ). logFrom 0 n (w .disk) ≡ replicate (16384 - n) 0) (sym (same .0)) (v .zeros);
     neat = subst (λ (n : ℕ). Neat n t') (sym (same .1)) neat;
   }
 

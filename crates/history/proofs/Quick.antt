@@ -170,5 +170,5 @@ module _ (d m bs : List ℕ) (s : State) where
       let left = take (17307 + r .end + (need - a)) d ++ (replicate (need - (need - a)) 0 ++ drop 33691 d) in
       cond (eqb (r .number) 0)
       (cond (ltb a need) (cutting a left)
-      (telling (r .undone) need left (examineOf d .memory) (encodeLog (aborts (undoneBy (imageIn d) (logIn d)))) (recoveredState (r .end) (r .csn) (r .last))))
+      (telling (r .undone) need left (examineOf d .memory) (encodeLog (aborts (undoneBy (imageIn d) (logIn d)))) (recoveredState (r .area) (r .end) (r .csn) (r .last))))
       none

@@ -52,7 +52,7 @@ pub record LiveOn (w : World) (d : Disk) (l : Live) : Type 0 where
   -- the log of form one
   pub area : w .state .area ≡ 0
   pub end : w .state .logend ≡ groupsSize (standingIn d)
-  pub zeros : logFrom (w .state .logend) (w .disk) ≡ replicate (16384 - w .state .logend) 0
+  pub zeros : logFrom 0 (w .state .logend) (w .disk) ≡ replicate (16384 - w .state .logend) 0
   pub neat : Neat (w .state .ondisk .0) (w .tail)
 
 -- nothing but a restart goes on
