@@ -10,7 +10,9 @@ use lib.ListN.{length, getD, set, drop, replicate, drop-of-length-le, length-set
 use lib.Seq.{drop-cons, drop-drop, getD-set-same, getD-set-other, ext-getD}
 use lib.Dec.{eqb, ltb}
 use borrow.Author.Tests.{eq-eqb, ne-eqb, eqb-true, eqb-false, lt-ltb, le-ltb, ltb-true, ltb-false}
-use Rattle.layout.specs.Parts.{diskOk}
+use Rattle.layout.specs.Parts.{formOf, lengthBy, HasForm, diskOk}
+use Rattle.layout.specs.declared.Form.{Form}
+use Rattle.layout.specs.declared.Form.the-variants.{One, Two}
 use Rattle.recovery.specs.Group.{Group, groupSize}
 use Rattle.recovery.specs.Lists.{orElse}
 use Rattle.recovery.specs.Restart.{groupId}
@@ -274,6 +276,14 @@ module _ (ids log : List ℕ) (w : Walk) (out : List ℕ) where
       go (some g) e = ap length (noted-by (some g) e) ∙ noted-length ids out (groupId g) (outcomeOf g) l ∙ l
 
 -- ---- the call by cases
+
+shortest : (form : Form) → 33691 ≤ lengthBy form
+shortest One = omega arith
+shortest Two = omega arith
+
+-- form one's log lies within a disk of either form
+pub log-inside : (disk : List ℕ) → HasForm disk → 33691 ≤ length disk
+log-inside disk d = let l = shortest (formOf disk) in omega (arith, l, d)
 
 -- what was told and left is what a definition has, if it is what an equal one has
 pub as-outcomes : {x y : OutcomesLeft} {r : WalkTold} {o : List ℕ} → x ≡ y → r ≡ y .result → o ≡ y .outcomes → (r ≡ x .result) × (o ≡ x .outcomes)

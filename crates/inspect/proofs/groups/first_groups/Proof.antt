@@ -166,8 +166,8 @@ went c =
     ap (λ (i : Image). firstOf k i (part (r .from) (r .to - r .from) (diskAt o)) (o .«open» .last .1 .0)) (image x)
     ∙ ap₂ (λ (l m : List ℕ). firstOf k (openOf (diskAt o) .image) l m) (shown x .log) (o .«open» .ensures .1)
 
-add-t13 : tie.Need-add-t13
-add-t13 c =
+add-t14 : tie.Need-add-t14
+add-t14 c =
     let f = c .before .before .before .before in
     let x = at f in
     let o = opened x in
@@ -221,6 +221,6 @@ first-groups-spec =
     part-forward-start-2
     part-forward-end-2
     forward-requires
-    add-t13
+    add-t14
     same-length-2
     returns-4)

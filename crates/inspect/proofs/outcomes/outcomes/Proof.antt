@@ -12,7 +12,7 @@ use Rattle.log.proofs.LogLaws.{log-next}
 use Rattle.store.specs.Answer.{done}
 use Rattle.inspect.specs.Outcomes.{rising, WalkTold, groupsOn}
 use Rattle.inspect.specs.Walk.{walkedOver}
-use Rattle.inspect.proofs.Walking.{walked-zeros, as-outcomes, outcomes-no-disk, outcomes-unequal, outcomes-unsorted, outcomes-done}
+use Rattle.inspect.proofs.Walking.{walked-zeros, log-inside, as-outcomes, outcomes-no-disk, outcomes-unequal, outcomes-unsorted, outcomes-done}
 use Rattle.inspect.proofs.outcomes.outcomes.Statement.{statement}
 use Rattle.inspect.proofs.outcomes.outcomes.Tie as tie
 
@@ -67,7 +67,11 @@ part-walk-log-start : tie.Need-part-walk-log-start
 part-walk-log-start c = search needs
 
 part-walk-log-end : tie.Need-part-walk-log-end
-part-walk-log-end c = search needs
+part-walk-log-end c =
+    let x = c .before .before .before .before .before .before .before in
+    let d = x .before .before .before .before .before .args .disk .now in
+    let l = log-inside d (disk-ok (length d) (fit x)) in
+    omega (arith, l)
 
 -- ---- once nothing refuses
 
