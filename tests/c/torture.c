@@ -711,6 +711,46 @@ static void pointer_bytes(void)
     printf("200 failed syncs of the pointer byte, an opening, a power failure: nothing is lost (without the opening's sync of it %u times)\n", lost);
 }
 
+/* ---- a handle that failed tells of nothing as durable, by no call on its store either */
+
+static void poisoned(void)
+{
+    static struct work w;
+    unsigned char outcome = LUPPANETH_COMMITTED;
+    uint16_t id;
+    uint32_t csn;
+    size_t groups;
+    some_work(&w, 1);
+    if (lup_begin(&f.store, &id) != 0 || lup_write(&f.store, id, 0, "x", 1) != 0 || lup_precommit(&f.store, id, &csn) != 0)
+        wrong("poisoned", "no booking");
+    drive->eio = 1;
+    drive_phase(FLUSHING);
+    if (lup_file_flush(&f) != LUP_FILE_FAILED || lup_file_flush(&f) != LUP_POISONED)
+        wrong("poisoned", "a failed sync does not poison");
+    if (lup_settle(&f.store, id) != LUPPANETH_UNFIT)
+        wrong("poisoned", "what was not flushed is settled");
+    if (lup_outcomes(&f.store, &id, 1, &outcome, &groups) != 0 || outcome != LUPPANETH_NEITHER)
+        wrong("poisoned", "what was not flushed is told as committed");
+    lup_file_close(&f);
+    printf("a failed flush: nothing is told as durable that is not\n");
+}
+
+/* ---- no room for a new file: it is empty again, and no disk without room */
+
+static void no_room(void)
+{
+    size_t len = 1;
+    drive_new(folder, 512, 4096, 1);
+    drive->eio = 0;
+    drive_phase(OPENING);
+    if (lup_file_open(&f, path) != LUP_FILE_FAILED)
+        wrong("no room", "a creation that fails is answered otherwise");
+    drive_file("disk", &len);
+    if (len != 0)
+        wrong("no room", "a file whose creation failed is not empty");
+    printf("a creation that fails leaves an empty file\n");
+}
+
 /* ---- a file that is no disk */
 
 static bool has_torn(const unsigned char *bytes)
@@ -797,6 +837,8 @@ int main(int argc, char **argv)
     foreign();
     kills();
     pointer_bytes();
+    poisoned();
+    no_room();
     renew_cuts(factor);
     stops(factor);
     searches(factor);
