@@ -120,6 +120,33 @@ fn what_is_no_regular_file_is_refused() {
     }
 }
 
+/// A real drive, where this process may make one (losetup): it is refused, and its bytes stay.
+#[test]
+fn a_drive_is_refused_and_stays_as_it_is() {
+    let path = path("drive");
+    let bytes = vec![7; 65_536];
+    fs::write(&path, &bytes).unwrap();
+    let made = Command::new("losetup")
+        .args(["-f", "--show"])
+        .arg(&path)
+        .output();
+    let Ok(made) = made.map(|made| String::from_utf8(made.stdout).unwrap()) else {
+        return;
+    };
+    let drive = made.trim();
+    if drive.is_empty() {
+        println!("no drive could be made: not tried");
+        return;
+    }
+    let opened = [FileDevice::open(drive), FileDevice::look(drive)].map(|opened| opened.err());
+    let detached = Command::new("losetup").args(["-d", drive]).status();
+    assert!(detached.unwrap().success());
+    for error in opened {
+        assert_eq!(error.expect("a drive").kind(), io::ErrorKind::InvalidInput);
+    }
+    assert!(fs::read(&path).unwrap() == bytes);
+}
+
 #[test]
 fn looking_creates_and_stores_nothing() {
     let path = path("looked");
