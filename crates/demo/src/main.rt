@@ -1,4 +1,6 @@
 // demo: two bookings, a power failure in the middle of the second's flush, and the restart, told line by line.
+#![tactic(auto)]
+
 mod print;
 
 use crate::print::{call, listing, memory_places, number, text};

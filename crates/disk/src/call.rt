@@ -15,14 +15,14 @@ use store::{Answer, State};
 use transaction::Tx;
 
 // Why the log ended where it did, before step 6 cleared it.
-#[derive(Drop)]
+#[derive(Clone, Copy)]
 pub enum Stopped {
     Untold,
     At(Stop),
 }
 
 // Refused or cut, undone is 0, the stop is untold and the state is the unrecovered one.
-#[derive(Drop)]
+#[derive(Clone, Copy)]
 pub struct Restarted {
     pub answer: Answer,
     pub undone: usize,
@@ -48,7 +48,7 @@ fn recovered(end: u16, csn: Csn, last: TxId) -> State
 }
 
 // The stores that step 6 made, and why the log ended before it.
-#[derive(Drop)]
+#[derive(Clone, Copy)]
 struct Cleared {
     made: usize,
     stop: Stop,

@@ -13,7 +13,7 @@ use restart::undo::put_aborts;
 
 // The number that refuses, 0 for none. If none: the log's end counted from its first byte, the last commit number and the last id, how many
 // transactions step 4 undid, and what was found of each of the image's.
-#[derive(Drop)]
+#[derive(Clone, Copy)]
 pub struct Examined {
     pub number: u8,
     pub end: usize,
@@ -24,7 +24,7 @@ pub struct Examined {
 }
 
 // With the ids of those that step 4 undid, in order: their abort records make the tail.
-#[derive(Drop)]
+#[derive(Clone, Copy)]
 pub struct Judged {
     pub found: Examined,
     pub ids: [TxId; MAX_TXS],

@@ -12,7 +12,7 @@ use layout::{
 use redolog::stores::{copy, fill_zero};
 
 // The number that refuses, 0 for none. If none: the heads of the image, where it stands, and from where to where the log is read.
-#[derive(Drop)]
+#[derive(Clone, Copy)]
 pub struct Opened {
     pub number: u8,
     pub heads: Heads,

@@ -1,4 +1,6 @@
 // disklist: one disk on standard input; what restart finds on it is printed (document 01, "Program disklist"). Crate `listing` proves the text.
+#![tactic(auto)]
+
 use libc::{STDIN_FILENO, STDOUT_FILENO};
 use listing::{INPUT_LEN, TEXT_LEN, list_input};
 

@@ -11,7 +11,7 @@ use layout::MAX_TXS;
 use redolog::{Csn, TxId};
 use transaction::alike;
 
-#[derive(Drop)]
+#[derive(Clone, Copy)]
 pub struct Keys {
     pub ids: [TxId; MAX_TXS],
     pub csns: [Csn; MAX_TXS],

@@ -1,4 +1,6 @@
 // The checkpoint image: the counters and transactions that it holds beside the memory, and the image rules.
+#![tactic(auto)]
+
 pub mod keys;
 pub mod read;
 pub mod write;
@@ -11,7 +13,7 @@ use redolog::{Csn, TxId};
 use transaction::Tx;
 
 // Transactions in order of begin, in the first count slots.
-#[derive(Drop)]
+#[derive(Clone, Copy)]
 pub struct Image {
     pub logend: u16,
     pub ondisk: Csn,

@@ -19,7 +19,7 @@ use redolog::{Csn, TxId};
 use transaction::head_ok;
 
 // The keys of transactions, and where each begins, counted from the first; all zero if one does not keep the rules.
-#[derive(Drop)]
+#[derive(Clone, Copy)]
 struct KeysRead {
     ok: bool,
     keys: Keys,
@@ -27,7 +27,7 @@ struct KeysRead {
 }
 
 // The counters, the keys, and where each transaction begins; all zero where no image could be read that keeps the rules.
-#[derive(Drop)]
+#[derive(Clone, Copy)]
 pub struct Heads {
     pub ok: bool,
     pub logend: u16,

@@ -9,7 +9,7 @@ use restart::forward::forward;
 use store::Answer;
 
 // The log's end reached, counted from its first byte, and the last commit number reached. Refused, both are 0.
-#[derive(Drop)]
+#[derive(Clone, Copy)]
 pub struct Applied {
     pub answer: Answer,
     pub end: usize,

@@ -16,14 +16,14 @@ pub const COMMITTED: u8 = 1;
 pub const ABORTED: u8 = 2;
 
 // The groups walked; 0 where refused.
-#[derive(Drop)]
+#[derive(Clone, Copy)]
 pub struct Walked {
     pub answer: Answer,
     pub groups: usize,
 }
 
 // Where the walk is in the log, the commit number expected there, and the groups walked so far.
-#[derive(Drop)]
+#[derive(Clone, Copy)]
 struct Walk {
     at: usize,
     next: u64,
@@ -31,7 +31,7 @@ struct Walk {
 }
 
 // The place of an id in the list.
-#[derive(Drop)]
+#[derive(Clone, Copy)]
 enum Place {
     At(usize),
     Nowhere,

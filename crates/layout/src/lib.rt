@@ -1,4 +1,5 @@
 // Sizes, offsets, counts and statuses of documents 01 and 02, each said once. The same numbers for the definitions: specs/Lib.antt.
+#![tactic(auto)]
 
 // The buffers that are lent.
 pub const MEMORY_LEN: usize = 4096;
@@ -35,7 +36,7 @@ pub const AREA_2: usize = 33693;
 pub const LAST_AREA: u8 = 2;
 
 // Which form a disk has.
-#[derive(Drop)]
+#[derive(Clone, Copy)]
 pub enum Form {
     One,
     Two,

@@ -1,4 +1,6 @@
 // disklist's text: what restart finds on a disk (document 01, "Program disklist").
+#![tactic(auto)]
+
 mod lines;
 
 ghost use Rattle.std.specs.Prelude.{◌++◌, ◌≡◌, take, drop};

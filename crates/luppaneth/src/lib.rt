@@ -1,5 +1,7 @@
 // The calls for hosts that are not written in Rattle, by C's rules: numbers, structs laid out as in C, a slice as a pointer and a length.
 // include/luppaneth.h declares them for C. Each is the call of `store`, `disk`, `inspect` or `listing`, and its contract says so.
+#![tactic(auto)]
+
 mod disks;
 mod looks;
 mod memory;
@@ -19,7 +21,7 @@ use store::{Answer, State};
 // of transactions undone, else 0. stores: those made, where the call stores on the disk, else 0. stop: of a restart that is done why the log
 // ended, 1 full, 2 zero, 3 torn; else 0.
 #[repr(C)]
-#[derive(Drop)]
+#[derive(Clone, Copy)]
 pub struct Reply {
     pub answer: u8,
     pub number: u8,
@@ -30,7 +32,7 @@ pub struct Reply {
 }
 
 // An answer and its number.
-#[derive(Drop)]
+#[derive(Clone, Copy)]
 pub(crate) struct Pair(u8, u8);
 
 pub(crate) fn numbers(answer: Answer) -> Pair

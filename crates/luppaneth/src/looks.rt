@@ -13,7 +13,7 @@ use inspect::page::read_page;
 
 // answer and number as in `Reply`. csn and end: the last commit number and the log's end reached; 0 where refused.
 #[repr(C)]
-#[derive(Drop)]
+#[derive(Clone, Copy)]
 pub struct GroupsReply {
     pub answer: u8,
     pub number: u8,
@@ -54,7 +54,7 @@ pub extern "C" fn luppaneth_read_page(disk: &[u8], buffer: &mut [u8], page: usiz
 
 // answer and number as in `Reply`. groups: those of the log, which were walked; 0 where refused.
 #[repr(C)]
-#[derive(Drop)]
+#[derive(Clone, Copy)]
 pub struct OutcomesReply {
     pub answer: u8,
     pub number: u8,

@@ -25,10 +25,10 @@ pub data Undoes (a : ℕ) : ℕ → List Group → List Tx → Type 0 where
   undoes_commit : {x i n : ℕ} {ws : List Write} {gs : List Group} {c : Tx} {cs : List Tx} → Restores x (oldest a c.undo) (newest a ws)
       → Undoes a (act (newest a ws) x) gs cs → Undoes a x (committed i n ws ∷ gs) (c ∷ cs)
 
-pub undoes_late : {a x : ℕ} (P : List Group) {U : List Group} {cs : List Tx} → Undoes a x (P ++ U) cs → Undoes a (replay (lay_byte a) P x) U (late P cs)
+pub undoes_late : {a : ℕ} (P : List Group) {x : ℕ} {U : List Group} {cs : List Tx} → Undoes a x (P ++ U) cs → Undoes a (replay (lay_byte a) P x) U (late P cs)
 undoes_late [] u = u
 undoes_late (aborted i ∷ P) (undoes_abort u) = undoes_late P u
-undoes_late {a} {x} (committed i n ws ∷ P) (undoes_commit r u) = rw (redo_newest a ws x) (undoes_late P u)
+undoes_late {a} (committed i n ws ∷ P) {x} (undoes_commit r u) = rw (redo_newest a ws x) (undoes_late P u)
 
 -- one more group
 

@@ -23,9 +23,10 @@ use Rattle.recovery.proofs.Follows.{Over, Linked, here, there, Kin, itself, anot
 
 -- At one byte, with L the image's unfinished running transactions, whose ids are distinct.
 
-linked_still : {a : ℕ} {t : Tx} {rs : List Tx} → All (Quiet a) rs → Linked t rs → Still a t
-linked_still {a} (cons q qs) (here e o) = o a q.0
-linked_still (cons q qs) (there l) = linked_still qs l
+linked_still : (a : ℕ) {t : Tx} {rs : List Tx} → All (Quiet a) rs → Linked t rs → Still a t
+linked_still a nil l = elim l [ ]
+linked_still a (cons q qs) (here e o) = o a q.0
+linked_still a (cons q qs) (there l) = linked_still a qs l
 
 module _ (a x mem v : ℕ) (xs : List Tx) (r : Tx) (ys L : List Tx) (at : RunningAt a x mem (xs ++ r ∷ ys)) (distinct : DistinctIds L)
     (kins : All (Kin r (xs ++ ys)) L) (e : undo_each (lay_byte a) L v ≡ x) where
@@ -38,7 +39,7 @@ module _ (a x mem v : ℕ) (xs : List Tx) (r : Tx) (ys L : List Tx) (at : Runnin
     where
       go : (t : Tx) → is_unfinished (r.id ∷ []) t ≡ true → Kin r (xs ++ ys) t → Still a t
       go t o (itself i ov) = absurd (opposed o (rw (i, eqb_same r.id)))
-      go t o (another n l) = linked_still q l
+      go t o (another n l) = linked_still a q l
 
   same_over : (t : Tx) → t.id ≡ r.id → Kin r (xs ++ ys) t → Over t r
   same_over t i (itself e o) = o
@@ -54,7 +55,7 @@ module _ (a x mem v : ℕ) (xs : List Tx) (r : Tx) (ys L : List Tx) (at : Runnin
           let m : ℕ = undo_each (lay_byte a) ps v in
           let out : rest ≡ ps ++ qs = rw (w, ← i) (leave_one ps t qs (rw w at distinct)) in
           ap (λ (l : List Tx). undo_each (lay_byte a) l v) out
-          ∙ (undo_each_append (lay_byte a) ps qs v ∙ (ap (λ (n : ℕ). undo_each (lay_byte a) qs n) (sym (undo_still m (cons {x = t} still nil)))
+          ∙ (undo_each_append (lay_byte a) ps qs v ∙ (ap (λ (n : ℕ). undo_each (lay_byte a) qs n) (sym (undo_still a m (cons {x = t} still nil)))
           ∙ (sym (undo_each_append (lay_byte a) ps (t ∷ qs) v) ∙ (ap (λ (l : List Tx). undo_each (lay_byte a) l v) (sym w) ∙ e))))
 
       go : (f : Option Tx) → lookup r.id L ≡ f → undo_each (lay_byte a) rest v ≡ x
@@ -66,7 +67,7 @@ module _ (a x mem v : ℕ) (xs : List Tx) (r : Tx) (ys L : List Tx) (at : Runnin
     where
       go : Side a x mem r (xs ++ ys) → undo_each (lay_byte a) rest (act (newest a r.redo) v) ≡ act (newest a r.redo) x
       go (off q k) = rw q.1 (undo_rest q)
-      go (on o n q) = rw n (undo_still mem (rest_still q))
+      go (on o n q) = rw n (undo_still a mem (rest_still q))
 
   -- u: the image's undo records of r's id
   grow_abort : (u : List Write) → All (λ t. t.id ≡ r.id → t.undo ≡ u) L → (All (λ t. t.id ≢ r.id) L → u ≡ [])
@@ -83,8 +84,8 @@ module _ (a x mem v : ℕ) (xs : List Tx) (r : Tx) (ys L : List Tx) (at : Runnin
           let stills : All (Still a) (ps ++ qs) = rw out at (rest_still q) in
           let alone : undo_each (lay_byte a) (ps ++ t ∷ qs) v ≡ act (oldest a u) v =
           undo_each_append (lay_byte a) ps (t ∷ qs) v
-          ∙ rw (undo_still v (all_left ps qs stills), undo_still (undo_all (lay_byte a) t.undo v) (all_right ps stills), tu) (undo_oldest a u v) in
-          undo_still (act (oldest a u) v) (rest_still q) ∙ (sym alone ∙ (ap (λ (l : List Tx). undo_each (lay_byte a) l v) (sym w) ∙ e))
+          ∙ rw (undo_still a v (all_left ps qs stills), undo_still a (undo_all (lay_byte a) t.undo v) (all_right ps stills), tu) (undo_oldest a u v) in
+          undo_still a (act (oldest a u) v) (rest_still q) ∙ (sym alone ∙ (ap (λ (l : List Tx). undo_each (lay_byte a) l v) (sym w) ∙ e))
 
       go : (f : Option Tx) → lookup r.id L ≡ f → undo_each (lay_byte a) rest (act (oldest a u) v) ≡ x
       go none n =

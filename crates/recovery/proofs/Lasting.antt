@@ -181,7 +181,7 @@ module _ (o : Opening) where
     then : {t u : System} {j : Ledger} {e : Event} {q p : Tx} → Lasts s k r t j q → Step o t e u → lookup q.id (txs_of u) ≡ some p → p.committing ≡ false
         → Lasts s k r u (enter e j) p
 
-  pub lasts_run : {s t : System} {k j : Ledger} {r q : Tx} → Lasts s k r t j q → Run o s k → Run o t j
+  pub lasts_run : {s : System} {k : Ledger} {r : Tx} {t : System} {j : Ledger} {q : Tx} → Lasts s k r t j q → Run o s k → Run o t j
   lasts_run now run = run
   lasts_run (then l p is c) run = next (lasts_run l run) p
 
@@ -190,7 +190,7 @@ module _ (o : Opening) where
   distinct_listed (up d l) k v = v.standing.live_distinct
 
   -- it has its records still, under its id
-  lasts_grown : {s t : System} {k j : Ledger} {r q : Tx} → Lasts s k r t j q → Run o s k → lookup r.id (txs_of s) ≡ some r
+  lasts_grown : {s : System} {k : Ledger} {r : Tx} {t : System} {j : Ledger} {q : Tx} → Lasts s k r t j q → Run o s k → lookup r.id (txs_of s) ≡ some r
       → Grown r q × (lookup q.id (txs_of t) ≡ some q)
   lasts_grown now run was = (grown_same refl, was)
   lasts_grown (then {t} {u} {j} {e} {q} {p} l step is c) run was =

@@ -17,9 +17,9 @@ use Rattle.recovery.proofs.Byte.{act, seen, lay_byte, oldest, newest, undo_oldes
 abbrev pub Still : ℕ → Tx → Type 0
 Still a t = oldest a t.undo ≡ none
 
-pub undo_still : {a : ℕ} {ts : List Tx} (v : ℕ) → All (Still a) ts → undo_each (lay_byte a) ts v ≡ v
-undo_still v nil = refl
-undo_still {a} v (cons {x = t} q qs) = undo_still (undo_all (lay_byte a) t.undo v) qs ∙ (undo_oldest a t.undo v ∙ ap (λ (o : Option ℕ). act o v) q)
+pub undo_still : (a : ℕ) {ts : List Tx} (v : ℕ) → All (Still a) ts → undo_each (lay_byte a) ts v ≡ v
+undo_still a v nil = refl
+undo_still a v (cons {x = t} q qs) = undo_still a (undo_all (lay_byte a) t.undo v) qs ∙ (undo_oldest a t.undo v ∙ ap (λ (o : Option ℕ). act o v) q)
 
 -- it has no record over the byte
 abbrev pub Quiet : ℕ → Tx → Type 0
@@ -118,9 +118,9 @@ module _ (a x mem : ℕ) where
       further : ((v : ℕ) → undo_each (lay_byte a) rs v ≡ x) ⊎ (((v : ℕ) → undo_each (lay_byte a) rs v ≡ v) × (mem ≡ x))
           → ((v : ℕ) → undo_each (lay_byte a) (r ∷ rs) v ≡ x) ⊎ (((v : ℕ) → undo_each (lay_byte a) (r ∷ rs) v ≡ v) × (mem ≡ x))
       further (inl f) = inl (λ v. f (undo_all (lay_byte a) r.undo v))
-      further (inr p) = inr (λ v. p.0 (undo_all (lay_byte a) r.undo v) ∙ undo_still v (cons {x = r} k.0 nil), p.1)
+      further (inr p) = inr (λ v. p.0 (undo_all (lay_byte a) r.undo v) ∙ undo_still _ v (cons {x = r} k.0 nil), p.1)
   undo_running (holds {r} o n k) =
-      inl (λ v. undo_still (undo_all (lay_byte a) r.undo v) (all_map (λ t q. q.0) k) ∙ (undo_oldest a r.undo v ∙ ap (λ (q : Option ℕ). act q v) o))
+      inl (λ v. undo_still a (undo_all (lay_byte a) r.undo v) (all_map (λ t q. q.0) k) ∙ (undo_oldest a r.undo v ∙ ap (λ (q : Option ℕ). act q v) o))
 
 -- A redo and an undo value at a byte, whose value before was x: both leave it, or the undo puts x back.
 pub data Restores (x : ℕ) : Option ℕ → Option ℕ → Type 0 where

@@ -128,12 +128,12 @@ insert_first : (t : Tx) {l : List Tx} → AllLe t.csn l → insert_desc t l ≡ 
 insert_first t nil = refl
 insert_first t (cons {x = u} h hs) = rw (le-leb u.csn t.csn h)
 
-pub sort_pick : {xs : List Tx} (ys : List Tx) (t : Tx) → AllLt t.csn xs → AllLe t.csn ys → sort_desc (xs ++ t ∷ ys) ≡ t ∷ sort_desc (xs ++ ys)
-sort_pick ys t nil q = insert_first t (sort_all q)
-sort_pick ys t (cons {x} h hs) q = ap (insert_desc x) (sort_pick ys t hs q) ∙ rw (lt-leb t.csn x.csn h)
+pub sort_pick : (t : Tx) {xs : List Tx} (ys : List Tx) → AllLt t.csn xs → AllLe t.csn ys → sort_desc (xs ++ t ∷ ys) ≡ t ∷ sort_desc (xs ++ ys)
+sort_pick t ys nil q = insert_first t (sort_all q)
+sort_pick t ys (cons {x} h hs) q = ap (insert_desc x) (sort_pick t ys hs q) ∙ rw (lt-leb t.csn x.csn h)
 
 pub sort_top : (t : Tx) (xs ys : List Tx) → AllLt t.csn (xs ++ ys) → sort_desc (xs ++ t ∷ ys) ≡ t ∷ sort_desc (xs ++ ys)
-sort_top t xs ys h = sort_pick ys t (all_left xs ys h) (all_map (λ u k. omega arith) (all_right xs h))
+sort_top t xs ys h = sort_pick t ys (all_left xs ys h) (all_map (λ u k. omega arith) (all_right xs h))
 
 -- a test before or after the sorting
 

@@ -14,7 +14,7 @@ use crate::{Csn, TxId};
 use layout::{ABORT, ABORT_LEN, COMMIT_LEN, MAX_WRITE, REDO_LEN};
 
 // The whole group at the front of a slice, and where it ends; or why none stands there.
-#[derive(Drop)]
+#[derive(Clone, Copy)]
 pub enum GroupEnd {
     Aborted { id: TxId, end: usize },
     Committed { id: TxId, csn: Csn, end: usize },
@@ -112,7 +112,7 @@ pub fn put_group(
     requires by_index { (k : ℕ) → k < n → get_or len.now k 0 ≤ max_write }
     requires n_in_bounds_2 { at + group_size (committed id.0 csn.0 (writes_from addr.now len.now bytes.now n 0)) ≤ length b.old }
     ensures { b.new
-        ≡ sets b.old at (encodeGroup (committed id.0 csn.0 (writesFrom addr.now len.now bytes.now n 0))) }
+        ≡ sets b.old at (encode_group (committed id.0 csn.0 (writes_from addr.now len.now bytes.now n 0))) }
 {
     let mut o = at;
     let mut i: usize = 0;

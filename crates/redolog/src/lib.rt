@@ -1,4 +1,6 @@
 // The log: records, groups and the log itself, read from the front of a slice and written into one; stores that are counted.
+#![tactic(auto)]
+
 pub mod found;
 pub mod group;
 pub mod number;
@@ -9,10 +11,10 @@ pub mod stores;
 
 // A transaction id. 0 is never given.
 #[repr(C)]
-#[derive(Drop)]
+#[derive(Clone, Copy)]
 pub struct TxId(pub u16);
 
 // A commit sequence number (document 01: commit number). 0 stands for "none yet".
 #[repr(C)]
-#[derive(Drop)]
+#[derive(Clone, Copy)]
 pub struct Csn(pub u32);

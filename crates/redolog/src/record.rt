@@ -13,7 +13,7 @@ use crate::{Csn, TxId};
 use layout::{ABORT, ABORT_LEN, COMMIT, COMMIT_LEN, MAX_WRITE, MEMORY_LEN, REDO, REDO_LEN};
 
 // The well-formed record at the front of a slice, or why none stands there. The new bytes of a redo record are the len bytes at 6.
-#[derive(Drop)]
+#[derive(Clone, Copy)]
 pub enum Head {
     Redo { id: TxId, addr: u16, len: u8 },
     Commit { id: TxId, csn: Csn },

@@ -7,14 +7,14 @@ use crate::group::{GroupEnd, read_group};
 use crate::stop::{Stop, stop_at};
 
 // Where the first groups of a log end, and the last commit number.
-#[derive(Drop)]
+#[derive(Clone, Copy)]
 pub struct Reached {
     pub end: usize,
     pub csn: Csn,
 }
 
 // Where a log ends, its last commit number, and why it ends there.
-#[derive(Drop)]
+#[derive(Clone, Copy)]
 pub struct LogEnd {
     pub end: usize,
     pub csn: Csn,

@@ -3,7 +3,7 @@ ghost use Rattle.std.specs.Prelude.{◌≡◌, drop};
 ghost use Rattle.redolog.specs.Stop.{stop_of};
 
 // Nothing is left of it; a zero byte; a record or group that is broken or unfinished.
-#[derive(Drop)]
+#[derive(Clone, Copy)]
 pub enum Stop {
     Full,
     Zero,

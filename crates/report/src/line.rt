@@ -11,7 +11,7 @@ use store::{Answer, State};
 use transaction::Tx;
 
 // A line's second field: a call's answer, the length of read's part, or whether two disks are equal in meaning.
-#[derive(Drop)]
+#[derive(Clone, Copy)]
 pub enum Verdict {
     Answered(Answer),
     Part(usize),
@@ -21,7 +21,7 @@ pub enum Verdict {
 // The call whose line has a ninth field.
 const RESTART: u8 = 10;
 
-#[derive(Drop)]
+#[derive(Clone, Copy)]
 pub struct Report {
     pub verdict: Verdict,
     pub value: usize,

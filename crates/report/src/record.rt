@@ -6,7 +6,7 @@ use redolog::TxId;
 use redolog::number::{be16, be32};
 use redolog::stores::least;
 
-#[derive(Drop)]
+#[derive(Clone, Copy)]
 pub struct Record {
     pub call: u8,
     pub name: u8,

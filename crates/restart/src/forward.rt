@@ -19,7 +19,7 @@ use redolog::{Csn, TxId};
 
 // What the pass has found: the end that it reached, the last commit number, the highest id, and for each transaction of the image a code by
 // the first group of its id: 0 none, 1 a commit, 2 an abort. A transaction with a code is finished.
-#[derive(Drop)]
+#[derive(Clone, Copy)]
 pub struct Pass {
     pub end: usize,
     pub csn: Csn,
@@ -28,14 +28,14 @@ pub struct Pass {
 }
 
 // The slot of a transaction in the image.
-#[derive(Drop)]
+#[derive(Clone, Copy)]
 pub(crate) enum Slot {
     At(usize),
     Nowhere,
 }
 
 // A turn of the pass: what it has found then, and the slot of the transaction that is to be undone.
-#[derive(Drop)]
+#[derive(Clone, Copy)]
 struct Turn {
     pass: Pass,
     undo: Slot,

@@ -1,4 +1,6 @@
 // Restart's core, steps 2 to 5, from the heads of an image on: once over the log, then what is left unfinished is undone.
+#![tactic(auto)]
+
 pub mod forward;
 pub mod undo;
 
@@ -17,7 +19,7 @@ use redolog::{Csn, TxId};
 
 // Where the log ends, counted from the front of the part handed in, the last commit number found, the last id given, how many transactions
 // step 4 undid, and for each transaction of the image a code: 0 no group of its id found, 1 a commit first, 2 an abort first.
-#[derive(Drop)]
+#[derive(Clone, Copy)]
 pub struct Recovered {
     pub end: usize,
     pub csn: Csn,
@@ -27,7 +29,7 @@ pub struct Recovered {
 }
 
 // With the ids of those undone, in order: their abort records make the tail (undo::put_aborts).
-#[derive(Drop)]
+#[derive(Clone, Copy)]
 pub struct Replayed {
     pub answer: Recovered,
     pub ids: [TxId; MAX_TXS],

@@ -14,14 +14,14 @@ use redolog::record::put_abort;
 use redolog::{Csn, TxId};
 
 // The committing transaction with the highest number so far, and that number.
-#[derive(Drop)]
+#[derive(Clone, Copy)]
 struct Best {
     at: Slot,
     top: Csn,
 }
 
 // Those undone, in order.
-#[derive(Drop)]
+#[derive(Clone, Copy)]
 pub(crate) struct Undone {
     pub(crate) count: usize,
     pub(crate) ids: [TxId; MAX_TXS],

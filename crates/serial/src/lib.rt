@@ -1,1 +1,2 @@
 // What the kept transactions read, over lists of calls: specs/ has the definitions, proofs/ what holds of them. There is no code.
+#![tactic(auto)]

@@ -19,14 +19,14 @@ use transaction::alike;
 const ZERO_PART: usize = 512;
 
 // Whether what was looked at keeps its rules, and the log room that it takes.
-#[derive(Drop)]
+#[derive(Clone, Copy)]
 pub(crate) struct Measured {
     pub ok: bool,
     pub room: usize,
 }
 
 // The number that refuses, 0 for none; if none, where the tail's groups end and the log room used.
-#[derive(Drop)]
+#[derive(Clone, Copy)]
 pub(crate) struct Admission {
     pub number: u8,
     pub end: usize,

@@ -8,21 +8,21 @@ use crate::choose::begin_number;
 use crate::{Answer, State};
 use redolog::{Csn, TxId};
 
-#[derive(Drop)]
+#[derive(Clone, Copy)]
 pub struct Begun {
     pub state: State,
     pub answer: Answer,
     pub id: TxId,
 }
 
-#[derive(Drop)]
+#[derive(Clone, Copy)]
 pub struct Precommitted {
     pub state: State,
     pub answer: Answer,
     pub csn: Csn,
 }
 
-#[derive(Drop)]
+#[derive(Clone, Copy)]
 pub struct Returned {
     pub state: State,
     pub answer: Answer,

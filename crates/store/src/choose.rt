@@ -24,7 +24,7 @@ const READING: bool = false;
 const WRITING: bool = true;
 
 // The number that refuses, 0 for none; if none, the slot, where the tail's groups end and the log room used.
-#[derive(Drop)]
+#[derive(Clone, Copy)]
 pub(crate) struct Choice {
     pub number: u8,
     pub slot: usize,

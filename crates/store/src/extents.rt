@@ -8,7 +8,7 @@ use redolog::{Csn, TxId};
 use transaction::TxExtents;
 
 // The counters, and the transactions listed; what stands in the other slots is not asked for.
-#[derive(Drop)]
+#[derive(Clone, Copy)]
 pub(crate) struct StateExtents {
     pub recovered: bool,
     pub logend: u16,

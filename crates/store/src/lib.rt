@@ -1,5 +1,7 @@
 // The state between calls, and every call but restart: begin, write, read and its sister, precommit, abort and settle in memory alone, flush and
 // checkpoint with counted stores on the disk.
+#![tactic(auto)]
+
 mod admit;
 pub mod call;
 mod checkpoint;
@@ -24,7 +26,7 @@ pub(crate) const RECORDS_MAX: u8 = MAX_RECORDS as u8;
 // Transactions in order of begin, in the first count slots. Laid out as C does it, with all that it holds, for hosts in other languages
 // (crate `luppaneth`).
 #[repr(C)]
-#[derive(Drop)]
+#[derive(Clone, Copy)]
 pub struct State {
     pub recovered: bool,
     pub logend: u16,
@@ -35,7 +37,7 @@ pub struct State {
     pub txs: [Tx; MAX_TXS],
 }
 
-#[derive(Drop)]
+#[derive(Clone, Copy)]
 pub enum Answer {
     Done,
     Cut,

@@ -70,9 +70,9 @@ impl State {
 
     pub(crate) fn go_back_step(mut self, memory: &mut [u8], slot: usize, name: u8) -> Self
         requires slot_lt_max_txs { (slot < max_txs) × (records_ok (ranges_of (tx_at self slot).undo.ranges) ≡ true)
-            × ((txAt self slot).redo.ranges.count ≡ (txAt self slot).undo.ranges.count) × (length memory.old ≡ memoryLen) }
+            × ((tx_at self slot).redo.ranges.count ≡ (tx_at self slot).undo.ranges.count) × (length memory.old ≡ memory_len) }
         requires slot_value { (savepoints_ok (tx_at self slot).undo.ranges.count (savepoints_of (tx_at self slot)) ≡ true)
-            × ((txAt self slot).undo.ranges.count + length (laterRanges name (txAt self slot)) ≤ maxRecords) }
+            × ((tx_at self slot).undo.ranges.count + length (later_ranges name (tx_at self slot)) ≤ max_records) }
         ensures value { result ≡ went_back_state self slot memory.old name }
         ensures memory_after { memory.new ≡ redo_all lay_bytes (return_writes (tx_at self slot) name) memory.old }
     {
@@ -85,10 +85,10 @@ impl State {
     pub(crate) fn precommit_step(mut self, tail: &mut [u8], end: usize, slot: usize) -> Self
         requires slot_lt_max_txs { (slot < max_txs) × (self.assigned.0 < 4294967295) }
         requires slot_value { (records_ok (ranges_of (tx_at self slot).redo.ranges) ≡ true)
-            × (end + rangesSize (rangesOf (txAt self slot).redo.ranges) + commitLen ≤ length tail.old) }
+            × (end + ranges_size (ranges_of (tx_at self slot).redo.ranges) + commit_len ≤ length tail.old) }
         ensures value { result ≡ precommitted_state self slot }
         ensures tail_after { tail.new ≡ sets tail.old end
-            (encodeGroup (committed (txAt self slot).id.0 (self.assigned.0 + 1) (writes_of (txAt self slot).redo))) }
+            (encode_group (committed (tx_at self slot).id.0 (self.assigned.0 + 1) (writes_of (tx_at self slot).redo))) }
     {
         let csn = Csn(self.assigned.0 + 1);
         let t = self.txs[slot];

@@ -14,7 +14,7 @@ use layout::DISK_LEN;
 use redolog::stores::fill_zero;
 
 // stores is the number of stores made.
-#[derive(Drop)]
+#[derive(Clone, Copy)]
 pub struct Stored {
     pub state: State,
     pub answer: Answer,

@@ -1,4 +1,6 @@
 // Numbers in decimal, for every text that is put into a lent buffer.
+#![tactic(auto)]
+
 ghost use Rattle.std.specs.Prelude.{◌+◌, ◌≤◌, length};
 ghost use Rattle.text.specs.{decimal, Put};
 

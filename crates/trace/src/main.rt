@@ -1,4 +1,6 @@
 // trace: a stream of calls on standard input, 64 bytes each; after each call one line of what it answered and left (docs/STREAM.md).
+#![tactic(auto)]
+
 ghost use Rattle.std.specs.Prelude.{◌≡◌};
 ghost use Rattle.std.proofs.lemmas.List.Edits.{sets};
 

@@ -1,4 +1,6 @@
 // One transaction: its undo and redo records, the rules that it has to keep, and what a call does to it.
+#![tactic(auto)]
+
 pub mod ranges;
 pub mod records;
 pub mod savepoints;
@@ -25,7 +27,7 @@ use redolog::{Csn, TxId};
 // What a running transaction keeps besides its records: off the image, emptied by precommit, its rule a conjunct of `stateOk`. The ranges that it
 // has read, oldest first; its savepoints.
 #[repr(C)]
-#[derive(Drop)]
+#[derive(Clone, Copy)]
 pub struct Extras {
     pub reads: Ranges,
     pub savepoints: Savepoints,
@@ -46,7 +48,7 @@ impl Extras {
 
 // A transaction. Its status is RUNNING or COMMITTING.
 #[repr(C)]
-#[derive(Drop)]
+#[derive(Clone, Copy)]
 pub struct Tx {
     pub id: TxId,
     pub status: u8,
@@ -92,7 +94,7 @@ pub fn head_ok(id: TxId, status: u8, number: Csn, last: TxId, assigned: Csn) -> 
 }
 
 // A transaction without the bytes of its records: the rules look at no more, and handing on the bytes takes time.
-#[derive(Drop)]
+#[derive(Clone, Copy)]
 pub struct TxExtents {
     pub id: TxId,
     pub status: u8,

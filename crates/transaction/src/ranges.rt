@@ -12,7 +12,7 @@ use redolog::record::in_range;
 
 // Ranges, oldest first: the i-th is the len[i] bytes from addr[i] on.
 #[repr(C)]
-#[derive(Drop)]
+#[derive(Clone, Copy)]
 pub struct Ranges {
     pub count: u8,
     pub addr: [u16; MAX_RECORDS],

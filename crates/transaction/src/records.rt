@@ -13,7 +13,7 @@ use redolog::stores::copy;
 
 // Undo or redo records, oldest first: the i-th has its range's bytes from MAX_WRITE * i on.
 #[repr(C)]
-#[derive(Drop)]
+#[derive(Clone, Copy)]
 pub struct Records {
     pub ranges: Ranges,
     pub bytes: [u8; MAX_RECORDS * MAX_WRITE],

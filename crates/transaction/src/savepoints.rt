@@ -12,7 +12,7 @@ use layout::MAX_SAVEPOINTS;
 
 // The i-th has names[i] and was set when counts[i] writes stood.
 #[repr(C)]
-#[derive(Drop)]
+#[derive(Clone, Copy)]
 pub struct Savepoints {
     pub count: u8,
     pub names: [u8; MAX_SAVEPOINTS],
