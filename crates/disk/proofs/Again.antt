@@ -127,7 +127,7 @@ alike false w m disk disk' n = record { result = refl; memory = refl; tail = ref
 module _ (disk m t m' t' : List ℕ) (n k : ℕ) (d : length disk ≡ 33691) (lm : length m ≡ 4096) (lt : length t ≡ 16384) (lm' : length m' ≡ 4096)
     (lt' : length t' ≡ 16384) where
   abbrev left : List ℕ
-  left = (restarts.restartOf disk m t n).disk
+  left = (restarts.restart_of disk m t n).disk
 
   left_cleared : (examine_of disk).result.number ≡ 0 → left ≡ apply (take n (clearing (examine_of disk).result.end)) disk
   left_cleared number =
@@ -147,12 +147,12 @@ module _ (disk m t m' t' : List ℕ) (n k : ℕ) (d : length disk ≡ 33691) (lm
       (ap length l ∙ d, ap examine_of l)
 
   -- refused, cut or done: a restart of the disk that it left answers and leaves in memory and tail what one of the old disk does
-  pub restart_again : SameBut (restarts.restartOf left m' t' k) (restarts.restartOf disk m' t' k)
+  pub restart_again : SameBut (restarts.restart_of left m' t' k) (restarts.restart_of disk m' t' k)
   unfolding carried_out
   restart_again =
       let l = left_is (eqb (examine_of disk).result.number 0) refl in
       let m = examine_of disk in
-      subst (λ (o : DiskOutcome). SameBut o (restarts.restartOf disk m' t' k))
+      subst (λ (o : DiskOutcome). SameBut o (restarts.restart_of disk m' t' k))
       (sym (restart_meant left m' t' k l.0 lm' lt' ∙ ap (λ (x : Meaning). of_meaning x left k) l.1))
       (subst (λ (o : DiskOutcome). SameBut (of_meaning m left k) o) (sym (restart_meant disk m' t' k d lm' lt'))
       (alike (eqb m.result.number 0) (ltb k (length (clearing m.result.end))) m left disk k))

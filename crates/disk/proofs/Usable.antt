@@ -78,7 +78,7 @@ pub record Ready (o : DiskOutcome) : Type 0 where
   pub tail : length o.tail ≡ 16384
   pub fit : unfit o.result.state o.tail ≡ false
 
-pub ready : (disk memory tail : List ℕ) (allowed : ℕ) → Done? (left.restartOf disk memory tail allowed) → Ready (left.restartOf disk memory tail allowed)
+pub ready : (disk memory tail : List ℕ) (allowed : ℕ) → Done? (left.restart_of disk memory tail allowed) → Ready (left.restart_of disk memory tail allowed)
 ready disk memory tail allowed e =
     let w = done_inv disk memory tail allowed e in
     let d = w.disk_length in

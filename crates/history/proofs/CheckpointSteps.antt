@@ -106,7 +106,7 @@ module _ {from : Start} (w : World) (d : Disk) (l : Live) (o : OnDisk from w.dis
     image = encode_image (image_of s) m
 
     abbrev slot : ℕ
-    slot = checkpoint-spec.targetAt p
+    slot = checkpoint-spec.target_at p
 
     abbrev rest : List ℕ
     rest = drop (length image) (part slot 8653 w.disk)

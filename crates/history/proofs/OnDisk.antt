@@ -125,7 +125,7 @@ module _ {from : Start} (disk : List ℕ) (d : Disk) (o : OnDisk from disk d) (n
       ap₂ read_log (o.csn ∙ sym n) (opened_log disk o.opened ∙ ap (λ (k : ℕ). log_from k disk) o.place)
       ∙ log_split (number_before (opens from) d) (standing_before d) d.after (whole_log disk) o.log
 
-  pub undone_shown : restarts.undoneBy (image_in disk) (log_in disk) ≡ undone_by d
+  pub undone_shown : restarts.undone_by (image_in disk) (log_in disk) ≡ undone_by d
   undone_shown =
       ap₂ (λ (ts : List Tx) (k : ℕ). undone ts k (groups_of (image_in disk) (log_in disk))) o.txs o.csn
       ∙ ap (undone d.image.txs d.image.csn) groups_after
@@ -177,7 +177,7 @@ module _ {from : Start} (disk : List ℕ) (d : Disk) (o : OnDisk from disk d) (n
     pub tail_shown : (examine_of disk).tail ≡ padded (encode_log (aborts (undone_by d)))
     unfolding steps_of
     tail_shown =
-        let us = restarts.undoneBy (image_in disk) (log_in disk) in
+        let us = restarts.undone_by (image_in disk) (log_in disk) in
         let e : 4 * length us ≡ length (encode_log (aborts us)) = omega (arith, aborts_length us) in
         ap (λ (m : Meaning). m.tail) accepts.is
         ∙ tail_is (image_in disk) rules (log_in disk) (memory_in disk)

@@ -258,7 +258,7 @@ module _ (image : Image) (u : StatusByCsn image) (keys : Keys) (same : keys ≡ 
           let r : lost_by image (set found i 2) csn.0 ≡ w.before ++ w.after =
           w.without (lost_at image (set found i 2) csn.0) (lost_self image found i csn.0 (omega (arith, g.2))) (lost_other image found i csn.0) in
           let lost : sort_desc (lost_by image found csn.0) ≡ transaction_at image i ∷ sort_desc (lost_by image (set found i 2) csn.0) =
-          ap sort_desc w.whole ∙ sort_pick w.after (transaction_at image i) w.lower w.least
+          ap sort_desc w.whole ∙ sort_pick (transaction_at image i) w.after w.lower w.least
           ∙ ap (λ (xs : List Tx). transaction_at image i ∷ sort_desc xs) (sym r) in (
             g.2,
             ap₂ (λ (xs ys : List Tx). xs ++ ys) (filter_none runs (transaction_at image) image.count e) lost

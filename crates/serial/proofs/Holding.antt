@@ -85,7 +85,7 @@ module _ (s : State) (m t : List ℕ) (z : SizedState s) (ss : List OpenWithRead
         (keep (λ i b x. held_changed s r i b j u c few kept x) h))
 
     pub wrote_held : (a : ℕ) (bs : List ℕ) → write_number s m t id a (length bs) ≡ 0
-        → All (HoldsReads (written_state s j m a bs)) (map (entries.notingWrite id.0 (record { addr = a; bytes = bs })) ss)
+        → All (HoldsReads (written_state s j m a bs)) (map (entries.noting_write id.0 (record { addr = a; bytes = bs })) ss)
     unfolding written_state
     wrote_held a bs e =
         let p = write_passed s m t id a (length bs) e in
@@ -149,8 +149,8 @@ module _ (s : State) (m t : List ℕ) (z : SizedState s) (ss : List OpenWithRead
 
     -- a read that handed back bytes: each of them is covered
     pub seen_held : (a n : ℕ) → ReadPassed s m t id.0 a n → covered (used_by (tx_of s id.0)) a n ≡ true → (bytes assigned : List ℕ) → length bytes ≡ n
-        → All (HoldsReads s) (map (entries.notingRead id.0 a bytes assigned) ss)
-    seen_held a n p cover bytes assigned l = all_mapped (entries.notingRead id.0 a bytes assigned) (all_map one h)
+        → All (HoldsReads s) (map (entries.noting_read id.0 a bytes assigned) ss)
+    seen_held a n p cover bytes assigned l = all_mapped (entries.noting_read id.0 a bytes assigned) (all_map one h)
       where
         held : (b : ℕ) → a ≤ b → b < a + length bytes → HeldBy s id.0 b
         held b low high = record {
@@ -161,11 +161,11 @@ module _ (s : State) (m t : List ℕ) (z : SizedState s) (ss : List OpenWithRead
           used = every_at (λ x. x) (λ x. any (has_byte x) (used_by (tx_of s id.0))) n a cover b low (omega (arith, l));
         }
 
-        one : (x : OpenWithReads) → HoldsReads s x → HoldsReads s (entries.notingRead id.0 a bytes assigned x)
+        one : (x : OpenWithReads) → HoldsReads s x → HoldsReads s (entries.noting_read id.0 a bytes assigned x)
         one x k = go (eqb id.0 x.tx.id) refl
           where
             go : (b : Bool) → eqb id.0 x.tx.id ≡ b
-                → HoldsReads s (cond b (entries.addRead (entries.read_by a bytes assigned x) x) x)
+                → HoldsReads s (cond b (entries.add_read (entries.read_by a bytes assigned x) x) x)
             go true e = all_append k (cons (λ b c. subst (λ (i : ℕ). HeldBy s i b) (eqb-true id.0 x.tx.id e) (held b c.0 c.1)) nil)
             go false e = k
 

@@ -79,9 +79,9 @@ reader_open o d l k r listed run u =
     let f = find r.id r l.txs listed in
     let xs = running f.before in
     let ys = running f.after in
-    only_open r.id k.active (opens xs) (ledger.openOf r) (opens ys)
-    (u.ledger.active ∙ ap opens (found_running r run f) ∙ map-append ledger.openOf xs (r ∷ ys)) refl
-    (subst (All (λ t. t.id ≢ r.id)) (map-append ledger.openOf xs ys) (all_mapped ledger.openOf (found_apart r run f u.standing.live_distinct)))
+    only_open r.id k.active (opens xs) (ledger.open_of r) (opens ys)
+    (u.ledger.active ∙ ap opens (found_running r run f) ∙ map-append ledger.open_of xs (r ∷ ys)) refl
+    (subst (All (λ t. t.id ≢ r.id)) (map-append ledger.open_of xs ys) (all_mapped ledger.open_of (found_apart r run f u.standing.live_distinct)))
 
 module _ (o : Opening) (d : Disk) (l : Live) (k : LedgerWithReads) (r : Tx) (addr : ℕ) (bytes : List ℕ) (listed : Listed r l.txs)
     (run : r.committing ≡ false) (within : addr + length bytes ≤ o.size) (free : held_by_other r.id (record { addr = addr; bytes = bytes }) l.txs ≡ false)
@@ -104,8 +104,8 @@ module _ (o : Opening) (d : Disk) (l : Live) (k : LedgerWithReads) (r : Tx) (add
   found : Found r.id r l.txs
   found = find r.id r l.txs listed
 
-  all_running : (p : OpenTx → Type 0) → All (λ t. p (ledger.openOf t)) (running l.txs) → All (λ s. p s.tx) k.active
-  all_running p h = all_unmapped (λ s. s.tx) k.active (subst (All p) (sym u.ledger.active) (all_mapped ledger.openOf h))
+  all_running : (p : OpenTx → Type 0) → All (λ t. p (ledger.open_of t)) (running l.txs) → All (λ s. p s.tx) k.active
+  all_running p h = all_unmapped (λ s. s.tx) k.active (subst (All p) (sym u.ledger.active) (all_mapped ledger.open_of h))
 
   -- under the reader's id the reader's writes stand alone
   own_writes : All (λ s. s.tx.id ≡ r.id → s.tx.writes ≡ r.redo) k.active

@@ -39,7 +39,7 @@ txs_of s = listed s.txs s.count
 
 -- what the image rules look at in them
 abbrev pub outline_at : State → ℕ → Outline
-outline_at s i = slots.outlineAt s.txs i
+outline_at s i = slots.outline_at s.txs i
 
 abbrev pub outlines_of : State → List Outline
 outlines_of s = outlined s.txs s.count
