@@ -208,8 +208,8 @@ module _ {from : Start} (w : World) (d : Disk) (l : Live) (o : OnDisk from w.dis
         let n = stood_at name (tx_of s id) in
         let ws = return_writes (tx_of s id) name in
         let e = go_back_done s m t tid name z in
-        follows (go_back id name) (changed w _) (ledger.went_back_lem tx.id name) (after_go_back tx n l) (ap (changed w) e)
-        (ap (λ (i : ℕ). ledger.went_back_lem i name) (sym r.named))
+        follows (go_back id name) (changed w _) (ledger.went_back tx.id name) (after_go_back tx n l) (ap (changed w) e)
+        (ap (λ (i : ℕ). ledger.went_back i name) (sym r.named))
         (goes_back d l tx name n (listed r.listed r.named) (is_running r) (set_view s m t v.sizes tid name z)
         (omega (arith, p.room, room, later_view s m t v.sizes tid name z))) o
         (lives (went_back_state s (slot_of s id) m name) (redo_all lay_bytes ws m) t (after_go_back tx n l) (back_same s (slot_of s id) m name)
