@@ -61,6 +61,7 @@ none_last id nil = refl
 none_last id (cons {x = g} n ns) = rw (none_last id ns, ne_eqb id (group_id g) (λ e. n (sym e)))
 
 commit_last : (gs : List Group) → Distinct group_id gs → (c : Commit) → Memᴰ c (commits gs) → last_group gs c.id ≡ some (committed c.id c.csn c.writes)
+commit_last [] d c m = elim m [ ]
 commit_last (committed i n ws ∷ gs) (more h d) c (Memᴰ.head e) =
     subst (λ (x : Commit). last_group (committed i n ws ∷ gs) x.id ≡ some (committed x.id x.csn x.writes)) (sym e)
     (rw (none_last i h, eq-eqb i i refl))

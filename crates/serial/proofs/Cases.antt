@@ -27,57 +27,77 @@ byte10 b = record { addr = 10; bytes = b ∷ [] }
 abbrev saw10 : ℕ → ℕ → List ℕ → Read
 saw10 b own assigned = record { addr = 10; bytes = b ∷ []; own = own; assigned = assigned }
 
-unfoldable pub rows : List Row
-rows =
-    -- a read has the own writes that stood, not those that came later
+-- a read has the own writes that stood, not those that came later
+unfoldable pub row_1 : Row
+row_1 =
     record {
       fed = event (restarted 0) ∷ event (begun 1) ∷ saw 1 10 (0 ∷ []) ∷ event (wrote 1 (byte10 5)) ∷ saw 1 10 (5 ∷ []) ∷ event (wrote 1 (byte10 6))
           ∷ event (precommitted 1 1) ∷ event (flushed 1 100) ∷ [];
       stamps = 0 ∷ [];
       reads = (saw10 0 0 [] ∷ saw10 5 1 [] ∷ []) ∷ [];
     }
-    -- a read of what is precommitted and not yet on disk; both become durable, in commit order
-    ∷ record {
+
+-- a read of what is precommitted and not yet on disk; both become durable, in commit order
+unfoldable pub row_2 : Row
+row_2 =
+    record {
       fed = event (restarted 0) ∷ event (begun 1) ∷ event (begun 2) ∷ event (wrote 1 (byte10 5)) ∷ event (precommitted 1 1) ∷ saw 2 10 (5 ∷ [])
           ∷ event (precommitted 2 2) ∷ event (flushed 2 100) ∷ [];
       stamps = 0 ∷ 1 ∷ [];
       reads = [] ∷ (saw10 5 0 (0 ∷ []) ∷ []) ∷ [];
     }
-    -- a later transaction writes what an earlier one has read
-    ∷ record {
+
+-- a later transaction writes what an earlier one has read
+unfoldable pub row_3 : Row
+row_3 =
+    record {
       fed = event (restarted 0) ∷ event (begun 1) ∷ saw 1 10 (0 ∷ []) ∷ event (precommitted 1 1) ∷ event (begun 2) ∷ event (wrote 2 (byte10 5))
           ∷ event (precommitted 2 2) ∷ event (flushed 2 100) ∷ [];
       stamps = 0 ∷ 1 ∷ [];
       reads = (saw10 0 0 [] ∷ []) ∷ [] ∷ [];
     }
-    -- the flush is cut between the two: the reader is lost
-    ∷ record {
+
+-- the flush is cut between the two: the reader is lost
+unfoldable pub row_4 : Row
+row_4 =
+    record {
       fed = event (restarted 0) ∷ event (begun 1) ∷ event (begun 2) ∷ event (wrote 1 (byte10 5)) ∷ event (precommitted 1 1) ∷ saw 2 10 (5 ∷ [])
           ∷ event (precommitted 2 2) ∷ event (cut (flushed 2 16)) ∷ [];
       stamps = 0 ∷ [];
       reads = [] ∷ [];
     }
-    -- id 1 and number 1 recur after they were lost, with the same write: the lost one's read is not among the reads, and its stamp is another
-    ∷ record {
+
+-- id 1 and number 1 recur after they were lost, with the same write: the lost one's read is not among the reads, and its stamp is another
+unfoldable pub row_5 : Row
+row_5 =
+    record {
       fed = event (restarted 0) ∷ event (begun 1) ∷ saw 1 10 (0 ∷ []) ∷ event (wrote 1 (byte10 5)) ∷ event (precommitted 1 1) ∷ event (cut unchanged)
           ∷ event (restarted 0) ∷ event (begun 1) ∷ event (wrote 1 (byte10 5)) ∷ saw 1 10 (5 ∷ []) ∷ event (precommitted 1 1) ∷ event (flushed 1 100) ∷ [];
       stamps = 1 ∷ [];
       reads = (saw10 5 1 [] ∷ []) ∷ [];
     }
-    -- what is rolled back takes its reads with it
-    ∷ record {
+
+-- what is rolled back takes its reads with it
+unfoldable pub row_6 : Row
+row_6 =
+    record {
       fed = event (restarted 0) ∷ event (begun 1) ∷ event (begun 2) ∷ saw 1 10 (0 ∷ []) ∷ event (rolled_back 1) ∷ event (precommitted 2 1) ∷ event (flushed 2 100) ∷ [];
       stamps = 0 ∷ [];
       reads = [] ∷ [];
     }
-    -- the writes of a return are own earlier writes
-    ∷ record {
+
+-- the writes of a return are own earlier writes
+unfoldable pub row_7 : Row
+row_7 =
+    record {
       fed = event (restarted 0) ∷ event (begun 1) ∷ event (wrote 1 (byte10 5)) ∷ event (savepoint_set 1 7) ∷ event (wrote 1 (byte10 6)) ∷ saw 1 10 (6 ∷ [])
           ∷ event (went_back 1 7) ∷ saw 1 10 (5 ∷ []) ∷ event (precommitted 1 1) ∷ event (flushed 1 100) ∷ [];
       stamps = 0 ∷ [];
       reads = (saw10 6 2 [] ∷ saw10 5 3 [] ∷ []) ∷ [];
     }
-    ∷ []
+
+unfoldable pub rows : List Row
+rows = row_1 ∷ row_2 ∷ row_3 ∷ row_4 ∷ row_5 ∷ row_6 ∷ row_7 ∷ []
 
 -- what the order says of each read of each transaction, in commit order after `before`
 abbrev said : List CommitWithReads → List CommitWithReads → List (List (List ℕ))
@@ -93,7 +113,34 @@ Right r =
     let k : LedgerWithReads = feed_all r.fed (no_reads (replicate 16 0)) in
     (stamps_of k.durable ≡ r.stamps) × (map (λ c. c.reads) k.durable ≡ r.reads) × (said [] k.durable ≡ map bytes_of r.reads)
 
+right_1 : Right row_1
+unfolding row_1
+right_1 = (refl, refl, refl)
+
+right_2 : Right row_2
+unfolding row_2
+right_2 = (refl, refl, refl)
+
+right_3 : Right row_3
+unfolding row_3
+right_3 = (refl, refl, refl)
+
+right_4 : Right row_4
+unfolding row_4
+right_4 = (refl, refl, refl)
+
+right_5 : Right row_5
+unfolding row_5
+right_5 = (refl, refl, refl)
+
+right_6 : Right row_6
+unfolding row_6
+right_6 = (refl, refl, refl)
+
+right_7 : Right row_7
+unfolding row_7
+right_7 = (refl, refl, refl)
+
 pub read_cases : All Right rows
 unfolding rows
-read_cases =
-    cons (refl, refl, refl) (cons (refl, refl, refl) (cons (refl, refl, refl) (cons (refl, refl, refl) (cons (refl, refl, refl) (cons (refl, refl, refl) (cons (refl, refl, refl) nil))))))
+read_cases = cons right_1 (cons right_2 (cons right_3 (cons right_4 (cons right_5 (cons right_6 (cons right_7 nil))))))
