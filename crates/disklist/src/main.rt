@@ -1,13 +1,27 @@
 // disklist: one disk on standard input; what restart finds on it is printed (document 01, "Program disklist"). Crate `listing` proves the text.
 #![tactic(auto)]
 
-use libc::{STDIN_FILENO, STDOUT_FILENO};
 use listing::{INPUT_LEN, TEXT_LEN, list_input};
+use std::io;
+use std::io::{Read, Write};
 
-fn main() {
+// Fills the buffer from the front as far as the input goes, and says how far.
+fn read_full<R: Read>(from: &mut R, buffer: &mut [u8]) -> io::Result<usize> {
+    let mut there = 0usize;
+    for turn in 0..buffer.len() {
+        let n = from.read(&mut buffer[there..])?;
+        if n == 0 {
+            break;
+        }
+        there += n;
+    }
+    Ok(there)
+}
+
+fn main(rt: HostRuntime) -> io::Result<()> {
     let mut input = [0u8; INPUT_LEN];
-    let n = io::read_full(STDIN_FILENO, &mut input);
+    let n = read_full(&mut rt.reader(), &mut input)?;
     let mut text = [0u8; TEXT_LEN];
     let k = list_input(&mut input, n, &mut text);
-    io::write_all(STDOUT_FILENO, &text[..k]);
+    io::writer(&rt).write_all(&text[..k])
 }

@@ -5,8 +5,9 @@ ghost use Rattle.report.specs.Report.{stored_of, restarted_of, read_of, count_in
 
 use disk::call::Stopped;
 use layout::MAX_TXS;
-use libc::STDOUT_FILENO;
 use redolog::stop::Stop;
+use std::io;
+use std::io::Write;
 use store::{Answer, State};
 use transaction::Tx;
 
@@ -102,59 +103,48 @@ pub fn adler(s: &[u8]) -> u32
     b * 65536 + a
 }
 
-fn text(s: &[u8]) {
-    io::write_all(STDOUT_FILENO, s);
+fn text<W: Write>(to: &mut W, s: &[u8]) -> io::Result<()> {
+    to.write_all(s)
 }
 
-fn number(n: usize) {
-    io::print_decimal(STDOUT_FILENO, n as u64);
+fn number<W: Write>(to: &mut W, n: usize) -> io::Result<()> {
+    write!(to, "{n}")
 }
 
-fn blank_number(n: usize) {
-    text(b" ");
-    number(n);
+fn blank_number<W: Write>(to: &mut W, n: usize) -> io::Result<()> {
+    text(to, b" ")?;
+    number(to, n)
 }
 
-fn comma_number(n: usize) {
-    text(b",");
-    number(n);
+fn comma_number<W: Write>(to: &mut W, n: usize) -> io::Result<()> {
+    text(to, b",")?;
+    number(to, n)
 }
 
-pub fn print_unknown() {
-    text(b"unknown\n");
+pub fn print_unknown<W: Write>(to: &mut W) -> io::Result<()> {
+    text(to, b"unknown\n")
 }
 
-fn print_answer(answer: Answer) {
+fn print_answer<W: Write>(to: &mut W, answer: Answer) -> io::Result<()> {
     match answer {
-        Answer::Done => {
-            text(b" done");
-        }
-        Answer::Cut => {
-            text(b" cut");
-        }
+        Answer::Done => text(to, b" done"),
+        Answer::Cut => text(to, b" cut"),
         Answer::Refused(n) => {
-            text(b" refused=");
-            number(n as usize);
+            text(to, b" refused=")?;
+            number(to, n as usize)
         }
     }
 }
 
-fn print_verdict(verdict: Verdict) {
+fn print_verdict<W: Write>(to: &mut W, verdict: Verdict) -> io::Result<()> {
     match verdict {
-        Verdict::Answered(answer) => {
-            print_answer(answer);
-        }
+        Verdict::Answered(answer) => print_answer(to, answer),
         Verdict::Part(length) => {
-            text(b" part=");
-            number(length);
+            text(to, b" part=")?;
+            number(to, length)
         }
-        Verdict::Equal(equal) => {
-            if equal {
-                text(b" yes");
-            } else {
-                text(b" no");
-            }
-        }
+        Verdict::Equal(true) => text(to, b" yes"),
+        Verdict::Equal(false) => text(to, b" no"),
     }
 }
 
@@ -192,54 +182,51 @@ fn counted(s: State, savepoints: bool) -> usize
 }
 
 // Recovered, log end, number on disk, number assigned, last id, transactions listed, ranges that they have read, savepoints.
-fn print_state(s: State) {
+fn print_state<W: Write>(to: &mut W, s: State) -> io::Result<()> {
     if s.recovered {
-        text(b" 1");
+        text(to, b" 1")?;
     } else {
-        text(b" 0");
+        text(to, b" 0")?;
     }
-    comma_number(s.logend as usize);
-    comma_number(s.ondisk.0 as usize);
-    comma_number(s.assigned.0 as usize);
-    comma_number(s.lastid.0 as usize);
-    comma_number(s.count as usize);
-    comma_number(counted(s, READS));
-    comma_number(counted(s, SAVEPOINTS));
+    comma_number(to, s.logend as usize)?;
+    comma_number(to, s.ondisk.0 as usize)?;
+    comma_number(to, s.assigned.0 as usize)?;
+    comma_number(to, s.lastid.0 as usize)?;
+    comma_number(to, s.count as usize)?;
+    comma_number(to, counted(s, READS))?;
+    comma_number(to, counted(s, SAVEPOINTS))
 }
 
 // Restart's ninth field.
-fn print_stop(stopped: Stopped) {
+fn print_stop<W: Write>(to: &mut W, stopped: Stopped) -> io::Result<()> {
     let Stopped::At(stop) = stopped else {
-        text(b" -");
-        return;
+        return text(to, b" -");
     };
     match stop {
-        Stop::Full => {
-            text(b" full");
-        }
-        Stop::Zero => {
-            text(b" zero");
-        }
-        Stop::Torn => {
-            text(b" torn");
-        }
+        Stop::Full => text(to, b" full"),
+        Stop::Zero => text(to, b" zero"),
+        Stop::Torn => text(to, b" torn"),
     }
 }
 
-pub fn print_line(call: u8, out: Report, disk: &[u8], memory: &[u8], tail: &[u8]) {
-    number(call as usize);
-    let verdict = out.verdict;
-    print_verdict(verdict);
-    blank_number(out.value);
-    blank_number(out.stores);
-    blank_number(adler(disk) as usize);
-    blank_number(adler(memory) as usize);
-    blank_number(adler(tail) as usize);
-    let state = out.state;
-    print_state(state);
+pub fn print_line<W: Write>(
+    to: &mut W,
+    call: u8,
+    out: Report,
+    disk: &[u8],
+    memory: &[u8],
+    tail: &[u8],
+) -> io::Result<()> {
+    number(to, call as usize)?;
+    print_verdict(to, out.verdict)?;
+    blank_number(to, out.value)?;
+    blank_number(to, out.stores)?;
+    blank_number(to, adler(disk) as usize)?;
+    blank_number(to, adler(memory) as usize)?;
+    blank_number(to, adler(tail) as usize)?;
+    print_state(to, out.state)?;
     if call == RESTART {
-        let stop = out.stop;
-        print_stop(stop);
+        print_stop(to, out.stop)?;
     }
-    text(b"\n");
+    text(to, b"\n")
 }

@@ -10,10 +10,11 @@ use inspect::groups::first_groups;
 use inspect::outcomes::outcomes;
 use inspect::page::read_page;
 use layout::{DISK_LEN, MEMORY_LEN, PAGE_LEN, TAIL_LEN};
-use libc::STDIN_FILENO;
 use redolog::stores::{copy, fill, least};
 use report::line::{Report, adler, print_line, print_unknown};
 use report::record::{IDS, Record, data_of, ids_count, ids_of, read_record};
+use std::io;
+use std::io::{ErrorKind, Read, Write};
 use store::{Answer, State};
 
 // Stores the bytes of src from an offset on, those that lie within dst: `sets` leaves out what is past the end.
@@ -103,24 +104,32 @@ fn outcomes_call(bytes: &[u8], s: State, disk: &[u8], list: &mut [u8], len: usiz
 }
 
 // The calls that look at the disk without a state, into a buffer of the stream's own, which is the line's memory; the list of outcomes is not.
-fn look(bytes: &[u8], r: Record, s: State, disk: &[u8], memory: &[u8], tail: &[u8]) -> State {
+fn look<W: Write>(
+    to: &mut W,
+    bytes: &[u8],
+    r: Record,
+    s: State,
+    disk: &[u8],
+    memory: &[u8],
+    tail: &[u8],
+) -> io::Result<State> {
     let call = r.call;
     if call == 15 {
         let mut seen = [165u8; MEMORY_LEN];
         let out = groups_call(r, s, disk, &mut seen);
-        print_line(call, out, disk, &seen, tail);
-        return out.state;
+        print_line(to, call, out, disk, &seen, tail)?;
+        return Ok(out.state);
     }
     if call == 16 {
         let mut seen = [165u8; PAGE_LEN];
         let out = page_call(r, s, disk, &mut seen);
-        print_line(call, out, disk, &seen, tail);
-        return out.state;
+        print_line(to, call, out, disk, &seen, tail)?;
+        return Ok(out.state);
     }
     let mut list = [165u8; IDS];
     let out = outcomes_call(bytes, s, disk, &mut list, r.len);
-    print_line(call, out, disk, memory, tail);
-    out.state
+    print_line(to, call, out, disk, memory, tail)?;
+    Ok(out.state)
 }
 
 // The calls that work in memory.
@@ -182,60 +191,78 @@ fn savepoint_call(r: Record, s: State, memory: &mut [u8], tail: &[u8]) -> Report
 }
 
 // One record: the call, its line, and the state that it leaves.
-fn step(
+fn step<W: Write>(
+    to: &mut W,
     bytes: &[u8],
     s: State,
     disk: &mut [u8],
     kept: &mut [u8],
     memory: &mut [u8],
     tail: &mut [u8],
-) -> State {
+) -> io::Result<State> {
     let r = read_record(bytes);
     let call = r.call;
     match call {
         7 | 9 | 10 => {
             let out = disk_call(r, s, disk, memory, tail);
-            print_line(call, out, &*disk, &*memory, &*tail);
-            out.state
+            print_line(to, call, out, &*disk, &*memory, &*tail)?;
+            Ok(out.state)
         }
         1..=6 | 8 => {
             let out = memory_call(r, data_of(bytes), s, memory, tail);
-            print_line(call, out, &*disk, &*memory, &*tail);
-            out.state
+            print_line(to, call, out, &*disk, &*memory, &*tail)?;
+            Ok(out.state)
         }
         17 | 18 => {
             let out = savepoint_call(r, s, memory, &*tail);
-            print_line(call, out, &*disk, &*memory, &*tail);
-            out.state
+            print_line(to, call, out, &*disk, &*memory, &*tail)?;
+            Ok(out.state)
         }
         11..=14 => {
             let out = stream_call(r, data_of(bytes), s, disk, kept, memory, tail);
-            print_line(call, out, &*disk, &*memory, &*tail);
-            out.state
+            print_line(to, call, out, &*disk, &*memory, &*tail)?;
+            Ok(out.state)
         }
-        15 | 16 | 19 => look(bytes, r, s, &*disk, &*memory, &*tail),
+        15 | 16 | 19 => look(to, bytes, r, s, &*disk, &*memory, &*tail),
         _ => {
-            print_unknown();
-            s
+            print_unknown(to)?;
+            Ok(s)
         }
     }
 }
 
-fn main() {
+// Whether a whole record was there. A part of one ends the stream.
+fn next_record<R: Read>(from: &mut R, record: &mut [u8]) -> io::Result<bool> {
+    match from.read_exact(record) {
+        Ok(()) => Ok(true),
+        Err(e) if e.kind() == ErrorKind::UnexpectedEof => Ok(false),
+        Err(e) => Err(e),
+    }
+}
+
+fn main(rt: HostRuntime) -> io::Result<()> {
     let mut disk = [0u8; DISK_LEN];
     let mut kept = [0u8; DISK_LEN];
     let mut memory = [0u8; MEMORY_LEN];
     let mut tail = [0u8; TAIL_LEN];
     let mut record = [0u8; 64];
     let mut s = State::unrecovered();
-    // A proved loop ends: it counts down from a number that no stream uses up.
-    let mut turns = u64::MAX;
-    while 0 < turns {
-        turns = turns - 1;
-        let n = io::read_full(STDIN_FILENO, &mut record);
-        if n < 64 {
-            return;
+    let mut from = rt.reader();
+    let mut to = io::writer(&rt);
+    // A proved loop ends: no stream has so many records.
+    for _ in 0..u64::MAX {
+        if !next_record(&mut from, &mut record)? {
+            break;
         }
-        s = step(&record, s, &mut disk, &mut kept, &mut memory, &mut tail);
+        s = step(
+            &mut to,
+            &record,
+            s,
+            &mut disk,
+            &mut kept,
+            &mut memory,
+            &mut tail,
+        )?;
     }
+    Ok(())
 }
