@@ -1,4 +1,4 @@
-use Rattle.std.proofs.Common.{length, replicate, arith, refl, sym, ◌∙◌}
+use Rattle.std.proofs.Common.{replicate, arith, refl, sym, ◌∙◌}
 use Rattle.std.proofs.lemmas.List.{length-replicate}
 use Rattle.store.proofs.Bare.{disk_number_by}
 use Rattle.store.proofs.Storing.{disk_admitted, leaves}

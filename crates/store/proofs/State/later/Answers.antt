@@ -21,14 +21,14 @@ loop-i-preserved c =
     let t : at c.if-i-lt-MAX_TXS.seen =
     elim c.if-i-lt-MAX_TXS.branch [
       | then-i-lt-MAX_TXS w ↦
-        let x = w.extents-e.result in
-        subst at (sym w.seen-is) (
-          counters_kept s e (set e.txs i x) v.1,
-          length-set e.txs i x ∙ v.2,
-          taken_stored s e.txs i x v.2 w.if-i-lt-MAX_TXS.true w.extents-e.ensures v.3,
-        )
+          let x = w.extents-e.result in
+          subst at (sym w.seen-is) (
+            counters_kept s e (set e.txs i x) v.1,
+            length-set e.txs i x ∙ v.2,
+            taken_stored s e.txs i x v.2 w.if-i-lt-MAX_TXS.true w.extents-e.ensures v.3,
+          )
       | else-i-lt-MAX_TXS w ↦
-        subst at (sym w.seen-is) (v.1, v.2, taken_past s e.txs i v.2 (search (rules, length_mapped)) w.if-i-lt-MAX_TXS.false v.3)
+          subst at (sym w.seen-is) (v.1, v.2, taken_past s e.txs i v.2 (search (rules, length_mapped)) w.if-i-lt-MAX_TXS.false v.3)
     ] in
     (omega (arith, v.0), t.0, t.1, t.2)
 

@@ -1,4 +1,4 @@
-use Rattle.std.proofs.Common.{ℕ, Bool, ◌+◌, ◌-◌, ◌&&◌, ◌≡◌, drop, arith, sym, ap, ◌∙◌}
+use Rattle.std.proofs.Common.{Bool, ◌+◌, ◌-◌, ◌&&◌, drop, arith, sym, ap, ◌∙◌}
 use Rattle.store.specs.Rules.{all_zero}
 use Rattle.store.proofs.Zeros.{zeros_part}
 use Rattle.store.proofs.admit.all_zero.Goals as goal

@@ -1,4 +1,4 @@
-use Rattle.std.proofs.Common.{ℕ, Bool, true, ◌+◌, ◌-◌, ◌≤◌, ◌≡◌, get_or, arith, refl, sym, ap, ◌∙◌, subst}
+use Rattle.std.proofs.Common.{ℕ, Bool, true, ◌+◌, ◌-◌, ◌≤◌, ◌≡◌, get_or, arith, sym, ap, ◌∙◌, subst}
 use Rattle.recovery.specs.Lists.{any}
 use Rattle.redolog.proofs.Basics.{and_right}
 use Rattle.transaction.specs.Lists.{up_from, every, sum_of}
