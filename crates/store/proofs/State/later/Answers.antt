@@ -7,9 +7,6 @@ use Rattle.store.proofs.Slots.{length_mapped}
 use Rattle.store.proofs.State.later.Goals as goal
 use Rattle.store.proofs.State.later.Goals.{then-i-lt-MAX_TXS, else-i-lt-MAX_TXS}
 
-pub loop-i-init : goal.loop-i-init
-loop-i-init c = (omega arith, c.requires.0, search (rules, length_mapped), c.requires.1)
-
 -- a turn takes one slot more, or finds none
 pub loop-i-preserved : goal.loop-i-preserved
 loop-i-preserved c =
@@ -31,6 +28,3 @@ loop-i-preserved c =
           subst at (sym w.seen-is) (v.1, v.2, taken_past s e.txs i v.2 (search (rules, length_mapped)) w.if-i-lt-MAX_TXS.false v.3)
     ] in
     (omega (arith, v.0), t.0, t.1, t.2)
-
-pub returns : goal.returns
-returns c = let v = c.loop-i.invariant in (v.1, λ j h. v.3 j (omega (arith, h, c.loop-i-test.false)))

@@ -1,17 +1,13 @@
-use Rattle.std.proofs.Common.{ℕ, Bool, get_or, arith, refl, sym, ap, ◌≡◌, ◌∙◌}
-use Rattle.recovery.specs.Lists.{any}
+use Rattle.std.proofs.Common.{ℕ, Bool, get_or, arith, sym, ap, ◌≡◌, ◌∙◌}
 use Rattle.transaction.specs.declared.Tx.{Tx}
 use Rattle.transaction.specs.View.{outline_of, bare_tx}
 use Rattle.transaction.specs.Rules.{alike}
-use Rattle.transaction.proofs.Lists.{up_done, any_hit, any_miss}
+use Rattle.transaction.proofs.Lists.{any_hit, any_miss}
 use Rattle.store.specs.declared.extents.StateExtents.{StateExtents}
 use Rattle.store.specs.State.{outline_at}
 use Rattle.store.specs.Extents.{no_extents, bare_state}
 use Rattle.store.proofs.Bare.{bare_at}
 use Rattle.store.proofs.extents.StateExtents.alike_from.Goals as goal
-
-pub loop-j-init : goal.loop-j-init
-loop-j-init c = (omega arith, refl)
 
 -- what is compared is the transaction in slot j
 compared : (e : StateExtents) (id csn j : ℕ) (r : Bool) → r ≡ alike id csn (outline_of (bare_tx (get_or e.txs j no_extents)))
@@ -29,8 +25,3 @@ loop-j-preserved c =
     let a = c.args in
     let e = compared a.self a.id.0 a.csn.0 c.loop-j.j _ c.alike.ensures ∙ c.if-alike.false in
     (omega arith, c.loop-j.invariant.1 ∙ any_miss (outline_at (bare_state a.self)) _ _ c.loop-j-test.true (alike _ _) e)
-
-pub returns : goal.returns
-returns c =
-    let a = c.args in
-    sym (c.loop-j.invariant.1 ∙ ap (any (alike a.id.0 a.csn.0)) (up_done (outline_at (bare_state a.self)) a.self.count c.loop-j.j c.loop-j-test.false))
