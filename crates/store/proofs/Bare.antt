@@ -22,6 +22,7 @@ use Rattle.store.specs.Extents.{no_extents, with_extents, Taken, HasExtents, bar
 use Rattle.store.specs.Numbers.{Check, first_number, tx_of}
 use Rattle.store.specs.Admission.{admission, disk_admission, choice, Seen}
 use Rattle.store.proofs.Choosing.{Slotted}
+use Rattle.store.proofs.Storing.{disk_number, disk_number_lem}
 use Rattle.store.proofs.Sameness.{AlikeTx, Alike, rules_alike, states_alike, admission_alike, disk_alike, choice_alike}
 
 -- ---- the slots taken so far
@@ -108,6 +109,9 @@ module _ (s : State) (e : StateExtents) (h : HasExtents s e) where
 
   pub disk_by : (d lent : ℕ) (t : List ℕ) (x : Admission) → x ≡ disk_admission (bare_state e) d lent t → x ≡ disk_admission s d lent t
   disk_by d lent t x q = q ∙ disk_alike (bare_state e) s judged d lent t
+
+  pub disk_number_by : (d m t : List ℕ) (x : Admission) → x ≡ disk_admission (bare_state e) (length d) (length m) t → disk_number s d m t ≡ x.number
+  disk_number_by d m t x q = sym (disk_number_lem s d m t x (disk_by (length d) (length m) t x q))
 
   pub seen_by : (x : Admission) → Seen x s → Seen x (bare_state e)
   seen_by x f z = (rules_alike (bare_state e) s judged ∙ (f z).0, states_alike (bare_state e) s judged ∙ (f z).1, (f z).2)

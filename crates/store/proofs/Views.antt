@@ -11,7 +11,7 @@ use lib.ListN.{length, take, drop, length-take}
 use lib.Seq.{sets}
 use lib.Dec.{eqb}
 use borrow.Author.Tests.{eqb-true, eq-eqb, ne_eqb, le-leb}
-use Rattle.recovery.specs.Group.{Write, Group, committed, aborted, redo_size, group_size, last_csn}
+use Rattle.recovery.specs.Group.{Group, committed, aborted, redo_size, group_size, last_csn}
 use Rattle.recovery.specs.Transaction.{Tx as Transaction, lookup, edit, remove}
 use Rattle.recovery.specs.Machine.{Live, new_tx, with_write, with_savepoint, in_commit, after_begin, after_write, after_savepoint, after_go_back, after_precommit, after_abort, after_settle}
 use Rattle.recovery.specs.Replay.{redo_all, undo_all, lay_bytes, olds_of}

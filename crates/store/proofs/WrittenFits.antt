@@ -2,7 +2,7 @@
 use Prim.Native.Nat.{ℕ, ◌+◌, ◌<◌}
 use native.Mathlib.Omega.{arith}
 use mathlib.Core.Bool.{true}
-use mathlib.Core.List.{List, [], ◌∷◌, ◌++◌}
+use mathlib.Core.List.{List}
 use mathlib.Core.Path.{◌≡◌, refl, sym, ap, ◌∙◌, subst}
 use lib.ListN.{length, take, drop, length-drop}
 use lib.Seq.{length-take-le}
@@ -12,7 +12,7 @@ use Rattle.redolog.specs.Record.{in_range}
 use Rattle.redolog.proofs.Basics.{and_right}
 use Rattle.transaction.specs.declared.Tx.{Tx}
 use Rattle.transaction.specs.Lists.{every}
-use Rattle.transaction.specs.View.{Range, range, range_at, ranges_of, Outline, outline, outline_of}
+use Rattle.transaction.specs.View.{Range, range_at, ranges_of, Outline, outline, outline_of}
 use Rattle.transaction.specs.Rules.{range_ok, records_ok, head_ok, outline_ok, ranges_size, room_of}
 use Rattle.transaction.specs.Steps.{written}
 use Rattle.transaction.proofs.Lists.{length_up}

@@ -1,7 +1,7 @@
 -- Numbers 1 and 2 as the code goes about them: what it measures on the way is handed on to the call, and to what decides of the call's own
 -- numbers.
-use Rattle.std.specs.Prelude.{ℕ, ◌≤◌, Bool, true, false, cond, ◌&&◌, List, [], ◌∷◌, ◌≡◌, eqb, leb}
-use Rattle.layout.specs.{log_len, max_txs, disk_len}
+use Rattle.std.specs.Prelude.{ℕ, ◌≤◌, Bool, true, false, cond, ◌&&◌, List, [], ◌∷◌, ◌≡◌, eqb}
+use Rattle.layout.specs.{log_len, disk_len}
 use Rattle.transaction.specs.Lists.{every, sum_of}
 use Rattle.transaction.specs.Rules.{state_ok, room_of}
 use Rattle.store.specs.declared.State.{State}
