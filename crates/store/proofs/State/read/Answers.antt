@@ -2,6 +2,7 @@ use Rattle.std.proofs.Common.{arith, ◌≡◌, ◌∙◌, ℕ, ◌+◌, ◌-◌
 use Rattle.transaction.specs.View.{Range, used_by}
 use Rattle.transaction.specs.Rules.{covered}
 use Rattle.store.specs.State.{tx_at}
+use Rattle.store.specs.Extents.{bare_state}
 use Rattle.store.specs.Numbers.{tx_of, read_checks}
 use Rattle.store.proofs.Sameness.{used_same, rules_alike, states_alike}
 use Rattle.store.proofs.SameNumbers.{read_first}
@@ -10,7 +11,7 @@ use Rattle.store.proofs.Calling.{read_refused, read_uncovered, read_done}
 use Rattle.store.proofs.Judging.{Judged, seen_call, judged_call}
 use Rattle.store.proofs.Passing.{ReadPassed, read_passed}
 use Rattle.store.proofs.State.read.Goals as goal
-use Rattle.store.proofs.State.read.Goals.{After-choose_read-chosen, Else-chosen-ne0, After-covers}
+use Rattle.store.proofs.State.read.Goals.{After-choose_read-chosen}
 
 pub choose_read-chosen-requires : goal.choose_read-chosen-requires
 choose_read-chosen-requires c = seen_call c.args.self _ c.extents-seen.ensures _ _ _ c.admit-admitted.ensures
@@ -46,15 +47,22 @@ covers-requires c =
       len_bound = p.range.within;
     }
 
--- what was asked of the extents is asked of the state
-cover : (c : After-choose_read-chosen) → c.choose_read-chosen.result.number ≡ 0 → ?
-cover c z = ?
+-- what is asked of the extents is asked of the state
+cover : (c : After-choose_read-chosen) → c.choose_read-chosen.result.number ≡ 0 → let a = c.args in
+    covered (used_by (tx_at (bare_state c.extents-seen.result) c.choose_read-chosen.result.slot)) a.addr a.len ≡ covered (used_by (tx_of a.self a.id.0)) a.addr a.len
+cover c z =
+    let a = c.args in
+    let h = judged a.self _ c.extents-seen.ensures in
+    ap (λ (rs : List Range). covered rs a.addr a.len) (used_same _ _ (h.listed c.choose_read-chosen.result.slot (listed c z)))
+    ∙ ap (λ (j : ℕ). covered (used_by (tx_at a.self j)) a.addr a.len) ((decided c).placed z).slot
 
 pub returns-then-not-covers : goal.returns-then-not-covers
 returns-then-not-covers c =
     let a = c.args in
-    let d = decided ((goal.at.returns-then-not-covers c).After-choose_read-chosen) in
-    rw (read_uncovered a.self a.memory.now a.tail.now a.id a.addr a.len (d.number ∙ c.if-chosen-ne0.false) ?)
+    let x = (goal.at.returns-then-not-covers c).After-choose_read-chosen in
+    let z = c.if-chosen-ne0.false in
+    rw (read_uncovered a.self a.memory.now a.tail.now a.id a.addr a.len ((decided x).number ∙ z)
+    (sym (cover x z) ∙ sym c.covers.ensures ∙ c.if-not-covers.true))
 
 pub overflow_add-result : goal.overflow_add-result
 overflow_add-result c = omega (arith, (found ((goal.at.overflow_add-result c).After-choose_read-chosen) c.if-chosen-ne0.false).range.within)
@@ -67,6 +75,8 @@ slice_bounds-result-end-2 c =
 pub returns : goal.returns
 returns c =
     let a = c.args in
-    let d = decided ((goal.at.returns c).After-choose_read-chosen) in
+    let x = (goal.at.returns c).After-choose_read-chosen in
+    let z = c.if-chosen-ne0.false in
     let e : a.addr + a.len - a.addr ≡ a.len = omega arith in
-    rw (e, read_done a.self a.memory.now a.tail.now a.id a.addr a.len (d.number ∙ c.if-chosen-ne0.false) ?)
+    rw (e, read_done a.self a.memory.now a.tail.now a.id a.addr a.len ((decided x).number ∙ z)
+    (sym (cover x z) ∙ sym c.covers.ensures ∙ c.if-not-covers.false))
