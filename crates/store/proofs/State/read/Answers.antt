@@ -78,5 +78,8 @@ returns c =
     let x = (goal.at.returns c).After-choose_read-chosen in
     let z = c.if-chosen-ne0.false in
     let e : a.addr + a.len - a.addr ≡ a.len = omega arith in
-    rw (e, read_done a.self a.memory.now a.tail.now a.id a.addr a.len ((decided x).number ∙ z)
-    (sym (cover x z) ∙ sym c.covers.ensures ∙ c.if-not-covers.false))
+    rw (
+      e,
+      read_done a.self a.memory.now a.tail.now a.id a.addr a.len ((decided x).number ∙ z)
+          (sym (cover x z) ∙ sym c.covers.ensures ∙ c.if-not-covers.false),
+    )
