@@ -11,6 +11,7 @@ use Rattle.store.proofs.State.abort.Goals.{After-choose_running-chosen}
 pub choose_running-chosen-requires : goal.choose_running-chosen-requires
 choose_running-chosen-requires c = seen_call c.args.self _ c.extents-seen.ensures _ _ _ c.admit-admitted.ensures
 
+-- what is decided of the extents of the state is decided of the state
 decided : (c : After-choose_running-chosen) → let a = c.args in
     Judged a.self (length a.memory.now) a.tail.now a.id.0 (λ n. abort_checks a.self a.id.0) c.choose_running-chosen.result
 decided c =

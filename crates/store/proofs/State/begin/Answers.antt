@@ -10,6 +10,7 @@ use Rattle.store.proofs.State.begin.Goals.{After-begin_number-number}
 pub begin_number-number-requires : goal.begin_number-number-requires
 begin_number-number-requires c = λ h. (seen_call c.args.self _ c.extents-seen.ensures _ _ _ c.admit-admitted.ensures h).2
 
+-- what is decided of the extents of the state is decided of the state
 decided : (c : After-begin_number-number) → let a = c.args in begin_number a.self a.memory.now a.tail.now ≡ c.begin_number-number.result
 decided c =
     let s = c.args.self in

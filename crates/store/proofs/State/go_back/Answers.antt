@@ -11,6 +11,7 @@ use Rattle.store.proofs.State.go_back.Goals.{After-choose_go_back-chosen}
 pub choose_go_back-chosen-requires : goal.choose_go_back-chosen-requires
 choose_go_back-chosen-requires c = seen_call c.args.self _ c.extents-seen.ensures _ _ _ c.admit-admitted.ensures
 
+-- what is decided of the extents of the state is decided of the state
 decided : (c : After-choose_go_back-chosen) → let a = c.args in
     Judged a.self (length a.memory.now) a.tail.now a.id.0 (λ n. go_back_checks a.self n a.id.0 a.name) c.choose_go_back-chosen.result
 decided c =

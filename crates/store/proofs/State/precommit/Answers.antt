@@ -11,6 +11,7 @@ use Rattle.store.proofs.State.precommit.Goals.{After-choose_precommit-chosen}
 pub choose_precommit-chosen-requires : goal.choose_precommit-chosen-requires
 choose_precommit-chosen-requires c = seen_call c.args.self _ c.extents-seen.ensures _ _ _ c.admit-admitted.ensures
 
+-- what is decided of the extents of the state is decided of the state
 decided : (c : After-choose_precommit-chosen) → let a = c.args in
     Judged a.self (length a.memory.now) a.tail.now a.id.0 (λ n. precommit_checks a.self a.id.0) c.choose_precommit-chosen.result
 decided c =

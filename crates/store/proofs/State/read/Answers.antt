@@ -16,6 +16,7 @@ use Rattle.store.proofs.State.read.Goals.{After-choose_read-chosen}
 pub choose_read-chosen-requires : goal.choose_read-chosen-requires
 choose_read-chosen-requires c = seen_call c.args.self _ c.extents-seen.ensures _ _ _ c.admit-admitted.ensures
 
+-- what is decided of the extents of the state is decided of the state
 decided : (c : After-choose_read-chosen) → let a = c.args in
     Judged a.self (length a.memory.now) a.tail.now a.id.0 (λ n. read_checks a.self a.id.0 a.addr a.len) c.choose_read-chosen.result
 decided c =

@@ -11,6 +11,7 @@ use Rattle.store.proofs.State.read_answer.Goals.{After-choose_answer-chosen}
 pub choose_answer-chosen-requires : goal.choose_answer-chosen-requires
 choose_answer-chosen-requires c = seen_call c.args.self _ c.extents-seen.ensures _ _ _ c.admit-admitted.ensures
 
+-- what is decided of the extents of the state is decided of the state
 decided : (c : After-choose_answer-chosen) → let a = c.args in
     Judged a.self (length a.memory.now) a.tail.now a.id.0 (λ n. answer_checks a.self a.id.0 a.addr a.len) c.choose_answer-chosen.result
 decided c =

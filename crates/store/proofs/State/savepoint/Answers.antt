@@ -12,6 +12,7 @@ use Rattle.store.proofs.State.savepoint.Goals.{After-choose_savepoint-chosen}
 pub choose_savepoint-chosen-requires : goal.choose_savepoint-chosen-requires
 choose_savepoint-chosen-requires c = seen_call c.args.self _ c.extents-seen.ensures _ _ _ c.admit-admitted.ensures
 
+-- what is decided of the extents of the state is decided of the state
 decided : (c : After-choose_savepoint-chosen) → let a = c.args in
     Judged a.self (length a.memory.now) a.tail.now a.id.0 (λ n. savepoint_checks a.self a.id.0 a.name) c.choose_savepoint-chosen.result
 decided c =

@@ -11,6 +11,7 @@ use Rattle.store.proofs.State.settle.Goals.{After-choose_settle-chosen}
 pub choose_settle-chosen-requires : goal.choose_settle-chosen-requires
 choose_settle-chosen-requires c = seen_call c.args.self _ c.extents-seen.ensures _ _ _ c.admit-admitted.ensures
 
+-- what is decided of the extents of the state is decided of the state
 decided : (c : After-choose_settle-chosen) → let a = c.args in
     Judged a.self (length a.memory.now) a.tail.now a.id.0 (λ n. settle_checks a.self a.id.0) c.choose_settle-chosen.result
 decided c =

@@ -11,6 +11,7 @@ use Rattle.store.proofs.State.write.Goals.{After-choose_write-chosen}
 pub choose_write-chosen-requires : goal.choose_write-chosen-requires
 choose_write-chosen-requires c = seen_call c.args.self _ c.extents-seen.ensures _ _ _ c.admit-admitted.ensures
 
+-- what is decided of the extents of the state is decided of the state
 decided : (c : After-choose_write-chosen) → let a = c.args in
     Judged a.self (length a.memory.now) a.tail.now a.id.0 (λ n. write_checks a.self n a.id.0 a.addr (length a.bytes.now)) c.choose_write-chosen.result
 decided c =
