@@ -10,6 +10,7 @@ pub mod Calling
 pub mod Sameness
 pub mod SameNumbers
 pub mod Bare
+pub mod Judging
 pub mod Positions
 pub mod Appending
 pub mod Stepping

@@ -20,7 +20,7 @@ slot_within s id e = let h = first_within (tx_at s) (has_id id) s.count 0 e in o
 
 -- ---- the array of slots
 
--- an array of structs has its length: `search (needs, length_mapped)` finds it in what a parameter tells
+-- an array of structs has its length: `search (rules, length_mapped)` finds it in what a parameter tells
 pub length_mapped : (X Y : Type 0) (f : X → Y) (l : List X) (n : ℕ) → length (map f l) ≡ n → length l ≡ n
 length_mapped X Y f l n p = sym (length-map l f) ∙ p
 

@@ -17,6 +17,7 @@ use redolog::{Csn, TxId};
 use transaction::Tx;
 
 impl State {
+    #[tactic(auto, unfolding(crate::specs::Steps::begun_state))]
     pub(crate) fn begin_step(mut self) -> Self
         requires { (self.count < max_txs) × (self.lastid.0 < 65535) }
         ensures { result ≡ begun_state self }
@@ -30,6 +31,7 @@ impl State {
         self
     }
 
+    #[tactic(auto, unfolding(crate::specs::Steps::written_state))]
     pub(crate) fn write_step(
         mut self,
         memory: &mut [u8],
@@ -48,6 +50,7 @@ impl State {
         self
     }
 
+    #[tactic(auto, unfolding(crate::specs::Steps::read_state))]
     pub(crate) fn read_step(mut self, slot: usize, addr: usize, len: usize) -> Self
         requires { (slot < max_txs) × (len ≤ max_write) × (addr ≤ memory_len) × ((tx_at self slot).extras.reads.count < max_records) }
         ensures { result ≡ read_state self slot addr len }
@@ -58,6 +61,7 @@ impl State {
         self
     }
 
+    #[tactic(auto, unfolding(crate::specs::Steps::savepoint_state))]
     pub(crate) fn savepoint_step(mut self, slot: usize, name: u8) -> Self
         requires { (slot < max_txs) × ((tx_at self slot).extras.savepoints.count ≤ max_savepoints) × (place_of (tx_at self slot).extras.savepoints name < max_savepoints) }
         ensures { result ≡ savepoint_state self slot name }
@@ -68,6 +72,7 @@ impl State {
         self
     }
 
+    #[tactic(auto, unfolding(crate::specs::Steps::went_back_state))]
     pub(crate) fn go_back_step(mut self, memory: &mut [u8], slot: usize, name: u8) -> Self
         requires slot_lt_max_txs { (slot < max_txs) × (records_ok (ranges_of (tx_at self slot).undo.ranges) ≡ true)
             × ((tx_at self slot).redo.ranges.count ≡ (tx_at self slot).undo.ranges.count) × (length memory.old ≡ memory_len) }
@@ -82,6 +87,7 @@ impl State {
         self
     }
 
+    #[tactic(auto, unfolding(crate::specs::Steps::precommitted_state))]
     pub(crate) fn precommit_step(mut self, tail: &mut [u8], end: usize, slot: usize) -> Self
         requires slot_lt_max_txs { (slot < max_txs) × (self.assigned.0 < 4294967295) }
         requires slot_value { (records_ok (ranges_of (tx_at self slot).redo.ranges) ≡ true)
