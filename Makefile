@@ -1,4 +1,4 @@
-# Installs the library from a built tree: run `rt staticlib luppaneth` first, which proves it. `make install PREFIX=/usr/local` puts there
+# Installs the library from a built tree: run `tools/build luppaneth` first, which proves it. `make install PREFIX=/usr/local` puts there
 #   include/luppaneth.h, include/luppaneth_file.h
 #   lib/libluppaneth.a            the proved library, and with it the file layer, which is C and tested, not proved
 #   lib/pkgconfig/luppaneth.pc
@@ -22,7 +22,7 @@ HEADERS = include/luppaneth.h include/luppaneth_file.h
 all: $(OUT)/libluppaneth.a $(OUT)/luppaneth.pc $(PROGRAMS:%=$(OUT)/luppaneth-%) $(PROGRAMS:%=$(OUT)/luppaneth-%.1)
 
 $(PROVED):
-	@echo "make: $@ is missing: run 'rt staticlib luppaneth' first, which proves and builds it (README.md)" >&2; exit 1
+	@echo "make: $@ is missing: run 'tools/build luppaneth' first, which proves and builds it (README.md)" >&2; exit 1
 
 $(OUT)/luppaneth_file.o: src/luppaneth_file.c $(HEADERS)
 	@mkdir -p $(OUT)

@@ -2,7 +2,7 @@
  * aborted or neither. The disk is only read, so it may be one that a power cut has left. An input that is no disk gives refused=1, as disklist does.
  * Ask before the bench books again: an id that was lost is given out anew, and then its line is of another booking.
  *
- *   rt staticlib luppaneth
+ *   tools/build luppaneth
  *   cc -std=c11 -Iinclude programs/outcomes.c src/luppaneth_file.c target/staticlib/libluppaneth.a -o outcomes
  *   ./outcomes -f pattern.disk 3 5 7
  *   ./outcomes 3 5 7 < pattern.disk

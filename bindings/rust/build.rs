@@ -5,7 +5,7 @@ use std::env;
 use std::fs;
 use std::path::{Path, PathBuf};
 
-/// The folder that `rt staticlib` writes to; the root is two folders above this crate's.
+/// The folder that `tools/build` writes to; the root is two folders above this crate's.
 fn built() -> PathBuf {
     let root = Path::new(env!("CARGO_MANIFEST_DIR")).ancestors().nth(2);
     root.expect("bindings/rust is below the root")
@@ -29,7 +29,7 @@ fn versioned() -> String {
 /// What keeps the crate from being built on this archive.
 fn fault(archive: &Path) -> Option<&'static str> {
     let Ok(bytes) = fs::read(archive) else {
-        return Some("is missing: run `rt staticlib luppaneth` at the root first");
+        return Some("is missing: run `tools/build luppaneth` at the root first");
     };
     let name = versioned();
     let has = bytes.windows(name.len()).any(|at| at == name.as_bytes());

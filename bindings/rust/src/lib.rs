@@ -29,7 +29,7 @@
 //! A store is used by one thread at a time (it is `Send`; share it in a `Mutex`), and stores do not know of each other.
 //!
 //! docs/EMBEDDING.md says what a host owes for the theorem to hold, and what a file adds to that. The crate needs the proved library of its own
-//! version: run `rt staticlib luppaneth` at the repository's root first.
+//! version: run `tools/build luppaneth` at the repository's root first.
 
 #![warn(missing_docs)]
 
