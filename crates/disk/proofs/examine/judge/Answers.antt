@@ -1,4 +1,4 @@
-use Rattle.std.proofs.Common.{ℕ, ◌+◌, ◌*◌, ◌-◌, ◌≤◌, ◌≡◌, List, true, length, take, drop, arith, sym, ap, ◌∙◌}
+use Rattle.std.proofs.Common.{ℕ, ◌+◌, ◌*◌, ◌-◌, ◌≤◌, ◌≡◌, List, true, take, drop, arith, sym, ap, ◌∙◌}
 use mathlib.Core.Path.{ap₂, subst}
 use lib.ListN.{replicate}
 use Rattle.layout.specs.Parts.{part}
@@ -11,7 +11,6 @@ use Rattle.restart.specs.declared.Replayed.{Replayed}
 use Rattle.restart.specs.Restart.{AfterSteps, recover_of}
 use Rattle.restart.specs.Turns.{aborts_laid, undone_ids}
 use Rattle.restart.proofs.Recovery.{laid_tail}
-use Rattle.disk.specs.declared.examine.Examined.{Examined}
 use Rattle.disk.specs.declared.open.Opened.{Opened}
 use Rattle.disk.specs.Open.{open_of}
 use Rattle.disk.specs.Examine.{refused_by, steps_of}

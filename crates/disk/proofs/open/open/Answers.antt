@@ -1,4 +1,4 @@
-use Rattle.std.proofs.Common.{ℕ, ◌+◌, ◌<◌, ◌≡◌, List, true, false, arith, sym, ap, ◌∙◌}
+use Rattle.std.proofs.Common.{ℕ, ◌+◌, ◌<◌, ◌≡◌, List, arith, sym, ap, ◌∙◌}
 use mathlib.Core.Path.{ap₂}
 use borrow.Author.Tests.{not-true, not-false}
 use Rattle.layout.specs.Parts.{pointer_of, image_at}
@@ -41,7 +41,7 @@ returns c =
       value =
           ap₂ (λ (h : Heads) (i : ℕ). record { number = 0; heads = h; image = i; from = 17307 + c.load-heads.result.logend; to = 33691 }) heads
           c.image_at-image.ensures
-              ∙ ap (λ (n : ℕ). record { number = 0; heads = heads_named q disk; image = image_at q; from = 17307 + n; to = 33691 }) logend
-              ∙ sym places;
+          ∙ ap (λ (n : ℕ). record { number = 0; heads = heads_named q disk; image = image_at q; from = 17307 + n; to = 33691 }) logend
+          ∙ sym places;
       memory_after = c.load-heads.ensures.memory_after ∙ sym (ap (λ (x : OpenedDisk). x.memory) is);
     }
