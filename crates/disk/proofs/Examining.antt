@@ -1,5 +1,5 @@
 -- What a disk means, by cases.
-use Prim.Native.Nat.{ℕ, ◌+◌, ◌*◌, ◌-◌, ◌≤◌, ◌<◌}
+use Prim.Native.Nat.{ℕ, ◌+◌, ◌*◌, ◌≤◌, ◌<◌}
 use native.Mathlib.Omega.{arith}
 use mathlib.Core.Bool.{Bool, true, false, cond}
 use mathlib.Core.List.{List}
@@ -18,8 +18,9 @@ use Rattle.disk.specs.Heads.{JudgedAs}
 use Rattle.disk.proofs.Opened.{opened_rules, opened_log, log_short}
 
 -- what was answered and left is what a meaning has, if it is what an equal one has
-pub answered : {x y : Meaning} {r : Judged} {m : List ℕ} → x ≡ y → JudgedAs r y → m ≡ y.memory → JudgedAs r x × (m ≡ x.memory)
-answered {r = r} e p q = (subst (JudgedAs r) (sym e) p, q ∙ sym (ap (λ (z : Meaning). z.memory) e))
+pub answered : {x y : Meaning} {r : Judged} {m : List ℕ} → x ≡ y → JudgedAs r y → m ≡ y.memory
+    → record { judged_as : JudgedAs r x; memory_after : m ≡ x.memory }
+answered {r = r} e p q = record { judged_as = subst (JudgedAs r) (sym e) p; memory_after = q ∙ sym (ap (λ (z : Meaning). z.memory) e) }
 
 pub means_shut : (disk : List ℕ) → ((open_of disk).number ≡ 0 → ⊥) → examine_of disk ≡ refused_by (open_of disk).number
 unfolding examine_of
