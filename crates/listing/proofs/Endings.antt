@@ -2,18 +2,14 @@
 use Prim.Native.Nat.{ℕ, ◌<◌, ◌≤◌}
 use native.Mathlib.Omega.{arith}
 use mathlib.Core.Bool.{Bool, true, false}
-use mathlib.Core.List.{List, [], ◌∷◌, ◌++◌}
-use mathlib.Core.Logic.{⊎_elim}
+use mathlib.Core.List.{List, ◌++◌}
 use mathlib.Core.Path.{◌≡◌, refl, sym, ap, ◌∙◌, subst}
 use lib.ListN.{length, take, replicate, length-replicate, length-take}
 use lib.Seq.{take_all}
 use lib.Dec.{eqb, ltb}
 use borrow.Author.Tests.{eqb-true, eqb-false, ne_eqb, ltb-true, ltb-false}
-use types.Run.{OneOf}
-use denote.Enum.Declared.{tag_of}
 use Rattle.layout.specs.Parts.{pointer_of}
 use Rattle.redolog.proofs.Basics.{clash}
-use Rattle.store.specs.contracts.Answer.{the_type}
 use Rattle.store.specs.declared.Answer.{Answer}
 use Rattle.store.specs.declared.Answer.TheVariants.{Done, Cut, Refused}
 use Rattle.store.specs.Answer.{cut, word, Told}
@@ -74,14 +70,11 @@ few_undone disk = go (ending disk)
 
 -- ---- the text by cases
 
--- an answer whose tag the code found to be that of another case
-refused_tag : (n : ℕ) (a : Answer) → word a ≡ words.refused n → OneOf (0 ∷ 1 ∷ []) (tag_of the_type a) → ⊥
-refused_tag n Done e k = clash (cc)
-refused_tag n Cut e k = clash (cc)
-refused_tag n (Refused m) e k = other k
-  where
-    other : OneOf (0 ∷ 1 ∷ []) 2 → ⊥
-    other = ⊎_elim (λ z. omega arith) (λ z. omega arith)
+-- an answer that is no refusal does not say one
+not_refused : (n : ℕ) (a : Answer) → word a ≡ words.refused n → ((m : ℕ) → a ≡ Refused m → ⊥) → ⊥
+not_refused n Done e k = clash (cc)
+not_refused n Cut e k = clash (cc)
+not_refused n (Refused m) e k = k m refl
 
 module _ (disk : List ℕ) (r : Restarted) (e : of_restarted r ≡ (restart_whole disk).result) (s : r.stop ≡ stopped_whole disk) where
   pub listing_refused : (n : ℕ) → r.answer ≡ Refused n → listing_of disk ≡ refused_text n
@@ -95,11 +88,11 @@ module _ (disk : List ℕ) (r : Restarted) (e : of_restarted r ≡ (restart_whol
   unfolding listing_of
   listing_done pointer p a = rw (← e, ← s, a, p)
 
-  pub listing_found : (pointer : ℕ) → pointer ≡ pointer_of disk → OneOf (0 ∷ 1 ∷ []) (tag_of the_type r.answer) → Found pointer
+  pub listing_found : (pointer : ℕ) → pointer ≡ pointer_of disk → ((n : ℕ) → r.answer ≡ Refused n → ⊥) → Found pointer
   listing_found pointer p k = go (ending disk)
     where
       go : Ending disk → Found pointer
-      go (refused n x) = absurd (refused_tag n r.answer (ap (λ (y : Told). y.says) (e ∙ x)) k)
+      go (refused n x) = absurd (not_refused n r.answer (ap (λ (y : Told). y.says) (e ∙ x)) k)
       go (done x) = listing_done pointer p (ap (λ (y : Told). y.says) e ∙ ap (λ (o : DiskOutcome). o.result.says) x)
 
 pub printed : {x y out : List ℕ} {r : ℕ} → x ≡ y → Printed x r out → Printed y r out
