@@ -1,0 +1,7 @@
+use Rattle.std.proofs.Common.{rules}
+use Rattle.transaction.specs.Flat.{empty_records}
+use Rattle.transaction.proofs.records.Records.empty.Goals as goal
+
+pub returns : goal.returns
+unfolding empty_records
+returns c = rw c.empty-none.ensures
