@@ -10,10 +10,11 @@ pub returns-then-n-gt-MAX_RECORDS : goal.returns-then-n-gt-MAX_RECORDS
 returns-then-n-gt-MAX_RECORDS c = sym (many c.args.self c.if-n-gt-MAX_RECORDS.true)
 
 pub loop-i-preserved : goal.loop-i-preserved
-loop-i-preserved c =
-    (omega arith,
-    c.loop-i.invariant.1
-    ∙ every_good (range_at c.args.self) _ _ c.loop-i-test.true range_ok (sym c.in_range.ensures ∙ c.if-not-in_range.false))
+loop-i-preserved c = (
+  omega arith,
+  c.loop-i.invariant.1
+      ∙ every_good (range_at c.args.self) _ _ c.loop-i-test.true range_ok (sym c.in_range.ensures ∙ c.if-not-in_range.false),
+)
 
 pub returns : goal.returns
 returns c =

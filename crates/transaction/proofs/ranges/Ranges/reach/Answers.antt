@@ -12,12 +12,13 @@ loop-i-preserved c =
     let r = c.args.self in
     let i = c.loop-i.i in
     let turned : c.if-a-at.at ≡ onward c.loop-i.at (range_at r i) =
-        elim c.if-a-at.branch [
-            then-a-at+then-at-to w ↦ w.at-is ∙ rw (le-leb _ _ w.if-a-at.true, lt-ltb _ _ w.if-at-to.true) refl
-          | then-a-at+else-at-to w ↦ w.at-is ∙ rw (le-leb _ _ w.if-a-at.true, le-ltb _ _ w.if-at-to.false) refl
-          | else-a-at w ↦ w.at-is ∙ rw (lt-leb _ _ w.if-a-at.false) refl
-        ] in
-    (omega arith,
-    c.loop-i.invariant.1
-    ∙ reach_turn (range_at r) r.count i _ c.loop-i-test.true
-    ∙ ap (λ (x : ℕ). reach x (up_from (range_at r) (r.count - (i + 1)) (i + 1))) (sym turned))
+    elim c.if-a-at.branch [
+      | then-a-at+then-at-to w ↦ w.at-is ∙ rw (le-leb _ _ w.if-a-at.true, lt-ltb _ _ w.if-at-to.true) refl
+      | then-a-at+else-at-to w ↦ w.at-is ∙ rw (le-leb _ _ w.if-a-at.true, le-ltb _ _ w.if-at-to.false) refl
+      | else-a-at w ↦ w.at-is ∙ rw (lt-leb _ _ w.if-a-at.false) refl
+    ] in (
+      omega arith,
+      c.loop-i.invariant.1
+          ∙ reach_turn (range_at r) r.count i _ c.loop-i-test.true
+          ∙ ap (λ (x : ℕ). reach x (up_from (range_at r) (r.count - (i + 1)) (i + 1))) (sym turned),
+    )

@@ -12,7 +12,8 @@ returns-then-self-other c =
     sym (unequal (ranges_of r) (ranges_of q) (λ e. c.if-self-other.true (sym (length_up (range_at r) _ 0) ∙ e ∙ length_up (range_at q) _ 0)))
 
 pub loop-i-preserved : goal.loop-i-preserved
-loop-i-preserved c =
-    (omega arith,
-    c.loop-i.invariant.1
-    ∙ same_good c.args.self c.args.other _ _ c.loop-i-test.true (rw (eq-eqb _ _ c.if-self-i.false, eq-eqb _ _ c.if-self-i-2.false) refl))
+loop-i-preserved c = (
+  omega arith,
+  c.loop-i.invariant.1
+      ∙ same_good c.args.self c.args.other _ _ c.loop-i-test.true (rw (eq-eqb _ _ c.if-self-i.false, eq-eqb _ _ c.if-self-i-2.false) refl),
+)

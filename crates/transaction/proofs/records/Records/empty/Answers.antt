@@ -1,4 +1,3 @@
-use Rattle.std.proofs.Common.{rules}
 use Rattle.transaction.specs.Flat.{empty_records}
 use Rattle.transaction.proofs.records.Records.empty.Goals as goal
 

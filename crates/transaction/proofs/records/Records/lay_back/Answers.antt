@@ -47,13 +47,13 @@ pub copy-requires : goal.copy-requires
 copy-requires c =
     let r = c.args.self in
     let h = placed r c.requires.0 (r.ranges.count - (c.loop-i.i + 1)) (omega arith) in
-    omega (arith, length-take {A = ℕ}, h.within, c.loop-i.invariant.1)
+    omega (arith, length-take {A = ℕ}, h.within, c.loop-i.auto.memory, c.requires.1)
 
 pub loop-i-preserved : goal.loop-i-preserved
 loop-i-preserved c =
     let r = c.args.self in
     let k = r.ranges.count - (c.loop-i.i + 1) in
-    let h : r.ranges.count - c.loop-i.i ≡ suc k = omega arith in
-    (omega arith,
-    c.copy.auto.b ∙ c.loop-i.invariant.1,
-    c.loop-i.invariant.2 ∙ undo_turn _ _ _ _ _ _ h ∙ laid r k c.loop-i.memory c.copy.new.b c.copy.ensures)
+    let h : r.ranges.count - c.loop-i.i ≡ suc k = omega arith in (
+      omega arith,
+      c.loop-i.invariant.1 ∙ undo_turn _ _ _ _ _ _ h ∙ laid r k c.loop-i.memory c.copy.new.b c.copy.ensures,
+    )

@@ -8,10 +8,11 @@ use Rattle.transaction.proofs.records.Records.push.Goals as goal
 
 pub loop-i-preserved : goal.loop-i-preserved
 loop-i-preserved c =
-    let r = c.args.self in
-    (omega arith,
-    rw c.loop-i.invariant.1
-    (ap (holding r) (sets_more r.bytes (r.ranges.count * 32) c.args.src.now c.loop-i.i c.loop-i-test.true)))
+    let r = c.args.self in (
+      omega arith,
+      rw c.loop-i.invariant.1
+          (ap (holding r) (sets_more r.bytes (r.ranges.count * 32) c.args.src.now c.loop-i.i c.loop-i-test.true)),
+    )
 
 pub returns : goal.returns
 unfolding pushed

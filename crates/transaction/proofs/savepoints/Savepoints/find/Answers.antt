@@ -6,7 +6,8 @@ use Rattle.transaction.proofs.First.{first_miss}
 use Rattle.transaction.proofs.savepoints.Savepoints.find.Goals as goal
 
 pub loop-i-preserved : goal.loop-i-preserved
-loop-i-preserved c =
-    (omega arith,
-    c.loop-i.invariant.1
-    ∙ first_miss (savepoint_at c.args.self) (has_name c.args.name) _ _ c.loop-i-test.true (ne_eqb _ _ c.if-name-self.false))
+loop-i-preserved c = (
+  omega arith,
+  c.loop-i.invariant.1
+      ∙ first_miss (savepoint_at c.args.self) (has_name c.args.name) _ _ c.loop-i-test.true (ne_eqb _ _ c.if-name-self.false),
+)

@@ -36,8 +36,9 @@ returns-then-next-n c =
 pub loop-i-preserved : goal.loop-i-preserved
 loop-i-preserved c =
     let a = c.args in
-    let once = (again a.self c.loop-i.i c.find-next.result c.loop-i-test.true c.find-next.ensures).1 c.if-next-n.false in
-    (omega arith,
-    c.loop-i.invariant.1
-    ∙ names_turn a.self a.writes _ _ c.loop-i-test.true
-    ∙ rw (ne_eqb _ _ c.if-self-i-eq0.false, le-leb _ _ c.if-writes-self.false, once) refl)
+    let once = (again a.self c.loop-i.i c.find-next.result c.loop-i-test.true c.find-next.ensures).1 c.if-next-n.false in (
+      omega arith,
+      c.loop-i.invariant.1
+          ∙ names_turn a.self a.writes _ _ c.loop-i-test.true
+          ∙ rw (ne_eqb _ _ c.if-self-i-eq0.false, le-leb _ _ c.if-writes-self.false, once) refl,
+    )

@@ -1,4 +1,4 @@
-use Rattle.std.proofs.Common.{◌≡◌, ℕ, ◌<◌, get_or, sym, ap, ◌∙◌, arith}
+use Rattle.std.proofs.Common.{ℕ, ◌<◌, get_or, sym, ap, ◌∙◌, arith}
 use Rattle.transaction.specs.Rules.{place_of, or_zero}
 use Rattle.transaction.proofs.SavepointLaws.{place, place_found, count_there, count_none}
 use Rattle.transaction.proofs.savepoints.Savepoints.stood.Goals as goal
