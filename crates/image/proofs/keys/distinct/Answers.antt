@@ -8,6 +8,7 @@ returns-then-alike_from c =
     sym (c.loop-i.invariant.1 ∙ apart_hit (key_at c.args.keys) _ _ c.loop-i-test.true (sym c.alike_from.ensures ∙ c.if-alike_from.true))
 
 pub loop-i-preserved : goal.loop-i-preserved
-loop-i-preserved c =
-    (omega arith,
-    c.loop-i.invariant.1 ∙ apart_miss (key_at c.args.keys) _ _ c.loop-i-test.true (sym c.alike_from.ensures ∙ c.if-alike_from.false))
+loop-i-preserved c = (
+  omega arith,
+  c.loop-i.invariant.1 ∙ apart_miss (key_at c.args.keys) _ _ c.loop-i-test.true (sym c.alike_from.ensures ∙ c.if-alike_from.false),
+)

@@ -14,7 +14,8 @@ loop-i-preserved c =
     let t = c.args.image in
     let l = c.loop-i in
     let e = c.put_tx-o.ensures in
-    let z = tx_size_lem t.txs t.count l.i c.loop-i-test.true in
-    (omega arith,
-    omega (arith, z, l.invariant.1, e.value),
-    l.invariant.2 ∙ tx_turn t.txs t.count l.i c.loop-i-test.true l.o c.put_tx-o.result l.b c.put_tx-o.new.b e.value e.b_after)
+    let z = tx_size_lem t.txs t.count l.i c.loop-i-test.true in (
+      omega arith,
+      omega (arith, z, l.invariant.1, e.value),
+      l.invariant.2 ∙ tx_turn t.txs t.count l.i c.loop-i-test.true l.o c.put_tx-o.result l.b c.put_tx-o.new.b e.value e.b_after,
+    )
