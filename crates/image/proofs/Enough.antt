@@ -1,6 +1,6 @@
 -- Number 4 "under the stated condition alone": a slot of 8,653 bytes has bytes enough for any reading. Whatever stands behind the slot, the
 -- reading is the same, so that one that fails does so for a broken rule, never for want of bytes.
-use Prim.Native.Nat.{ℕ, zero, suc, ◌+◌, ◌*◌, ◌-◌, ◌≤◌, ◌<◌}
+use Prim.Native.Nat.{ℕ, zero, suc, ◌+◌, ◌*◌, ◌≤◌, ◌<◌}
 use native.Mathlib.Omega.{arith}
 use mathlib.Core.Bool.{Bool, true, false, cond, ◌&&◌}
 use mathlib.Core.List.{List, ◌++◌}
