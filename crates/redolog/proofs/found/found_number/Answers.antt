@@ -1,4 +1,4 @@
-use Rattle.std.proofs.Common.{◌≡◌, ◌+◌, List, ℕ, drop, sym, ap, ◌∙◌, arith}
+use Rattle.std.proofs.Common.{◌+◌, List, ℕ, drop, sym, ap, ◌∙◌, arith}
 use Rattle.redolog.specs.Record.{read_record, head_of}
 use Rattle.redolog.specs.Stop.{stop_of}
 use Rattle.redolog.specs.Found.{found_number, or_one}

@@ -1,6 +1,5 @@
-use Rattle.std.proofs.Common.{◌≡◌, ◌+◌, List, ℕ, drop, sym, ap, ◌∙◌, arith}
-use Rattle.std.proofs.Math.Option.{some}
-use Rattle.redolog.specs.Record.{commit, read_record, head_of}
+use Rattle.std.proofs.Common.{◌+◌, List, ℕ, drop, sym, ap, ◌∙◌, arith}
+use Rattle.redolog.specs.Record.{read_record, head_of}
 use Rattle.redolog.specs.Group.{read_body, committed_if}
 use Rattle.redolog.specs.Stop.{stop_of}
 use Rattle.redolog.specs.declared.record.Head.{Head}

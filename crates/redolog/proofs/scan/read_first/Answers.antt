@@ -1,4 +1,4 @@
-use Rattle.std.proofs.Common.{◌≡◌, ◌+◌, ◌-◌, List, ℕ, take, drop, sym, ap, ◌∙◌, refl, arith}
+use Rattle.std.proofs.Common.{◌+◌, ◌-◌, List, ℕ, take, drop, sym, ◌∙◌, refl, arith}
 use Rattle.redolog.specs.Group.{read_group, end_of}
 use Rattle.redolog.specs.Stop.{stop_of}
 use Rattle.redolog.specs.Log.{read_log}

@@ -1,4 +1,4 @@
-use Rattle.std.proofs.Common.{ℕ, ◌≡◌, drop, ap, ◌∙◌}
+use Rattle.std.proofs.Common.{◌≡◌, drop, ap, ◌∙◌}
 use Rattle.redolog.specs.Log.{read_log, reached_of, log_stop}
 use Rattle.redolog.specs.Stop.{stop_of}
 use Rattle.redolog.specs.declared.scan.Reached.{Reached}
