@@ -4,7 +4,7 @@ use native.Mathlib.Decide.{dec_lt}
 use native.Mathlib.Omega.{arith}
 use mathlib.Core.Bool.{Bool, true, false, ◌&&◌}
 use mathlib.Core.List.{List}
-use mathlib.Core.Path.{◌≡◌, refl}
+use mathlib.Core.Path.{◌≡◌, refl, sym, ap, ◌∙◌}
 use lib.ListN.{length, get_or, take, drop, get_or-eq_default, length-drop}
 use lib.Seq.{take_all}
 
@@ -34,6 +34,10 @@ nonzero_within s i n e =
 -- the part of a slice from a place on, `&s[at..]`
 pub from : (s : List ℕ) (at : ℕ) → take (length s - at) (drop at s) ≡ drop at s
 from s at = take_all (length s - at) (drop at s) (simp length-drop (omega arith))
+
+-- what was read there
+pub read_from : {A : Type 0} (f : List ℕ → A) (s : List ℕ) (at : ℕ) (x y : A) → x ≡ f (take (length s - at) (drop at s)) → x ≡ y → f (drop at s) ≡ y
+read_from f s at x y e i = sym (ap f (from s at)) ∙ sym e ∙ i
 
 -- all that a turn of a reader's loop asks, from the place at of s on to the place next: it lies within s, less is left, and what the code
 -- answers from there is the same

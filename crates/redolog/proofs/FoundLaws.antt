@@ -1,4 +1,4 @@
--- Laws of `foundNumber` and `readFound`: a record at a time; where a commit stands in a log under some number that number is found, and a log behind
+-- Laws of `found_number` and `read_found`: a record at a time; where a commit stands in a log under some number that number is found, and a log behind
 -- which no group of any number stands is the same as found.
 use Prim.Native.Nat.{ℕ, ◌+◌, ◌-◌, ◌≤◌}
 use native.Mathlib.Omega.{arith}

@@ -1,4 +1,4 @@
--- Laws of `read_body`, `groupWith` and `readGroup`: a record at a time, what was read taken apart (-inv) and put together (-intro), and that it lies
+-- Laws of `read_body`, `group_with` and `read_group`: a record at a time, what was read taken apart (-inv) and put together (-intro), and that it lies
 -- within the list.
 use Prim.Native.Nat.{ℕ, zero, suc, ◌+◌, ◌-◌, ◌≤◌, ◌<◌}
 use native.Mathlib.Omega.{arith}

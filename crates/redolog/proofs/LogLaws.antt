@@ -1,4 +1,4 @@
--- Laws of `readLogWith` and `read_log`: a group at a time.
+-- Laws of `read_log_with` and `read_log`: a group at a time.
 use Prim.Native.Nat.{ℕ, suc, ◌+◌, ◌-◌, ◌≤◌, ◌<◌}
 use native.Mathlib.Omega.{arith}
 use mathlib.Core.List.{List, [], ◌∷◌}

@@ -1,4 +1,4 @@
--- Laws of `logStop`: it is the stop where no group stands, handed on over every group before; from any place what is left at the end found
+-- Laws of `log_stop`: it is the stop where no group stands, handed on over every group before; from any place what is left at the end found
 -- decides; full exactly if nothing is; never torn where zeros are.
 use Prim.Native.Nat.{ℕ, zero, suc, ◌+◌}
 use native.Mathlib.Omega.{arith}

@@ -1,4 +1,4 @@
--- Laws of `readRecord`: which of the three readings it was, and that what it reads lies within the list.
+-- Laws of `read_record`: which of the three readings it was, and that what it reads lies within the list.
 use Prim.Native.Nat.{ℕ, suc, ◌+◌, ◌-◌, ◌≤◌, ◌<◌}
 use native.Mathlib.Decide.{dec_le}
 use native.Mathlib.Omega.{arith}

@@ -1,4 +1,4 @@
--- Laws of `stopOf`: what decides, and that a group which breaks off after a whole record is torn.
+-- Laws of `stop_of`: what decides, and that a group which breaks off after a whole record is torn.
 use Prim.Native.Nat.{ℕ, ◌<◌}
 use native.Mathlib.Omega.{arith}
 use mathlib.Core.Bool.{Bool, true, false, cond}

@@ -5,6 +5,7 @@ ghost use Rattle.std.specs.Prelude.{◌+◌, ◌≤◌, length};
 ghost use Rattle.text.specs.{decimal, Put};
 
 // n in decimal from at on. Returns where it ends.
+#[tactic(auto, using(crate::proofs::Decimal::decimal_one, crate::proofs::Decimal::length_more, crate::proofs::Putting::put_one))]
 pub fn put_decimal(out: &mut [u8], at: usize, n: u32) -> usize
     requires { at + length (decimal n) ≤ length out.old }
     ensures { Put out.old at (decimal n) result out.new }
