@@ -19,7 +19,7 @@ abbrev pub found_step : (ℕ → List ℕ → Option ℕ) → ℕ → List ℕ �
 found_step rest x s = on_record (rest x) s (read_record s)
 
 -- The number of the first commit record, of records read one after the other from the front of s on. Where these break off or mix ids before it, no
--- whole group with a commit stands there under any number, so that looking ahead this loosely is enough: `found-any` (proofs/FoundLaws.antt).
+-- whole group with a commit stands there under any number, so that looking ahead this loosely is enough: `found_any` (proofs/FoundLaws.antt).
 unfoldable pub found_number : List ℕ → Option ℕ
 found_number s = whole found_step none 0 s
 
