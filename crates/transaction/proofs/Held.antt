@@ -10,7 +10,7 @@ use borrow.Author.Tests.{ltb-true, lt-ltb, eq-eqb, ne_eqb}
 use Rattle.recovery.specs.Lists.{any}
 use Rattle.redolog.proofs.Basics.{and_left, and_right}
 use Rattle.transaction.specs.declared.Tx.{Tx}
-use Rattle.transaction.specs.View.{Range, range, reads_of, written_by}
+use Rattle.transaction.specs.View.{range, reads_of, written_by}
 use Rattle.transaction.specs.Rules.{meets, held_from, held_against}
 
 pub record Common (a n b m : ℕ) : Type 0 where

@@ -5,7 +5,7 @@ use Rattle.recovery.specs.Group.{Write}
 use Rattle.recovery.specs.Replay.{redo_all, lay_bytes}
 use Rattle.transaction.specs.declared.records.Records.{Records}
 use Rattle.transaction.specs.declared.Tx.{Tx}
-use Rattle.transaction.specs.View.{range_at, ranges_of, written_by, savepoints_of, writes_of}
+use Rattle.transaction.specs.View.{range_at, ranges_of, written_by, savepoints_of}
 use Rattle.transaction.specs.Rules.{records_ok, savepoints_ok, stood_at, later_ranges}
 use Rattle.transaction.specs.Steps.{written, written_all, return_writes, gone_back}
 use Rattle.transaction.proofs.Lists.{length_up}
@@ -146,13 +146,13 @@ returns-clause-value c =
     let t = c.args.self in
     let w = kept_within t c.args.name _ c.requires.self_value.0 c.stood-kept.ensures in
     sym
-        (ap (written_all t c.args.memory.now) (all_left t c.args.name _ w c.stood-kept.ensures) ∙ c.loop-i.invariant.records
-        ∙ ap (written_all c.loop-i.t c.loop-i.memory) (none_left t c.stood-kept.result c.loop-i.i c.loop-i-test.false))
+    (ap (written_all t c.args.memory.now) (all_left t c.args.name _ w c.stood-kept.ensures) ∙ c.loop-i.invariant.records
+    ∙ ap (written_all c.loop-i.t c.loop-i.memory) (none_left t c.stood-kept.result c.loop-i.i c.loop-i-test.false))
 
 pub returns-clause-memory_after : goal.returns-clause-memory_after
 returns-clause-memory_after c =
     let t = c.args.self in
     let w = kept_within t c.args.name _ c.requires.self_value.0 c.stood-kept.ensures in
     sym
-        (ap (λ (ws : List Write). redo_all lay_bytes ws c.args.memory.now) (all_left t c.args.name _ w c.stood-kept.ensures) ∙ c.loop-i.invariant.bytes
-        ∙ ap (λ (ws : List Write). redo_all lay_bytes ws c.loop-i.memory) (none_left t c.stood-kept.result c.loop-i.i c.loop-i-test.false))
+    (ap (λ (ws : List Write). redo_all lay_bytes ws c.args.memory.now) (all_left t c.args.name _ w c.stood-kept.ensures) ∙ c.loop-i.invariant.bytes
+    ∙ ap (λ (ws : List Write). redo_all lay_bytes ws c.loop-i.memory) (none_left t c.stood-kept.result c.loop-i.i c.loop-i-test.false))

@@ -13,11 +13,11 @@ invariant-loop-i l =
       undo_count : l.t.undo.ranges.count ≡ l.ranges.count + l.i;
       redo_count : l.t.redo.ranges.count ≡ l.ranges.count + l.i;
       records :
-        written_all l.fn.self l.fn.memory (left l.ranges l.bytes l.kept (l.kept + l.later))
-        ≡ written_all l.t l.memory (left l.ranges l.bytes l.kept (l.kept + (l.later - l.i)));
+          written_all l.fn.self l.fn.memory (left l.ranges l.bytes l.kept (l.kept + l.later))
+          ≡ written_all l.t l.memory (left l.ranges l.bytes l.kept (l.kept + (l.later - l.i)));
       bytes :
-        redo_all lay_bytes (left l.ranges l.bytes l.kept (l.kept + l.later)) l.fn.memory
-        ≡ redo_all lay_bytes (left l.ranges l.bytes l.kept (l.kept + (l.later - l.i))) l.memory;
+          redo_all lay_bytes (left l.ranges l.bytes l.kept (l.kept + l.later)) l.fn.memory
+          ≡ redo_all lay_bytes (left l.ranges l.bytes l.kept (l.kept + (l.later - l.i))) l.memory;
     }
 
 abbrev pub decreases-loop-i : goal.decreases-loop-i
