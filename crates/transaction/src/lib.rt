@@ -189,6 +189,7 @@ impl TxExtents {
     }
 
     // Whether each of the len bytes from addr on lies in a range that it has written or read.
+    #[tactic(auto, using(crate::proofs::Cover::reach_above, crate::proofs::Cover::covered_stuck, crate::proofs::Cover::covered_reach))]
     pub fn covers(self, addr: usize, len: usize) -> bool
         requires { (self.undo.count ≤ max_records) × (self.extras.reads.count ≤ max_records) × (addr + len ≤ memory_len) }
         ensures { result ≡ covered (used_by (bare_tx self)) addr len }
