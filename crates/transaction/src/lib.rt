@@ -24,7 +24,7 @@ use redolog::group::put_group;
 use redolog::stores::copy;
 use redolog::{Csn, TxId};
 
-// What a running transaction keeps besides its records: off the image, emptied by precommit, its rule a conjunct of `stateOk`. The ranges that it
+// What a running transaction keeps besides its records: off the image, emptied by precommit, its rule a conjunct of `state_ok`. The ranges that it
 // has read, oldest first; its savepoints.
 #[repr(C)]
 #[derive(Clone, Copy)]
