@@ -102,3 +102,9 @@ module _ (rs : List Range) (end : ℕ) where
   covered_skip at to l h =
       let e : at + (to - at) ≡ to = omega arith in
       skip (to - at) at (λ b p q. h b p (omega (arith, q, l))) ∙ ap (λ (x : ℕ). covered rs x (end - x)) e
+
+  pub covered_stuck : (at : ℕ) → at < end → reach at rs ≡ at → covered rs at (end - at) ≡ false
+  covered_stuck at h e = covered_not at h (reach_stuck rs at e)
+
+  pub covered_reach : (at : ℕ) → covered rs at (end - at) ≡ covered rs (reach at rs) (end - reach at rs)
+  covered_reach at = covered_skip at (reach at rs) (reach_above rs at) (λ b l g. reach_covers rs at b l g)

@@ -15,6 +15,7 @@ use Rattle.recovery.specs.Machine.{with_write, with_savepoint}
 use Rattle.recovery.proofs.Returns.{with_records}
 use Rattle.redolog.specs.Flat.{write_at, writes_from}
 use Rattle.redolog.proofs.Basics.{and_left, and_right, and_both}
+use Rattle.transaction.specs.declared.ranges.Ranges.{Ranges}
 use Rattle.transaction.specs.declared.records.Records.{Records}
 use Rattle.transaction.specs.declared.Tx.{Tx}
 use Rattle.transaction.specs.Lists.{up_from, every}
@@ -291,3 +292,22 @@ module _ (t : Tx) (name : ℕ) (z : Sized t.undo) (e : records_ok (ranges_of t.u
         memory = l;
         ranges = return_ok;
       }
+
+-- ---- going back over records in flat arrays
+
+-- of the first k records those after the n-th, newest first
+abbrev pub left : Ranges → List ℕ → ℕ → ℕ → List Write
+left r bytes n k = reverse (drop n (writes_from r.addr r.len bytes k 0))
+
+pub left_turn : (r : Ranges) (bytes : List ℕ) (n j : ℕ) → left r bytes n (n + suc j) ≡ write_at r.addr r.len bytes (n + j) ∷ left r bytes n (n + j)
+left_turn r bytes n j =
+    let f = write_at r.addr r.len bytes in
+    let e : n + suc j ≡ suc (n + j) = omega arith in
+    ap (left r bytes n) e
+    ∙ ap (λ (ws : List Write). reverse (drop n ws)) (writes_up r.addr r.len bytes (suc (n + j)) 0)
+    ∙ back_turn f n (n + j) (omega arith)
+    ∙ ap (λ (ws : List Write). f (n + j) ∷ reverse (drop n ws)) (sym (writes_up r.addr r.len bytes (n + j) 0))
+
+pub left_done : (r : Ranges) (bytes : List ℕ) (n : ℕ) → left r bytes n n ≡ []
+left_done r bytes n =
+    ap (λ (ws : List Write). reverse (drop n ws)) (writes_up r.addr r.len bytes n 0) ∙ back_end (write_at r.addr r.len bytes) n

@@ -24,7 +24,7 @@ use redolog::group::put_group;
 use redolog::stores::copy;
 use redolog::{Csn, TxId};
 
-// What a running transaction keeps besides its records: off the image, emptied by precommit, its rule a conjunct of `stateOk`. The ranges that it
+// What a running transaction keeps besides its records: off the image, emptied by precommit, its rule a conjunct of `state_ok`. The ranges that it
 // has read, oldest first; its savepoints.
 #[repr(C)]
 #[derive(Clone, Copy)]
@@ -72,6 +72,7 @@ pub fn alike(id: TxId, csn: Csn, other: TxId, number: Csn) -> bool
 }
 
 // The image rules of id, status and commit number.
+#[tactic(auto, unfolding(crate::specs::Rules::head_ok))]
 pub fn head_ok(id: TxId, status: u8, number: Csn, last: TxId, assigned: Csn) -> bool
     ensures { result ≡ head_ok last.0 assigned.0 id.0 status number.0 }
 {
@@ -117,6 +118,7 @@ impl TxExtents {
     }
 
     // The rules that number 2 adds to those of an image.
+    #[tactic(auto, unfolding(crate::specs::Rules::state_ok))]
     pub fn state_ok(self) -> bool
         requires { self.undo.count ≤ max_records }
         ensures { result ≡ state_ok (bare_tx self) }
@@ -152,6 +154,7 @@ impl TxExtents {
     }
 
     // Whether it holds one of the len bytes from addr on against the transaction of this id, which wants to read or write them.
+    #[tactic(auto, unfolding(crate::specs::Rules::held_against))]
     pub fn holds_against(self, writing: bool, id: TxId, addr: usize, len: usize) -> bool
         requires { (self.undo.count ≤ max_records) × (self.extras.reads.count ≤ max_records) × (addr ≤ memory_len) × (len ≤ max_write) }
         ensures { result ≡ held_against writing id.0 addr len (bare_tx self) }
@@ -174,6 +177,7 @@ impl TxExtents {
     }
 
     // How far the bytes from a place on lie in ranges that it has written or read, each looked at once.
+    #[tactic(auto, using(crate::proofs::Cover::reach_append))]
     fn reach(self, at: usize) -> usize
         requires { (self.undo.count ≤ max_records) × (self.extras.reads.count ≤ max_records) }
         ensures { result ≡ reach at (used_by (bare_tx self)) }
@@ -185,6 +189,7 @@ impl TxExtents {
     }
 
     // Whether each of the len bytes from addr on lies in a range that it has written or read.
+    #[tactic(auto, using(crate::proofs::Cover::reach_above, crate::proofs::Cover::covered_stuck, crate::proofs::Cover::covered_reach))]
     pub fn covers(self, addr: usize, len: usize) -> bool
         requires { (self.undo.count ≤ max_records) × (self.extras.reads.count ≤ max_records) × (addr + len ≤ memory_len) }
         ensures { result ≡ covered (used_by (bare_tx self)) addr len }
@@ -202,6 +207,7 @@ impl TxExtents {
     }
 
     // Number 19: the name 0, or a fifth one.
+    #[tactic(auto, using(crate::proofs::SavepointLaws::savepoints_length), unfolding(crate::specs::Rules::name_refused))]
     pub fn refuses_name(self, name: u8) -> bool
         requires { self.extras.savepoints.count ≤ max_savepoints }
         ensures { result ≡ name_refused name (savepoints_of (bare_tx self)) }
@@ -248,6 +254,7 @@ impl TxExtents {
 }
 
 impl Tx {
+    #[tactic(auto, unfolding(crate::specs::Flat::empty_tx))]
     pub fn empty() -> Self
         ensures { result ≡ empty_tx }
     {
@@ -264,6 +271,7 @@ impl Tx {
     }
 
     // As begin makes it: running, without records.
+    #[tactic(auto, unfolding(crate::specs::Steps::fresh_tx))]
     pub fn fresh(id: TxId) -> Self
         ensures { result ≡ fresh_tx id }
     {
@@ -298,6 +306,7 @@ impl Tx {
     }
 
     // One undo record and one redo record more.
+    #[tactic(auto, unfolding(crate::specs::Steps::written))]
     pub fn write(mut self, addr: u16, old: &[u8], new: &[u8]) -> Self
         requires { (length old.now ≤ max_write) × (length new.now ≤ max_write) × (self.undo.ranges.count < max_records) × (self.redo.ranges.count < max_records) }
         ensures { result ≡ written self addr old.now new.now }
@@ -310,6 +319,7 @@ impl Tx {
     }
 
     // One read range more.
+    #[tactic(auto, unfolding(crate::specs::Steps::with_read))]
     pub fn read(mut self, addr: u16, len: u8) -> Self
         requires { self.extras.reads.count < max_records }
         ensures { result ≡ with_read self addr len }
@@ -326,6 +336,7 @@ impl Tx {
     }
 
     // A savepoint where its writes stand.
+    #[tactic(auto, unfolding(crate::specs::Steps::savepointed))]
     pub fn savepoint(mut self, name: u8) -> Self
         requires { (self.extras.savepoints.count ≤ max_savepoints) × (place_of self.extras.savepoints name < max_savepoints) }
         ensures { result ≡ savepointed self name }
@@ -380,6 +391,7 @@ impl Tx {
     }
 
     // Committing, with its redo records and extras gone.
+    #[tactic(auto, unfolding(crate::specs::Steps::precommitted))]
     pub fn precommit(mut self, csn: Csn) -> Self
         ensures { result ≡ precommitted self csn }
     {
