@@ -10,6 +10,7 @@
 #define CANARY 128
 #define REPLY sizeof(struct luppaneth_reply)
 #define STATE sizeof(struct luppaneth_state)
+#define AREA 15 /* where the state has its area */
 
 static int failed;
 
@@ -80,6 +81,7 @@ static void test_state(void)
         expect(call(at) == at, "a returned state is elsewhere");
     }
     expect(whole(&room, STATE, "a state is written outside its size"), "the state's size is not the library's");
+    expect(written(&room, room.at + AREA), "the state's area is not written");
     expect(_Alignof(struct luppaneth_state) == 4, "the state's alignment is not 4");
 }
 

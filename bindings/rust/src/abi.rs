@@ -50,6 +50,7 @@ pub struct State {
     pub assigned: u32,
     pub lastid: u16,
     pub count: u8,
+    pub area: u8,
     txs: [Transaction; 8],
 }
 

@@ -2,30 +2,36 @@
 use Prim.Native.Nat.{ℕ, ◌<◌}
 use native.Mathlib.Omega.{arith}
 use mathlib.Core.Bool.{Bool, true, false, cond}
+use mathlib.Core.List.Memᴰ
 use mathlib.Core.List.{List, [], ◌∷◌, ◌++◌, Memᴰ}
 use mathlib.Core.Option.{Option, none, some}
 use mathlib.Core.Path.{◌≡◌, refl, sym, ap, ◌∙◌, subst}
 use mathlib.Core.Logic.{◌≢◌}
-use lib.ListN.{length, get_or, length-map}
+use lib.ListN.{length, get_or, length-append, length-map}
 use lib.Dec.{eqb}
 use borrow.Author.Tests.{eqb-true, eq-eqb, ne_eqb}
+use Rattle.layout.specs.declared.Form.{Form}
+use Rattle.layout.specs.declared.Form.TheVariants.{One}
 use Rattle.recovery.specs.Group.{Group, committed, aborted, Write}
 use Rattle.recovery.specs.Lists.{All, nil, cons, or_else}
 use Rattle.recovery.specs.Restart.{group_id}
 use Rattle.recovery.specs.Ledger.{Commit}
-use Rattle.recovery.specs.Machine.{down, disk_of, opening_disk, opened}
+use Rattle.recovery.specs.Machine.{history_of, disk_of}
 use Rattle.recovery.specs.Claim.{commits}
-use Rattle.recovery.proofs.Distinct.{Distinct, more, distinct_right}
+use Rattle.recovery.proofs.Lists.{all_map}
+use Rattle.recovery.proofs.Distinct.{Distinct, more, distinct_right, distinct_apart}
 use Rattle.recovery.proofs.Log.{standing_last}
+use Rattle.recovery.proofs.Ledger.{commits_append, all_member}
 use Rattle.recovery.proofs.Once.{groups_once}
+use Rattle.recovery.proofs.Durable.{commits_ids, durable_is}
 use Rattle.redolog.proofs.Basics.{clash}
 use Rattle.image.proofs.Lists.{map_at}
 use Rattle.inspect.specs.Outcomes.{last_group, outcome_by, last_outcome, rising, OutcomesLeft, groups_on, walked_log}
 use Rattle.inspect.proofs.Walking.{outcomes_done}
 use Rattle.history.specs.Demand.{Watched, happen_all, opening}
-use Rattle.history.proofs.OnDisk.{opens, fresh, fresh_shows}
-use Rattle.history.proofs.Shows.{rests}
-use Rattle.history.proofs.Theorem.{Reached, all_happen, log_shown, claimed}
+use Rattle.history.proofs.OnDisk.{Start, opens}
+use Rattle.history.proofs.Openings.{fresh}
+use Rattle.history.proofs.Theorem.{Reached, groups_in, log_shown, claimed, fresh_reached, from_zero}
 use Rattle.audit.specs.{DurableLast, left_on, outcome_at, Agree, OutcomesAgree}
 
 -- ---- a commit that is the last group of its id is among the log's commits
@@ -67,44 +73,91 @@ commit_last (committed i n ws ∷ gs) (more h d) c (Memᴰ.head e) =
 commit_last (committed i n ws ∷ gs) (more h d) c (Memᴰ.tail m) = rw (commit_last gs d c m)
 commit_last (aborted i ∷ gs) (more h d) c m = rw (commit_last gs d c m)
 
--- ---- on a store that demand 3's lists have reached
+-- a commit of groups before others has another id than these
+other_ids : (old : List Group) {log : List Group} (c : Commit) → Memᴰ c (commits old) → All (λ y. All (λ x. group_id x ≢ group_id y) old) log
+    → All (λ g. group_id g ≢ c.id) log
+other_ids old c m h = all_map (λ y all e. all_member (commits_ids (λ (i : ℕ). i ≢ group_id y) all) m (sym e)) h
+
+-- ---- on a store that a list of happenings has reached, from any opening: log is what stands in the area in force
+
+-- what is left out of a list that is whole is nothing
+nothing_gone : (gone cs : List Commit) → cs ≡ gone ++ cs → gone ≡ []
+nothing_gone [] cs e = refl
+nothing_gone (c ∷ gone) cs e = absurd (omega (arith, ap length e, length-append gone cs))
+
+-- What the groups of a log tell of the durable ones. Those whose commits stand in it are the last of them, in form one all: of these 1 is told, of the
+-- earlier ones 0.
+pub record Tells (form : Form) (durable : List Commit) (log : List Group) : Type 0 where
+  pub gone : List Commit
+  pub standing : durable ≡ gone ++ commits log
+  pub whole : form ≡ One → gone ≡ []
+  pub told : (c : Commit) → Memᴰ c (commits log) → last_outcome log c.id ≡ 1
+  pub wiped : (c : Commit) → Memᴰ c gone → last_outcome log c.id ≡ 0
+
+module _ (from : Start) (k : Watched) (r : Reached from k) (log : List Group) (is : log ≡ groups_in from k.world.disk) where
+  -- the history: what stood in an area that was wiped since, and what stands
+  parted : (old : List Group) × (history_of (disk_of r.system) ≡ old ++ log)
+  parted =
+      let (old, whole) = standing_last (disk_of r.system) in
+      (old, whole ∙ ap (λ (gs : List Group). old ++ gs) (sym (is ∙ log_shown from k r)))
+
+  pub logged : from.form ≡ One → commits log ≡ k.ledger.durable
+  logged one = let old = (claimed from k r).old one in ap commits (is ∙ old.stands) ∙ old.logged
+
+  pub tells : Tells from.form k.ledger.durable log
+  tells =
+      let (old, whole) = parted in
+      let distinct : Distinct group_id (old ++ log) = subst (Distinct group_id) whole (groups_once (opens from) r.run) in
+      let once : Distinct group_id log = distinct_right old distinct in
+      let standing : k.ledger.durable ≡ commits old ++ commits log =
+      durable_is (opens from) r.system k.ledger r.run ∙ ap commits whole ∙ commits_append old log in
+      record {
+        gone = commits old;
+        standing = standing;
+        whole = λ one. nothing_gone (commits old) (commits log) (logged one ∙ standing);
+        told = λ c m. ap outcome_by (commit_last log once c m);
+        wiped = λ c m. ap outcome_by (none_last c.id (other_ids old c m (distinct_apart old distinct)));
+      }
+
+  -- told 1, the last group of an id is the commit of a durable transaction
+  pub sound : (id : ℕ) → last_outcome log id ≡ 1
+      → (c : Commit) × (c.id ≡ id) × (last_group log id ≡ some (committed c.id c.csn c.writes)) × Memᴰ c k.ledger.durable
+  sound id e = go (last_group log id) refl
+    where
+      one : (x : Option Group) → last_group log id ≡ x → outcome_by x ≡ 1
+      one x p = sym (ap outcome_by p) ∙ e
+
+      go : (x : Option Group) → last_group log id ≡ x
+          → (c : Commit) × (c.id ≡ id) × (last_group log id ≡ some (committed c.id c.csn c.writes)) × Memᴰ c k.ledger.durable
+      go none p = absurd (omega (arith, one none p))
+      go (some (aborted i)) p = absurd (omega (arith, one (some (aborted i)) p))
+      go (some (committed i n ws)) p =
+          let m = last_in id log i n ws p in
+          (commit_of i n ws, m.0, p, subst (Memᴰ (commit_of i n ws)) (sym tells.standing) (Memᴰ.append_right tells.gone m.1))
+
+-- ---- from an all-zero disk of form one
 
 module _ (k : Watched) (r : Reached fresh k) where
   abbrev log : List Group
   log = groups_on k.world.disk
 
-  logged : commits log ≡ k.ledger.durable
-  logged = (claimed fresh k r).logged
-
-  -- what stands in the log is a part of the history
-  once : Distinct group_id log
-  once =
-      let (gone, whole) = standing_last (disk_of r.system) in
-      subst (Distinct group_id) (sym (log_shown fresh k r)) (distinct_right gone (subst (Distinct group_id) whole (groups_once (opens fresh) r.run)))
+  -- the log that the office reads is what stands
+  is : log ≡ groups_in fresh k.world.disk
+  is = sym (((claimed fresh k r).old refl).stands ∙ from_zero k.world.disk)
 
   durable_last : (id : ℕ) → last_outcome log id ≡ 1 → DurableLast id k
-  durable_last id e = go (last_group log id) refl
-    where
-      told : (x : Option Group) → last_group log id ≡ x → outcome_by x ≡ 1
-      told x p = sym (ap outcome_by p) ∙ e
-
-      go : (x : Option Group) → last_group log id ≡ x → DurableLast id k
-      go none p = absurd (omega (arith, told none p))
-      go (some (aborted i)) p = absurd (omega (arith, told (some (aborted i)) p))
-      go (some (committed i n ws)) p =
-          let m = last_in id log i n ws p in
-          record { commit = commit_of i n ws; own = m.0; last = p; durable = subst (Memᴰ (commit_of i n ws)) logged m.1 }
+  durable_last id e = let (c, own, last, durable) = sound fresh k r log is id e in record { commit = c; own = own; last = last; durable = durable }
 
   last_told : (id : ℕ) → DurableLast id k → last_outcome log id ≡ 1
   last_told id d = ap outcome_by d.last
 
   -- a durable transaction has its commit in the log, and no group after it
   durable_told : (c : Commit) → Memᴰ c k.ledger.durable → last_outcome log c.id ≡ 1
-  durable_told c m = ap outcome_by (commit_last log once c (subst (Memᴰ c) (sym logged) m))
+  durable_told c m = (tells fresh k r log is).told c (subst (Memᴰ c) (sym (logged fresh k r log is refl)) m)
 
   module _ (ids out : List ℕ) (rises : rising ids ≡ true) (long : length out ≡ length ids) where
     walks : left_on k ids out ≡ walked_log log ids
-    walks = outcomes_done k.world.disk ids out r.shows.0.long (sym long) rises
+    walks = outcomes_done k.world.disk ids out r.shows.0.passes (sym long) rises
 
     at : (i : ℕ) → i < length ids → outcome_at k ids out i ≡ last_outcome log (get_or ids i 0)
     at i h = ap (λ (x : OutcomesLeft). get_or x.outcomes i 0) walks ∙ map_at (last_outcome log) ids i 0 0 h
@@ -121,7 +174,4 @@ module _ (k : Watched) (r : Reached fresh k) where
 
 pub outcomes_agree : OutcomesAgree
 outcomes_agree memory tail lm lt hs ids out rises long =
-    agrees (happen_all hs (opening memory tail))
-    (all_happen fresh hs (opening memory tail)
-    (record { system = down (opening_disk (opens fresh)); run = opened; shows = (fresh_shows, rests (record { memory = lm; tail = lt; state = refl })) }))
-    ids out rises long
+    agrees (happen_all hs (opening memory tail)) (fresh_reached memory tail lm lt hs) ids out rises long

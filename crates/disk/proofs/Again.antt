@@ -4,11 +4,12 @@ use native.Mathlib.Decide.{dec_le}
 use native.Mathlib.Omega.{arith}
 use mathlib.Core.Bool.{Bool, true, false, cond}
 use mathlib.Core.List.{List, [], ◌++◌, append-nil}
-use mathlib.Core.Path.{◌≡◌, refl, sym, ap, ◌∙◌, subst}
+use mathlib.Core.Path.{◌≡◌, refl, sym, ap, ap₂, ◌∙◌, subst}
 use lib.ListN.{length, take, drop, replicate, drop_of_length-le}
 use lib.Dec.{eqb, ltb}
 use borrow.Author.Tests.{eqb-true, eqb-false}
-use Rattle.layout.specs.Parts.{log_part}
+use Rattle.layout.specs.Parts.{form_of, HasForm, disk_ok, area_ok, pointer_of, image_part, log_at, log_part}
+use Rattle.layout.proofs.Forms.{disk_ok_lem}
 use Rattle.recovery.specs.Group.{Group, groups_size}
 use Rattle.recovery.proofs.Groups.{fitting_all}
 use Rattle.redolog.specs.Stores.{Store, apply, clears}
@@ -23,34 +24,37 @@ use Rattle.restart.proofs.Recovery.{end_is}
 use Rattle.store.specs.Stored.{DiskOutcome, carried_out}
 use Rattle.disk.specs.Layout.{log_from}
 use Rattle.disk.specs.Open.{open_of}
-use Rattle.disk.specs.Examine.{Meaning, refused_by, steps_of, if_fits, examine_of}
+use Rattle.disk.specs.Examine.{Meaning, refused_by, steps_of, if_fits, of_opened, examine_of}
 use Rattle.disk.specs.Restart.{clearing, refused_with, of_meaning}
 use Rattle.disk.specs.Restart as restarts
-use Rattle.disk.proofs.Opened.{log_length, opened_log, OpenAlike, log_stores_alike}
+use Rattle.disk.proofs.Opened.{log_inside, log_length, opened_log, OpenAlike, open_same, log_stores_alike}
 use Rattle.disk.proofs.Examining.{roomy}
-use Rattle.disk.proofs.Accepted.{image_in, memory_in, log_in, Accepted, accepted_is}
+use Rattle.disk.proofs.Accepted.{image_in, area_in, memory_in, log_in, Accepted, accepted_is, area_is}
 use Rattle.disk.proofs.Restarting.{cut_from, done_from, restart_meant, restart_refused, restart_cut, restart_done}
 
 -- what the first n stores of a clearing leave of the log: the front as it was, and zeros
-pub cleared : (n end : ℕ) (disk : List ℕ) → length disk ≡ 33691 → end ≤ 16384
-    → log_part (apply (take n (clearing end)) disk) ≡ take (end + (16384 - end - n)) (log_part disk) ++ replicate (16384 - end - (16384 - end - n)) 0
-cleared n end disk d h =
+pub cleared : (n area end : ℕ) (disk : List ℕ) → log_at area + 16384 ≤ length disk → end ≤ 16384
+    → log_part area (apply (take n (clearing area end)) disk)
+    ≡ take (end + (16384 - end - n)) (log_part area disk) ++ replicate (16384 - end - (16384 - end - n)) 0
+cleared n area end disk d h =
+    let from = log_at area in
     let low = end + (16384 - end - n) in
     let k = 16384 - end - (16384 - end - n) in
-    let l = log_length disk d in
-    let r : drop (low + k) (log_part disk) ≡ [] = drop_of_length-le (log_part disk) {i = low + k} (omega arith) in
-    ap (λ (ss : List Store). log_part (apply (take n ss) disk)) (clears_moved 17307 end (16384 - end))
-    ∙ part_first 17307 16384 n (clears end (16384 - end)) disk
-    ∙ ap (λ (ss : List Store). apply ss (log_part disk)) (first_clears n end (16384 - end))
-    ∙ apply_clears low k (log_part disk) (omega arith)
-    ∙ ap (λ (x : List ℕ). take low (log_part disk) ++ (replicate k 0 ++ x)) r
-    ∙ ap (λ (x : List ℕ). take low (log_part disk) ++ x) (append-nil (replicate k 0))
+    let l = log_length area disk d in
+    let r : drop (low + k) (log_part area disk) ≡ [] = drop_of_length-le (log_part area disk) {i = low + k} (omega arith) in
+    ap (λ (ss : List Store). log_part area (apply (take n ss) disk)) (clears_moved from end (16384 - end))
+    ∙ part_first from 16384 n (clears end (16384 - end)) disk
+    ∙ ap (λ (ss : List Store). apply ss (log_part area disk)) (first_clears n end (16384 - end))
+    ∙ apply_clears low k (log_part area disk) (omega arith)
+    ∙ ap (λ (x : List ℕ). take low (log_part area disk) ++ (replicate k 0 ++ x)) r
+    ∙ ap (λ (x : List ℕ). take low (log_part area disk) ++ x) (append-nil (replicate k 0))
 
 -- and the rest of the disk open-is as before
-pub cleared_alike : (n end : ℕ) (disk : List ℕ) → end ≤ 16384 → OpenAlike (apply (take n (clearing end)) disk) disk
-cleared_alike n end disk h =
-    subst (λ (ss : List Store). OpenAlike (apply (take n ss) disk) disk) (sym (clears_moved 17307 end (16384 - end)))
-    (log_stores_alike n (clears end (16384 - end)) disk (within_clears 16384 end (16384 - end) (omega (arith, h))))
+pub cleared_alike : (n area end : ℕ) (disk : List ℕ) → area_ok (form_of disk) area ≡ true → end ≤ 16384
+    → OpenAlike (apply (take n (clearing area end)) disk) disk
+cleared_alike n area end disk a h =
+    subst (λ (ss : List Store). OpenAlike (apply (take n ss) disk) disk) (sym (clears_moved (log_at area) end (16384 - end)))
+    (log_stores_alike area n (clears end (16384 - end)) disk a (within_clears 16384 end (16384 - end) (omega (arith, h))))
 
 -- steps 2 to 5 look at the log's groups alone
 steps_same : (i : Image) (log log' m t : List ℕ) → groups_of i log' ≡ groups_of i log → recover_of i log' m t ≡ recover_of i log m t
@@ -62,18 +66,39 @@ same_meaning : (x y : List ℕ) → OpenAlike x y → groups_of (image_in y) (lo
 unfolding examine_of steps_of
 same_meaning x y a g =
     let z : List ℕ = replicate 16384 0 in
-    let meaning : ℕ → Image → AfterSteps → Meaning = λ n i o. cond (eqb n 0) (if_fits i.logend o) (refused_by n) in
-    ap (λ (n : ℕ). meaning n (image_in x) (recover_of (image_in x) (log_in x) (memory_in x) z)) a.number
-    ∙ ap (λ (i : Image). meaning (open_of y).number i (recover_of i (log_in x) (memory_in x) z)) a.image
-    ∙ ap (λ (m : List ℕ). meaning (open_of y).number (image_in y) (recover_of (image_in y) (log_in x) m z)) a.memory
-    ∙ ap (meaning (open_of y).number (image_in y)) (steps_same (image_in y) (log_in y) (log_in x) (memory_in y) z g)
+    let meaning : ℕ → ℕ → Image → AfterSteps → Meaning = λ n k i o. cond (eqb n 0) (if_fits k i.logend o) (refused_by n) in
+    ap₂ (λ (n k : ℕ). meaning n k (image_in x) (recover_of (image_in x) (log_in x) (memory_in x) z)) a.number a.area
+    ∙ ap (λ (i : Image). meaning (open_of y).number (area_in y) i (recover_of i (log_in x) (memory_in x) z)) a.image
+    ∙ ap (λ (m : List ℕ). meaning (open_of y).number (area_in y) (image_in y) (recover_of (image_in y) (log_in x) m z)) a.memory
+    ∙ ap (meaning (open_of y).number (area_in y) (image_in y)) (steps_same (image_in y) (log_in y) (log_in x) (memory_in y) z g)
 
-module _ (disk : List ℕ) (d : length disk ≡ 33691) (a : Accepted disk) where
+-- "Recovery depends only on the pointer, the named image and the area in force": two disks of one form that have these three alike mean the same
+pub means_by_parts : (x y : List ℕ) → form_of x ≡ form_of y → pointer_of x ≡ pointer_of y
+    → image_part (form_of y) (pointer_of y) x ≡ image_part (form_of y) (pointer_of y) y
+    → log_part (area_in y) x ≡ log_part (area_in y) y
+    → examine_of x ≡ examine_of y
+unfolding examine_of
+means_by_parts x y f p i l = ap of_opened (open_same x y f p i l)
+
+module _ (disk : List ℕ) (d : HasForm disk) (a : Accepted disk) where
+  abbrev area : ℕ
+  area = (examine_of disk).result.area
+
   abbrev end : ℕ
   end = (examine_of disk).result.end
 
   within : end ≤ 16384
   within = omega (arith, roomy disk)
+
+  pub area_fits : area_ok (form_of disk) area ≡ true
+  area_fits = ap (area_ok (form_of disk)) (area_is disk a) ∙ a.area
+
+  pub inside : log_at area + 16384 ≤ length disk
+  inside = log_inside area disk d area_fits
+
+  -- the log that step 1 hands on
+  pub log_on : log_in disk ≡ drop (image_in disk).logend (log_part area disk)
+  log_on = opened_log disk a.opened ∙ ap (λ (k : ℕ). log_from k (image_in disk).logend disk) (sym (area_is disk a))
 
   -- where the groups after the image end
   pub groups_size_lem : (image_in disk).logend + groups_size (groups_of (image_in disk) (log_in disk)) ≡ end
@@ -83,31 +108,30 @@ module _ (disk : List ℕ) (d : length disk ≡ 33691) (a : Accepted disk) where
       omega (arith, e, end_is (image_in disk) a.rules (log_in disk) (memory_in disk) (replicate 16384 0))
 
   -- the groups after the image stand before the log's end
-  groups_again : (n : ℕ) → let left = apply (take n (clearing end)) disk in
+  groups_again : (n : ℕ) → let left = apply (take n (clearing area end)) disk in
       groups_of (image_in disk) (log_in left) ≡ groups_of (image_in disk) (log_in disk)
   groups_again n =
-      let left = apply (take n (clearing end)) disk in
-      let alike = cleared_alike n end disk within in
+      let left = apply (take n (clearing area end)) disk in
+      let alike = cleared_alike n area end disk area_fits within in
       let i = (image_in disk).logend in
       let csn = (image_in disk).ondisk.0 in
       let p = end + (16384 - end - n) in
       let k = 16384 - end - (16384 - end - n) in
       let room = within in
       let size = groups_size_lem in
-      let l = log_length disk d in
+      let l = log_length area disk inside in
       let gs = groups_of (image_in disk) (log_in disk) in
-      let log : log_in disk ≡ drop i (log_part disk) = opened_log disk a.opened in
-      let torn : log_in left ≡ take (p - i) (drop i (log_part disk)) ++ replicate k 0 =
+      let torn : log_in left ≡ take (p - i) (drop i (log_part area disk)) ++ replicate k 0 =
       opened_log left (alike.number ∙ a.opened)
-      ∙ ap (λ (x : Image). log_from x.logend left) alike.image
-      ∙ ap (drop i) (cleared n end disk d within)
-      ∙ torn_rest csn (log_part disk) p k i (omega arith) (omega arith) in
+      ∙ ap₂ (λ (k : ℕ) (x : Image). log_from k x.logend left) (alike.area ∙ sym (area_is disk a)) alike.image
+      ∙ ap (drop i) (cleared n area end disk inside within)
+      ∙ torn_rest csn (log_part area disk) p k i (omega arith) (omega arith) in
       ap (read_log csn) torn
-      ∙ log_torn csn gs (drop i (log_part disk)) (p - i) k (ap (read_log csn) (sym log))
+      ∙ log_torn csn gs (drop i (log_part area disk)) (p - i) k (ap (read_log csn) (sym log_on))
       ∙ fitting_all (p - i) gs (omega arith)
 
-  pub means_again : (n : ℕ) → examine_of (apply (take n (clearing end)) disk) ≡ examine_of disk
-  means_again n = same_meaning (apply (take n (clearing end)) disk) disk (cleared_alike n end disk within) (groups_again n)
+  pub means_again : (n : ℕ) → examine_of (apply (take n (clearing area end)) disk) ≡ examine_of disk
+  means_again n = same_meaning (apply (take n (clearing area end)) disk) disk (cleared_alike n area end disk area_fits within) (groups_again n)
 
 -- ---- restart after restart
 
@@ -124,12 +148,15 @@ alike true true m disk disk' n = record { result = refl; memory = refl; tail = r
 alike true false m disk disk' n = record { result = refl; memory = refl; tail = refl }
 alike false w m disk disk' n = record { result = refl; memory = refl; tail = refl }
 
-module _ (disk m t m' t' : List ℕ) (n k : ℕ) (d : length disk ≡ 33691) (lm : length m ≡ 4096) (lt : length t ≡ 16384) (lm' : length m' ≡ 4096)
+module _ (disk m t m' t' : List ℕ) (n k : ℕ) (d : disk_ok (length disk) ≡ true) (lm : length m ≡ 4096) (lt : length t ≡ 16384) (lm' : length m' ≡ 4096)
     (lt' : length t' ≡ 16384) where
   abbrev left : List ℕ
   left = (restarts.restartOf disk m t n).disk
 
-  left_cleared : (examine_of disk).result.number ≡ 0 → left ≡ apply (take n (clearing (examine_of disk).result.end)) disk
+  abbrev stores : List Store
+  stores = clearing (examine_of disk).result.area (examine_of disk).result.end
+
+  left_cleared : (examine_of disk).result.number ≡ 0 → left ≡ apply (take n stores) disk
   left_cleared number =
       elim (dec_le (16384 - (examine_of disk).result.end) n) [
         | yes h ↦ ap (λ (o : DiskOutcome). o.disk) (restart_done disk m t n d lm lt number h)
@@ -137,14 +164,16 @@ module _ (disk m t m' t' : List ℕ) (n k : ℕ) (d : length disk ≡ 33691) (lm
       ]
 
   -- what the first restart left of the disk: nothing changed, or some of the clearing made
-  left_is : (b : Bool) → eqb (examine_of disk).result.number 0 ≡ b → (length left ≡ 33691) × (examine_of left ≡ examine_of disk)
+  left_is : (b : Bool) → eqb (examine_of disk).result.number 0 ≡ b → (length left ≡ length disk) × (examine_of left ≡ examine_of disk)
   left_is true e =
       let number = eqb-true (examine_of disk).result.number 0 e in
-      let l : left ≡ apply (take n (clearing (examine_of disk).result.end)) disk = left_cleared number in
-      (ap length l ∙ length_apply (take n (clearing (examine_of disk).result.end)) disk ∙ d, ap examine_of l ∙ means_again disk d (accepted_is disk number) n)
+      let l : left ≡ apply (take n stores) disk = left_cleared number in (
+        ap length l ∙ length_apply (take n stores) disk,
+        ap examine_of l ∙ means_again disk (disk_ok_lem (length disk) d) (accepted_is disk number) n,
+      )
   left_is false e =
       let l : left ≡ disk = ap (λ (o : DiskOutcome). o.disk) (restart_refused disk m t n d lm lt (eqb-false (examine_of disk).result.number 0 e)) in
-      (ap length l ∙ d, ap examine_of l)
+      (ap length l, ap examine_of l)
 
   -- refused, cut or done: a restart of the disk that it left answers and leaves in memory and tail what one of the old disk does
   pub restart_again : SameBut (restarts.restartOf left m' t' k) (restarts.restartOf disk m' t' k)
@@ -153,6 +182,6 @@ module _ (disk m t m' t' : List ℕ) (n k : ℕ) (d : length disk ≡ 33691) (lm
       let l = left_is (eqb (examine_of disk).result.number 0) refl in
       let m = examine_of disk in
       subst (λ (o : DiskOutcome). SameBut o (restarts.restartOf disk m' t' k))
-      (sym (restart_meant left m' t' k l.0 lm' lt' ∙ ap (λ (x : Meaning). of_meaning x left k) l.1))
+      (sym (restart_meant left m' t' k (ap disk_ok l.0 ∙ d) lm' lt' ∙ ap (λ (x : Meaning). of_meaning x left k) l.1))
       (subst (λ (o : DiskOutcome). SameBut (of_meaning m left k) o) (sym (restart_meant disk m' t' k d lm' lt'))
-      (alike (eqb m.result.number 0) (ltb k (length (clearing m.result.end))) m left disk k))
+      (alike (eqb m.result.number 0) (ltb k (length stores)) m left disk k))

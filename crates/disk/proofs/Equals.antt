@@ -6,6 +6,7 @@ use mathlib.Core.Path.{◌≡◌, refl, sym, ap, ◌∙◌}
 use lib.ListN.{length}
 use lib.Dec.{eqb}
 use borrow.Author.Tests.{eq-eqb, ne_eqb, eqb-true}
+use Rattle.layout.specs.Parts.{disk_ok}
 use Rattle.redolog.proofs.Basics.{and_left, and_right}
 use Rattle.store.specs.Stored.{DiskOutcome}
 use Rattle.disk.specs.Examine.{examine_of}
@@ -15,14 +16,14 @@ use Rattle.disk.specs.Equal.{same_bytes, accepted, equal_of}
 use Rattle.disk.proofs.Bytes.{same_equal, same_self}
 use Rattle.disk.proofs.Restarting.{Done?, DoneWith, done_inv, done_with}
 
-pub short : (a : List ℕ) → (length a ≡ 33691 → ⊥) → accepted a ≡ false
-short a n = rw (ne_eqb (length a) 33691 n)
+pub short : (a : List ℕ) → disk_ok (length a) ≡ false → accepted a ≡ false
+short a n = rw n
 
-pub refused : (a : List ℕ) → length a ≡ 33691 → ((examine_of a).result.number ≡ 0 → ⊥) → accepted a ≡ false
-refused a l n = rw (eq-eqb (length a) 33691 l, ne_eqb (examine_of a).result.number 0 n)
+pub refused : (a : List ℕ) → disk_ok (length a) ≡ true → ((examine_of a).result.number ≡ 0 → ⊥) → accepted a ≡ false
+refused a l n = rw (l, ne_eqb (examine_of a).result.number 0 n)
 
-pub taken : (a : List ℕ) → length a ≡ 33691 → (examine_of a).result.number ≡ 0 → accepted a ≡ true
-taken a l e = rw (eq-eqb (length a) 33691 l, eq-eqb (examine_of a).result.number 0 e)
+pub taken : (a : List ℕ) → disk_ok (length a) ≡ true → (examine_of a).result.number ≡ 0 → accepted a ≡ true
+taken a l e = rw (l, eq-eqb (examine_of a).result.number 0 e)
 
 and_no : (a : Bool) → a && false ≡ false
 and_no true = refl
@@ -45,10 +46,10 @@ both a b p q = rw (p, q)
 enough_for : (a memory tail : List ℕ) (allowed : ℕ) → accepted a ≡ true → length memory ≡ 4096 → length tail ≡ 16384 → Enough allowed a
     → DoneWith a memory tail allowed
 enough_for a memory tail allowed e m t h = record {
-  disk_length = eqb-true (length a) 33691 (and_left (eqb (length a) 33691) (eqb (examine_of a).result.number 0) e);
+  disk_length = and_left (disk_ok (length a)) (eqb (examine_of a).result.number 0) e;
   memory_length = m;
   tail_length_lem = t;
-  number = eqb-true (examine_of a).result.number 0 (and_right (eqb (length a) 33691) (eqb (examine_of a).result.number 0) e);
+  number = eqb-true (examine_of a).result.number 0 (and_right (disk_ok (length a)) (eqb (examine_of a).result.number 0) e);
   enough = h;
 }
 

@@ -30,6 +30,9 @@ unfolding refused_by
 refused_memory n = refl
 
 module _ (disk : List ℕ) (e : (open_of disk).number ≡ 0) where
+  abbrev area : ℕ
+  area = (open_of disk).area
+
   abbrev logend : ℕ
   logend = (open_of disk).image.logend
 
@@ -47,7 +50,7 @@ module _ (disk : List ℕ) (e : (open_of disk).number ≡ 0) where
         end_is o.image ok o.log o.memory (replicate 16384 0),
         log_within o.image.ondisk.0 _ o.log refl,
         ap length (opened_log disk e),
-        log_short logend disk,
+        log_short o.area logend disk,
         image_logend o.image ok,
       )
 
@@ -58,14 +61,14 @@ module _ (disk : List ℕ) (e : (open_of disk).number ≡ 0) where
       let ok = opened_rules disk e in
       omega (arith, count_is o.image ok o.log o.memory (replicate 16384 0), undone_few o.image o.log, image_count o.image ok)
 
-  taken : examine_of disk ≡ if_fits logend steps
+  taken : examine_of disk ≡ if_fits area logend steps
   unfolding examine_of
   taken = rw (eq-eqb (open_of disk).number 0 e)
 
   pub means_5 : 16384 < logend + steps.answer.end + 4 * steps.answer.undone → examine_of disk ≡ refused_by 5
   means_5 h = taken ∙ rw (lt-ltb 16384 (logend + steps.answer.end + 4 * steps.answer.undone) h)
 
-  pub means : logend + steps.answer.end + 4 * steps.answer.undone ≤ 16384 → examine_of disk ≡ meant logend steps
+  pub means : logend + steps.answer.end + 4 * steps.answer.undone ≤ 16384 → examine_of disk ≡ meant area logend steps
   means h = taken ∙ rw (le-ltb 16384 (logend + steps.answer.end + 4 * steps.answer.undone) h)
 
 pick : (P : Meaning → Type 0) (b : Bool) (x y : Meaning) → P x → P y → P (cond b x y)
@@ -81,10 +84,10 @@ refused_roomy : (n : ℕ) → Roomy (refused_by n)
 unfolding refused_by
 refused_roomy n = omega arith
 
-fitting_roomy : (logend : ℕ) (o : AfterSteps) → Roomy (if_fits logend o)
-fitting_roomy logend o = go (ltb 16384 (logend + o.answer.end + 4 * o.answer.undone)) refl
+fitting_roomy : (area logend : ℕ) (o : AfterSteps) → Roomy (if_fits area logend o)
+fitting_roomy area logend o = go (ltb 16384 (logend + o.answer.end + 4 * o.answer.undone)) refl
   where
-    go : (b : Bool) → ltb 16384 (logend + o.answer.end + 4 * o.answer.undone) ≡ b → Roomy (cond b (refused_by 5) (meant logend o))
+    go : (b : Bool) → ltb 16384 (logend + o.answer.end + 4 * o.answer.undone) ≡ b → Roomy (cond b (refused_by 5) (meant area logend o))
     go true e = refused_roomy 5
     go false e = ltb-false 16384 (logend + o.answer.end + 4 * o.answer.undone) e
 
@@ -92,7 +95,7 @@ pub roomy : (disk : List ℕ) → (examine_of disk).result.end + 4 * (examine_of
 unfolding examine_of
 roomy disk =
     let o = open_of disk in
-    pick Roomy (eqb o.number 0) (if_fits o.image.logend (steps_of o)) (refused_by o.number) (fitting_roomy o.image.logend (steps_of o))
+    pick Roomy (eqb o.number 0) (if_fits o.area o.image.logend (steps_of o)) (refused_by o.number) (fitting_roomy o.area o.image.logend (steps_of o))
     (refused_roomy o.number)
 
 -- ---- few are undone
@@ -111,9 +114,9 @@ few_undone disk = go (eqb (open_of disk).number 0) refl
     o : OpenedDisk
     o = open_of disk
 
-    go : (b : Bool) → eqb (open_of disk).number 0 ≡ b → Few (cond b (if_fits o.image.logend (steps_of o)) (refused_by o.number))
+    go : (b : Bool) → eqb (open_of disk).number 0 ≡ b → Few (cond b (if_fits o.area o.image.logend (steps_of o)) (refused_by o.number))
     go true e =
-        pick Few (ltb 16384 (o.image.logend + (steps_of o).answer.end + 4 * (steps_of o).answer.undone)) (refused_by 5) (meant o.image.logend (steps_of o))
+        pick Few (ltb 16384 (o.image.logend + (steps_of o).answer.end + 4 * (steps_of o).answer.undone)) (refused_by 5) (meant o.area o.image.logend (steps_of o))
         (refused_few 5) (undone_within disk (eqb-true (open_of disk).number 0 e))
     go false e = refused_few o.number
 
@@ -127,7 +130,7 @@ unfolding examine_of
 refused_zeros disk =
     let o = open_of disk in
     let s = steps_of o in
-    pick ZerosIfRefused (eqb o.number 0) (if_fits o.image.logend s) (refused_by o.number)
-    (pick ZerosIfRefused (ltb 16384 (o.image.logend + s.answer.end + 4 * s.answer.undone)) (refused_by 5) (meant o.image.logend s)
+    pick ZerosIfRefused (eqb o.number 0) (if_fits o.area o.image.logend s) (refused_by o.number)
+    (pick ZerosIfRefused (ltb 16384 (o.image.logend + s.answer.end + 4 * s.answer.undone)) (refused_by 5) (meant o.area o.image.logend s)
     (λ z. refused_memory 5) (λ z. absurd (z refl)))
     (λ z. refused_memory o.number)

@@ -3,11 +3,11 @@ use Prim.Native.Nat.{ℕ, ◌+◌, ◌-◌, ◌≤◌, ◌<◌}
 use native.Mathlib.Omega.{arith}
 use mathlib.Core.Bool.{Bool, true, false, cond, ◌&&◌}
 use mathlib.Core.List.{List, ◌++◌}
-use mathlib.Core.Path.{◌≡◌, refl, sym, ap, ◌∙◌}
+use mathlib.Core.Path.{◌≡◌, refl, sym, ap, ap₂, ◌∙◌}
 use lib.ListN.{length, take, drop}
 use lib.Dec.{eqb, ltb}
 use borrow.Author.Tests.{eq-eqb, ne_eqb, eqb-true, ltb-false}
-use Rattle.layout.specs.Parts.{log_part}
+use Rattle.layout.specs.Parts.{disk_ok, log_at, log_part}
 use Rattle.redolog.specs.Stores.{Store, apply, clears}
 use Rattle.redolog.proofs.Basics.{clash}
 use Rattle.redolog.proofs.PartLaws.{clears_moved, within_clears, part_lent}
@@ -21,21 +21,29 @@ use Rattle.disk.specs.Examine.{Meaning, examine_of}
 use Rattle.disk.specs.Restart.{clearing, restart_plan, refused_restart, refused_with, of_meaning, restart_of, stop_found, told_stop, stopped_of}
 use Rattle.disk.proofs.Opened.{log_length}
 
-pub clearing_length : (end : ℕ) → length (clearing end) ≡ 16384 - end
-clearing_length end = length_clears (17307 + end) (16384 - end)
+pub clearing_length : (area end : ℕ) → length (clearing area end) ≡ 16384 - end
+clearing_length area end = length_clears (log_at area + end) (16384 - end)
+
+-- the log of an area, as it is lent from its place on
+pub log_part_lem : (at area : ℕ) (d : List ℕ) → at ≡ log_at area → take (at + 16384 - at) (drop at d) ≡ log_part area d
+log_part_lem at area d e = let n : at + 16384 - at ≡ 16384 = omega arith in ap₂ (λ (k j : ℕ). take k (drop j d)) n e
 
 -- what clearing the log leaves on the disk that it is lent of, and how many stores that takes
-pub log_cleared : (n end : ℕ) (d ys : List ℕ) → length d ≡ 33691 → end ≤ 16384 → ys ≡ apply (take n (clears end (length (log_part d) - end))) (log_part d)
-    → take 17307 d ++ (ys ++ drop 16384 (drop 17307 d)) ≡ apply (take n (clearing end)) d
-log_cleared n end d ys l h e =
-    let k = length (log_part d) - end in
-    part_lent 17307 16384 n (clears end k) d ys (within_clears 16384 end k (omega (arith, log_length d l, h))) e
+pub log_cleared : (n area end : ℕ) (d ys : List ℕ) → log_at area + 16384 ≤ length d → end ≤ 16384
+    → ys ≡ apply (take n (clears end (length (log_part area d) - end))) (log_part area d)
+    → take (log_at area) d ++ (ys ++ drop 16384 (drop (log_at area) d)) ≡ apply (take n (clearing area end)) d
+log_cleared n area end d ys l h e =
+    let from = log_at area in
+    let long = log_length area d l in
+    let k = length (log_part area d) - end in
+    part_lent from 16384 n (clears end k) d ys (within_clears 16384 end k (omega (arith, long, h))) e
     ∙ ap (λ (ss : List Store). apply (take n ss) d)
-    (sym (clears_moved 17307 end k) ∙ ap (λ (j : ℕ). clears (17307 + end) (j - end)) (log_length d l))
+    (sym (clears_moved from end k) ∙ ap (λ (j : ℕ). clears (from + end) (j - end)) long)
 
-pub log_count : (end : ℕ) (d : List ℕ) → length d ≡ 33691 → length (clears end (length (log_part d) - end)) ≡ length (clearing end)
-log_count end d l =
-    length_clears end (length (log_part d) - end) ∙ ap (λ (k : ℕ). k - end) (log_length d l) ∙ sym (clearing_length end)
+pub log_count : (area end : ℕ) (d : List ℕ) → log_at area + 16384 ≤ length d
+    → length (clears end (length (log_part area d) - end)) ≡ length (clearing area end)
+log_count area end d l =
+    length_clears end (length (log_part area d) - end) ∙ ap (λ (k : ℕ). k - end) (log_length area d l) ∙ sym (clearing_length area end)
 
 -- a disk that is accepted, with n stores allowed: cut or done
 abbrev pub cut_from : Meaning → List ℕ → ℕ → DiskOutcome
@@ -49,10 +57,10 @@ pub restart_1 : (disk memory tail : List ℕ) (allowed : ℕ) → lengths_ok dis
 unfolding restart_of
 restart_1 disk memory tail allowed e = rw e
 
-module _ (disk memory tail : List ℕ) (allowed : ℕ) (d : length disk ≡ 33691) (m : length memory ≡ 4096) (t : length tail ≡ 16384) where
+module _ (disk memory tail : List ℕ) (allowed : ℕ) (d : disk_ok (length disk) ≡ true) (m : length memory ≡ 4096) (t : length tail ≡ 16384) where
   pub restart_meant : restart_of disk memory tail allowed ≡ of_meaning (examine_of disk) disk allowed
   unfolding restart_of
-  restart_meant = rw (eq-eqb (length disk) 33691 d, eq-eqb (length memory) 4096 m, eq-eqb (length tail) 16384 t)
+  restart_meant = rw (d, eq-eqb (length memory) 4096 m, eq-eqb (length tail) 16384 t)
 
   pub restart_refused : ((examine_of disk).result.number ≡ 0 → ⊥)
       → restart_of disk memory tail allowed ≡ refused_with (examine_of disk).result.number disk (examine_of disk).memory (examine_of disk).tail
@@ -63,16 +71,17 @@ module _ (disk memory tail : List ℕ) (allowed : ℕ) (d : length disk ≡ 3369
     taken = restart_meant ∙ rw (eq-eqb (examine_of disk).result.number 0 e)
 
     pub restart_cut : allowed < 16384 - (examine_of disk).result.end → restart_of disk memory tail allowed ≡ cut_from (examine_of disk) disk allowed
-    restart_cut h = taken ∙ carried_cut (restart_plan (examine_of disk)) allowed disk (omega (arith, clearing_length (examine_of disk).result.end))
+    restart_cut h = let r = (examine_of disk).result in taken ∙ carried_cut (restart_plan (examine_of disk)) allowed disk (omega (arith, clearing_length r.area r.end))
 
     pub restart_done : 16384 - (examine_of disk).result.end ≤ allowed → restart_of disk memory tail allowed ≡ done_from (examine_of disk) disk allowed
-    restart_done h = taken ∙ carried_done (restart_plan (examine_of disk)) allowed disk (omega (arith, clearing_length (examine_of disk).result.end))
+    restart_done h = let r = (examine_of disk).result in taken ∙ carried_done (restart_plan (examine_of disk)) allowed disk (omega (arith, clearing_length r.area r.end))
 
 -- ---- the stop told
 
-pub stop_found_lem : (disk : List ℕ) (end : ℕ) → end ≡ (examine_of disk).result.end → stop_of (log_from end disk) ≡ stop_found disk
+pub stop_found_lem : (disk : List ℕ) (area end : ℕ) → area ≡ (examine_of disk).result.area → end ≡ (examine_of disk).result.end
+    → stop_of (log_from area end disk) ≡ stop_found disk
 unfolding stop_found
-stop_found_lem disk end e = ap (λ (n : ℕ). stop_of (log_from n disk)) e
+stop_found_lem disk area end a e = ap₂ (λ (k n : ℕ). stop_of (log_from k n disk)) a e
 
 pub stopped_by_lem : (disk memory tail : List ℕ) (allowed : ℕ) {o : DiskOutcome} → restart_of disk memory tail allowed ≡ o
     → stopped_of disk memory tail allowed ≡ told_stop o.result.says (stop_found disk)
@@ -89,7 +98,7 @@ refused_not n e = cc
 
 -- the buffers then had their lengths, no number refused, and the stores were enough
 pub record DoneWith (disk memory tail : List ℕ) (allowed : ℕ) : Type 0 where
-  pub disk_length : length disk ≡ 33691
+  pub disk_length : disk_ok (length disk) ≡ true
   pub memory_length : length memory ≡ 4096
   pub tail_length_lem : length tail ≡ 16384
   pub number : (examine_of disk).result.number ≡ 0
@@ -100,7 +109,7 @@ module _ (disk memory tail : List ℕ) (allowed : ℕ) where
   m = examine_of disk
 
   abbrev n : ℕ
-  n = length (clearing m.result.end)
+  n = length (clearing m.result.area m.result.end)
 
   abbrev chosen : Bool → Bool → Bool → Bool → Bool → DiskOutcome
   chosen x y z b w =
@@ -110,17 +119,17 @@ module _ (disk memory tail : List ℕ) (allowed : ℕ) where
   pub done_inv : Done? (restart_of disk memory tail allowed) → DoneWith disk memory tail allowed
   unfolding restart_of carried_out
   done_inv =
-      go (eqb (length disk) 33691) (eqb (length memory) 4096) (eqb (length tail) 16384) (eqb m.result.number 0) (ltb allowed n) refl refl refl refl refl
+      go (disk_ok (length disk)) (eqb (length memory) 4096) (eqb (length tail) 16384) (eqb m.result.number 0) (ltb allowed n) refl refl refl refl refl
     where
-      go : (x y z b w : Bool) → eqb (length disk) 33691 ≡ x → eqb (length memory) 4096 ≡ y → eqb (length tail) 16384 ≡ z → eqb m.result.number 0 ≡ b
+      go : (x y z b w : Bool) → disk_ok (length disk) ≡ x → eqb (length memory) 4096 ≡ y → eqb (length tail) 16384 ≡ z → eqb m.result.number 0 ≡ b
           → ltb allowed n ≡ w
           → Done? (chosen x y z b w) → DoneWith disk memory tail allowed
       go true true true true false p q r s t e = record {
-        disk_length = eqb-true (length disk) 33691 p;
+        disk_length = p;
         memory_length = eqb-true (length memory) 4096 q;
         tail_length_lem = eqb-true (length tail) 16384 r;
         number = eqb-true m.result.number 0 s;
-        enough = omega (arith, ltb-false allowed n t, clearing_length m.result.end);
+        enough = omega (arith, ltb-false allowed n t, clearing_length m.result.area m.result.end);
       }
       go true true true true true p q r s t e = clash (cc)
       go true true true false w p q r s t e = clash (refused_not m.result.number e)

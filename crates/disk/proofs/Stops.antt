@@ -3,10 +3,11 @@
 use Prim.Native.Nat.{ℕ, ◌+◌, ◌-◌}
 use native.Mathlib.Omega.{arith}
 use mathlib.Core.List.{List, ◌++◌}
-use mathlib.Core.Path.{◌≡◌, sym, ap, ap₂, ◌∙◌}
+use mathlib.Core.Path.{◌≡◌, refl, sym, ap, ap₂, ◌∙◌}
 use lib.ListN.{length, take, drop, replicate, length-drop}
 use lib.Seq.{drop_at, length-take-le}
-use Rattle.layout.specs.Parts.{log_part}
+use Rattle.layout.specs.Parts.{HasForm, log_at, log_part}
+use Rattle.layout.proofs.Forms.{disk_ok_lem}
 use Rattle.recovery.specs.Group.{groups_size}
 use Rattle.redolog.specs.declared.stop.Stop.{Stop}
 use Rattle.redolog.specs.declared.stop.Stop.TheVariants.{Full, Zero, Torn}
@@ -23,33 +24,39 @@ use Rattle.disk.specs.declared.call.Stopped.TheVariants.{Untold, At}
 use Rattle.disk.specs.Layout.{log_from}
 use Rattle.disk.specs.Examine.{Meaning, examine_of}
 use Rattle.disk.specs.Restart.{clearing, restart_of, stop_found, told_stop, stopped_of}
-use Rattle.disk.proofs.Opened.{log_length, opened_log}
+use Rattle.disk.proofs.Opened.{log_length}
 use Rattle.disk.proofs.Examining.{roomy}
 use Rattle.disk.proofs.Accepted.{image_in, log_in, Accepted, accepted_is}
 use Rattle.disk.proofs.Restarting.{stop_found_lem, Done?, DoneWith, done_inv, done_with}
-use Rattle.disk.proofs.Again.{groups_size_lem, cleared, means_again}
+use Rattle.disk.proofs.Again.{groups_size_lem, inside, log_on, cleared, means_again}
 
 -- the log that step 1 hands on, read after the image's commit number
-pub stop_read : (disk : List ℕ) → length disk ≡ 33691 → Accepted disk → stop_found disk ≡ log_stop (image_in disk).ondisk.0 (log_in disk)
+pub stop_read : (disk : List ℕ) → HasForm disk → Accepted disk → stop_found disk ≡ log_stop (image_in disk).ondisk.0 (log_in disk)
 stop_read disk d a =
     let i = (image_in disk).logend in
     let csn = (image_in disk).ondisk.0 in
-    let log : log_in disk ≡ drop i (log_part disk) = opened_log disk a.opened in
-    let at = log_stop_at csn i (log_part disk) in
+    let area = (examine_of disk).result.area in
+    let log = log_on disk d a in
+    let at = log_stop_at csn i (log_part area disk) in
     let size = ap (λ (s : List ℕ). i + groups_size (read_log csn s)) (sym log) ∙ groups_size_lem disk d a in
-    sym (ap (log_stop csn) log ∙ at ∙ stop_found_lem disk _ size)
+    sym (ap (log_stop csn) log ∙ at ∙ stop_found_lem disk area _ refl size)
 
-module _ (disk : List ℕ) (d : length disk ≡ 33691) where
-  left : length (log_from (examine_of disk).result.end disk) ≡ 16384 - (examine_of disk).result.end
-  left = length-drop (examine_of disk).result.end (log_part disk) ∙ ap (λ (n : ℕ). n - (examine_of disk).result.end) (log_length disk d)
+module _ (disk : List ℕ) (d : HasForm disk) (a : Accepted disk) where
+  abbrev area : ℕ
+  area = (examine_of disk).result.area
+
+  left : length (log_from area (examine_of disk).result.end disk) ≡ 16384 - (examine_of disk).result.end
+  left =
+      length-drop (examine_of disk).result.end (log_part area disk)
+      ∙ ap (λ (n : ℕ). n - (examine_of disk).result.end) (log_length area disk (inside disk d a))
 
   pub full_at_end : stop_found disk ≡ Full → (examine_of disk).result.end ≡ 16384
   unfolding stop_found
-  full_at_end e = omega (arith, full_empty (log_from (examine_of disk).result.end disk) e, left, roomy disk)
+  full_at_end e = omega (arith, full_empty (log_from area (examine_of disk).result.end disk) e, left, roomy disk)
 
   pub end_full : (examine_of disk).result.end ≡ 16384 → stop_found disk ≡ Full
   unfolding stop_found
-  end_full e = stop_full (log_from (examine_of disk).result.end disk) (omega (arith, left, e))
+  end_full e = stop_full (log_from area (examine_of disk).result.end disk) (omega (arith, left, e))
 
 -- ---- after a restart that is done
 
@@ -67,18 +74,23 @@ left_zeros : (disk memory tail : List ℕ) (n : ℕ) → DoneWith disk memory ta
     → stop_found (restart_of disk memory tail n).disk ≡ stop_of (replicate (16384 - (examine_of disk).result.end) 0)
 left_zeros disk memory tail n w =
     let end = (examine_of disk).result.end in
-    let d = w.disk_length in
-    let cleared-disk = apply (take n (clearing end)) disk in
+    let area = (examine_of disk).result.area in
+    let d = disk_ok_lem (length disk) w.disk_length in
+    let a = accepted_is disk w.number in
+    let room = inside disk d a in
+    let cleared-disk = apply (take n (clearing area end)) disk in
     let is : (restart_of disk memory tail n).disk ≡ cleared-disk = ap (λ (o : DiskOutcome). o.disk) (done_with disk memory tail n w) in
-    let same = ap (λ (m : Meaning). m.result.end) (means_again disk d (accepted_is disk w.number) n) in
+    let same = means_again disk d a n in
     let front-size : end + (16384 - end - n) ≡ end = omega (arith, w.enough) in
     let zeros : 16384 - end - (16384 - end - n) ≡ 16384 - end = omega (arith, w.enough) in
-    let room = roomy disk in
-    let front : length (take end (log_part disk)) ≡ end = length-take-le end (log_part disk) (omega (arith, log_length disk d)) in
-    let log : log_part cleared-disk ≡ take end (log_part disk) ++ replicate (16384 - end) 0 =
-    cleared n end disk d (omega arith) ∙ ap₂ (λ (a b : ℕ). take a (log_part disk) ++ replicate b 0) front-size zeros in
-    ap stop_found is ∙ sym (stop_found_lem cleared-disk end (sym same)) ∙ ap (λ (s : List ℕ). stop_of (drop end s)) log
-    ∙ ap stop_of (drop_at (take end (log_part disk)) (replicate (16384 - end) 0) end front)
+    let most = roomy disk in
+    let front : length (take end (log_part area disk)) ≡ end = length-take-le end (log_part area disk) (omega (arith, log_length area disk room, most)) in
+    let log : log_part area cleared-disk ≡ take end (log_part area disk) ++ replicate (16384 - end) 0 =
+    cleared n area end disk room (omega (arith, most)) ∙ ap₂ (λ (a b : ℕ). take a (log_part area disk) ++ replicate b 0) front-size zeros in
+    ap stop_found is
+    ∙ sym (stop_found_lem cleared-disk area end (sym (ap (λ (m : Meaning). m.result.area) same)) (sym (ap (λ (m : Meaning). m.result.end) same)))
+    ∙ ap (λ (s : List ℕ). stop_of (drop end s)) log
+    ∙ ap stop_of (drop_at (take end (log_part area disk)) (replicate (16384 - end) 0) end front)
 
 -- a restart again, with whatever memory, tail and stores, tells full or zero
 pub again_not_torn : (disk memory tail memory' tail' : List ℕ) (n k : ℕ) → Done? (restart_of disk memory tail n)

@@ -15,7 +15,7 @@ pub record Meaning : Type 0 where
 unfoldable pub refused_by : ℕ → Meaning
 refused_by n =
     record {
-      result = record { number = n; end = 0; csn = record { 0 = 0 }; last = record { 0 = 0 }; undone = 0; found = replicate max_txs 0 };
+      result = record { number = n; area = 0; end = 0; csn = record { 0 = 0 }; last = record { 0 = 0 }; undone = 0; found = replicate max_txs 0 };
       memory = replicate memory_len 0;
       tail = replicate tail_len 0;
     }
@@ -24,13 +24,14 @@ refused_by n =
 unfoldable pub steps_of : OpenedDisk → AfterSteps
 steps_of o = recover_of o.image o.log o.memory (replicate tail_len 0)
 
--- the end is counted from the log's first byte
-abbrev pub meant : ℕ → AfterSteps → Meaning
-meant logend o =
+-- the end is counted from the first byte of the area in force
+abbrev pub meant : ℕ → ℕ → AfterSteps → Meaning
+meant area logend o =
     record {
       result =
           record {
             number = 0;
+            area = area;
             end = logend + o.answer.end;
             csn = o.answer.csn;
             last = o.answer.last;
@@ -42,11 +43,11 @@ meant logend o =
     }
 
 -- "5. Restart: end found + 4 × transactions undone in step 4 exceeds 16,384."
-abbrev pub if_fits : ℕ → AfterSteps → Meaning
-if_fits logend o = cond (ltb log_len (logend + o.answer.end + abort_len * o.answer.undone)) (refused_by 5) (meant logend o)
+abbrev pub if_fits : ℕ → ℕ → AfterSteps → Meaning
+if_fits area logend o = cond (ltb log_len (logend + o.answer.end + abort_len * o.answer.undone)) (refused_by 5) (meant area logend o)
 
 abbrev pub of_opened : OpenedDisk → Meaning
-of_opened o = cond (eqb o.number 0) (if_fits o.image.logend (steps_of o)) (refused_by o.number)
+of_opened o = cond (eqb o.number 0) (if_fits o.area o.image.logend (steps_of o)) (refused_by o.number)
 
 unfoldable pub examine_of : List ℕ → Meaning
 examine_of disk = of_opened (open_of disk)

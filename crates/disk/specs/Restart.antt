@@ -1,6 +1,7 @@
 -- Restart with so many stores allowed.
 use Rattle.std.specs.Prelude.{ℕ, ◌+◌, ◌-◌, true, cond, List, replicate, eqb}
-use Rattle.layout.specs.{log_start, log_len, max_txs}
+use Rattle.layout.specs.{log_len, max_txs}
+use Rattle.layout.specs.Parts.{log_at}
 use Rattle.redolog.specs.declared.TxId.{TxId}
 use Rattle.redolog.specs.declared.Csn.{Csn}
 use Rattle.redolog.specs.declared.stop.Stop.{Stop}
@@ -18,12 +19,12 @@ use Rattle.disk.specs.Layout.{log_from, lengths_ok}
 use Rattle.disk.specs.Examine.{Meaning, examine_of}
 
 -- Step 5: "Both commit numbers = the last found; log end = the end found." Step 6: "No transaction is left."
-unfoldable pub recovered_state : ℕ → Csn → TxId → State
-recovered_state end csn last = record { recovered = true; logend = end; ondisk = csn; assigned = csn; lastid = last; count = 0; txs = replicate max_txs empty_tx }
+unfoldable pub recovered_state : ℕ → ℕ → Csn → TxId → State
+recovered_state area end csn last = record { recovered = true; logend = end; ondisk = csn; assigned = csn; lastid = last; count = 0; area = area; txs = replicate max_txs empty_tx }
 
--- Step 6: "Store zero at every log place from 33,690 down to the log's end."
-abbrev pub clearing : ℕ → List Store
-clearing end = clears (log_start + end) (log_len - end)
+-- Step 6: "Store zero at every log place from 33,690 down to the log's end." "Restart clears the area in force alone" (document 02, A.9).
+abbrev pub clearing : ℕ → ℕ → List Store
+clearing area end = clears (log_at area + end) (log_len - end)
 
 -- what restart tells: its value is the count of transactions undone
 abbrev pub of_restarted : Restarted → Told
@@ -32,9 +33,9 @@ of_restarted r = tells (word r.answer) r.undone r.stores r.state
 abbrev pub restart_plan : Meaning → Plan
 restart_plan m =
     record {
-      stores = clearing m.result.end;
+      stores = clearing m.result.area m.result.end;
       value = m.result.undone;
-      state = recovered_state m.result.end m.result.csn m.result.last;
+      state = recovered_state m.result.area m.result.end m.result.csn m.result.last;
       memory = m.memory;
       tail = m.tail;
     }
@@ -58,7 +59,7 @@ restart_of disk memory tail allowed = cond (lengths_ok disk memory tail) (of_mea
 
 -- as it was before step 6: by what is left of the log from the end found on
 unfoldable pub stop_found : List ℕ → Stop
-stop_found disk = stop_of (log_from (examine_of disk).result.end disk)
+stop_found disk = stop_of (log_from (examine_of disk).result.area (examine_of disk).result.end disk)
 
 -- "a restart that is done" carries it up
 abbrev pub told_stop : Word → Stop → Stopped

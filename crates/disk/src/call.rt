@@ -6,7 +6,8 @@ ghost use Rattle.disk.specs.declared.call.Stopped.TheVariants.{Untold};
 ghost use Rattle.disk.specs.Restart.{recovered_state, of_restarted, refused_restart, restart_of, stopped_of};
 
 use crate::examine::examine;
-use layout::{DISK_LEN, LOG_LEN, LOG_START, MAX_TXS, MEMORY_LEN, TAIL_LEN};
+use layout::geometry::{disk_ok, log_at};
+use layout::{LOG_LEN, MAX_TXS, MEMORY_LEN, TAIL_LEN};
 use redolog::stop::{Stop, stop_at};
 use redolog::stores::clear_down;
 use redolog::{Csn, TxId};
@@ -32,8 +33,8 @@ pub struct Restarted {
 }
 
 // Step 5's state. "No transaction is left."
-fn recovered(end: u16, csn: Csn, last: TxId) -> State
-    ensures { result ≡ recovered_state end csn last }
+fn recovered(area: u8, end: u16, csn: Csn, last: TxId) -> State
+    ensures { result ≡ recovered_state area end csn last }
 {
     let none = Tx::empty();
     State {
@@ -43,6 +44,7 @@ fn recovered(end: u16, csn: Csn, last: TxId) -> State
         assigned: csn,
         lastid: last,
         count: 0,
+        area: area,
         txs: [none; MAX_TXS],
     }
 }
@@ -89,7 +91,7 @@ pub fn restart(disk: &mut [u8], memory: &mut [u8], tail: &mut [u8], allowed: usi
     ensures tail_after { tail.new ≡ (restart_of disk.old memory.old tail.old allowed).tail }
     ensures stop_value { result.stop ≡ stopped_of disk.old memory.old tail.old allowed }
 {
-    if disk.len() != DISK_LEN {
+    if !disk_ok(disk.len()) {
         return refused(1);
     }
     if memory.len() != MEMORY_LEN {
@@ -103,7 +105,9 @@ pub fn restart(disk: &mut [u8], memory: &mut [u8], tail: &mut [u8], allowed: usi
         return refused(found.number);
     }
     let end = found.end;
-    let cleared = clear_log(&mut disk[LOG_START..LOG_START + LOG_LEN], end, allowed);
+    let area = found.area;
+    let log = log_at(area);
+    let cleared = clear_log(&mut disk[log..log + LOG_LEN], end, allowed);
     let made = cleared.made;
     let stop = cleared.stop;
     if made < LOG_LEN - end {
@@ -119,7 +123,7 @@ pub fn restart(disk: &mut [u8], memory: &mut [u8], tail: &mut [u8], allowed: usi
     }
     let csn = found.csn;
     let last = found.last;
-    let state = recovered(end as u16, csn, last);
+    let state = recovered(area, end as u16, csn, last);
     Restarted {
         answer: Answer::Done,
         undone: found.undone,

@@ -3,7 +3,8 @@ ghost use Rattle.std.specs.Prelude.{◌≡◌, length};
 ghost use Rattle.disk.specs.Equal.{same_bytes, equal_of};
 
 use crate::examine::judge;
-use layout::{DISK_LEN, MEMORY_LEN};
+use layout::MEMORY_LEN;
+use layout::geometry::disk_ok;
 
 // An or over all differences instead of a stop at the first: it runs in wide registers.
 fn same(a: &[u8], b: &[u8]) -> bool
@@ -22,10 +23,10 @@ fn same(a: &[u8], b: &[u8]) -> bool
 pub fn equal(a: &[u8], b: &[u8]) -> bool
     ensures { result ≡ equal_of a.now b.now }
 {
-    if a.len() != DISK_LEN {
+    if !disk_ok(a.len()) {
         return false;
     }
-    if b.len() != DISK_LEN {
+    if !disk_ok(b.len()) {
         return false;
     }
     let mut memory = [0u8; MEMORY_LEN];

@@ -1,6 +1,7 @@
 // What a disk means: restart's steps 1 to 5. Nothing is stored.
 ghost use Rattle.std.specs.Prelude.{◌≡◌, length};
-ghost use Rattle.layout.specs.{memory_len, tail_len, disk_len};
+ghost use Rattle.layout.specs.{memory_len, tail_len};
+ghost use Rattle.layout.specs.Parts.{HasForm};
 ghost use Rattle.disk.specs.Examine.{refused_by, examine_of};
 ghost use Rattle.disk.specs.Heads.{JudgedAs};
 
@@ -11,11 +12,12 @@ use redolog::{Csn, TxId};
 use restart::recover;
 use restart::undo::put_aborts;
 
-// The number that refuses, 0 for none. If none: the log's end counted from its first byte, the last commit number and the last id, how many
+// The number that refuses, 0 for none. If none: the area in force, the log's end counted from its first byte, the last commit number and the last id, how many
 // transactions step 4 undid, and what was found of each of the image's.
 #[derive(Drop)]
 pub struct Examined {
     pub number: u8,
+    pub area: u8,
     pub end: usize,
     pub csn: Csn,
     pub last: TxId,
@@ -36,6 +38,7 @@ fn refuse(number: u8) -> Judged
     let none = TxId(0);
     let found = Examined {
         number: number,
+        area: 0,
         end: 0,
         csn: Csn(0),
         last: TxId(0),
@@ -50,7 +53,7 @@ fn refuse(number: u8) -> Judged
 
 // All but the tail. What memory held doesn't matter.
 pub fn judge(disk: &[u8], memory: &mut [u8]) -> Judged
-    requires { (length disk.now ≡ disk_len) × (length memory.old ≡ memory_len) }
+    requires { HasForm disk.now × (length memory.old ≡ memory_len) }
     ensures judged_as { JudgedAs result (examine_of disk.now) }
     ensures memory_after { memory.new ≡ (examine_of disk.now).memory }
 {
@@ -59,6 +62,7 @@ pub fn judge(disk: &[u8], memory: &mut [u8]) -> Judged
     if number != 0 {
         return refuse(number);
     }
+    let area = opened.area;
     let heads = opened.heads;
     let logend = heads.logend as usize;
     let image = opened.image;
@@ -81,6 +85,7 @@ pub fn judge(disk: &[u8], memory: &mut [u8]) -> Judged
     let codes = found.found;
     let answer = Examined {
         number: 0,
+        area: area,
         end: end,
         csn: csn,
         last: last,
@@ -96,7 +101,7 @@ pub fn judge(disk: &[u8], memory: &mut [u8]) -> Judged
 
 // The three buffers have their lengths; what memory and tail held doesn't matter.
 pub(crate) fn examine(disk: &[u8], memory: &mut [u8], tail: &mut [u8]) -> Examined
-    requires { (length disk.now ≡ disk_len) × (length memory.old ≡ memory_len) × (length tail.old ≡ tail_len) }
+    requires { HasForm disk.now × (length memory.old ≡ memory_len) × (length tail.old ≡ tail_len) }
     ensures value { result ≡ (examine_of disk.now).result }
     ensures memory_after { memory.new ≡ (examine_of disk.now).memory }
     ensures tail_after { tail.new ≡ (examine_of disk.now).tail }

@@ -3,12 +3,13 @@ use Prim.Native.Nat.{ℕ}
 use mathlib.Core.Bool.{Bool, true, false, cond}
 use mathlib.Core.List.{List, [], ◌∷◌}
 use mathlib.Core.Path.{refl}
-use lib.ListN.{length-replicate}
+use lib.ListN.{replicate, length-replicate}
 use lib.Dec.{eqb}
 use Rattle.redolog.specs.declared.TxId.{TxId}
 use Rattle.redolog.specs.declared.Csn.{Csn}
 use Rattle.transaction.specs.declared.Tx.{Tx}
 use Rattle.transaction.specs.Flat.{empty_tx}
+use Rattle.store.specs.Apart.{ReadsApart}
 use Rattle.store.specs.Stored.{carried_out}
 use Rattle.store.proofs.Apart.{Holding, none_holds, unrecovered_holds, carried_holds, begin_holds, write_holds, answer_holds, savepoint_holds, go_back_holds, precommit_holds, abort_holds}
 use Rattle.store.proofs.Apart.{settle_holds, flush_holds, checkpoint_holds}
@@ -16,20 +17,21 @@ use Rattle.disk.specs.Layout.{lengths_ok}
 use Rattle.disk.specs.Examine.{Meaning, examine_of}
 use Rattle.disk.specs.Restart.{recovered_state, restart_plan, refused_with, of_meaning, restart_of}
 use Rattle.history.specs.Calls.{Call, begin, write, read, read_answer, savepoint, go_back, precommit, abort, flush, settle, checkpoint, restart, World, step_of}
-use Rattle.history.specs.Demand.{Happening, called, power_fails, Watched, happen, happen_all, opening}
+use Rattle.history.specs.Demand.{Happening, called, power_fails, Watched, happen, happen_all}
 use Rattle.history.specs.Apart.{ReadersHold}
+use Rattle.history.proofs.Openings.{opened_on}
 
 -- ---- a restart leaves no transaction
 
-recovered_holds : (end : ℕ) (csn : Csn) (last : TxId) → Holding (recovered_state end csn last)
+recovered_holds : (area end : ℕ) (csn : Csn) (last : TxId) → Holding (recovered_state area end csn last)
 unfolding recovered_state
-recovered_holds end csn last = none_holds (recovered_state end csn last) (length-replicate {A = Tx} 8 empty_tx) refl
+recovered_holds area end csn last = none_holds (recovered_state area end csn last) (length-replicate {A = Tx} 8 empty_tx) refl
 
 meaning_holds : (m : Meaning) (disk : List ℕ) (allowed : ℕ) → Holding (of_meaning m disk allowed).result.state
 meaning_holds m disk allowed = go (eqb m.result.number 0)
   where
     go : (b : Bool) → Holding (cond b (carried_out (restart_plan m) allowed disk) (refused_with m.result.number disk m.memory m.tail)).result.state
-    go true = carried_holds (restart_plan m) allowed disk (recovered_holds m.result.end m.result.csn m.result.last)
+    go true = carried_holds (restart_plan m) allowed disk (recovered_holds m.result.area m.result.end m.result.csn m.result.last)
     go false = unrecovered_holds
 
 restart_holds : (disk memory tail : List ℕ) (allowed : ℕ) → Holding (restart_of disk memory tail allowed).result.state
@@ -65,5 +67,9 @@ pub all_hold : (hs : List Happening) (k : Watched) → Holding k.world.state →
 all_hold [] k h = h
 all_hold (x ∷ hs) k h = all_hold hs (happen x k) (happen_holds x k h)
 
+-- from any disk, and so from an all-zero one
+pub readers_hold_from : (start disk memory tail : List ℕ) (hs : List Happening) → ReadsApart (happen_all hs (opened_on start disk memory tail)).world.state
+readers_hold_from start disk memory tail hs = (all_hold hs (opened_on start disk memory tail) unrecovered_holds).apart
+
 pub readers_hold : ReadersHold
-readers_hold memory tail hs = (all_hold hs (opening memory tail) unrecovered_holds).apart
+readers_hold memory tail hs = readers_hold_from (replicate 4096 0) (replicate 33691 0) memory tail hs

@@ -5,6 +5,7 @@ use mathlib.Core.Option.{Option, none, some}
 use mathlib.Core.Path.{◌≡◌, refl, ap, ap₂, ◌∙◌}
 use native.Mathlib.Omega.{arith}
 use lib.ListN.{replicate, length-replicate}
+use Rattle.layout.specs.Parts.{disk_ok}
 use Rattle.recovery.specs.Restart.{undo_order}
 use Rattle.redolog.specs.Record.{read_record, read_redo, read_commit, read_abort}
 use Rattle.redolog.specs.Reader.{run, whole as all}
@@ -24,7 +25,7 @@ use Rattle.store.specs.State.{unrecovered}
 use Rattle.store.specs.Rules.{unfit}
 use Rattle.store.specs.Stored.{carried_out}
 use Rattle.store.specs.Steps.{begun_state, written_state, read_state, savepoint_state, went_back_state, precommitted_state, without, dropped_state}
-use Rattle.disk.specs.Open.{load_of, not_opened, open_of}
+use Rattle.disk.specs.Open.{load_of, area_named, not_opened, open_by, open_of}
 use Rattle.disk.specs.Examine.{refused_by, steps_of, examine_of}
 use Rattle.disk.specs.Restart.{recovered_state, restart_of, stop_found, stopped_of}
 use Rattle.text.specs.{decimal}
@@ -48,14 +49,14 @@ quick_shown r = quick_showing r.look (quick_run r.calls start)
 computed : map quick_shown rows ≡ map (λ r. some r.expected) rows
 unfolding undo_order read_record read_redo read_commit read_abort run all read_body group_with read_log_with read_log empty_records empty_tx head_ok savepoints_ok state_ok held_against pushed fresh_tx
     written with_read precommitted loaded packed_txs packed empty_image undo_here read_tx read_content memory_of past forward_of is_running is_lost running_of lost_of
-    recover_of unrecovered unfit begun_state written_state read_state precommitted_state without dropped_state load_of not_opened open_of refused_by steps_of examine_of recovered_state
+    recover_of unrecovered unfit begun_state written_state read_state precommitted_state without dropped_state load_of area_named not_opened open_by open_of disk_ok refused_by steps_of examine_of recovered_state
     restart_of carried_out stop_of stop_found stopped_of decimal line found_text stop_line listing_of
 computed = refl
 
 savepoints_computed : map quick_shown savepoint_rows ≡ map (λ r. some r.expected) savepoint_rows
 unfolding undo_order read_record read_redo read_commit read_abort run all read_body group_with read_log_with read_log empty_records empty_tx head_ok savepoints_ok state_ok held_against name_refused
     pushed fresh_tx written with_read savepointed gone_back precommitted loaded packed_txs packed empty_image undo_here read_tx read_content memory_of past forward_of is_running
-    is_lost running_of lost_of recover_of unrecovered unfit begun_state written_state read_state savepoint_state went_back_state precommitted_state without dropped_state load_of open_of
+    is_lost running_of lost_of recover_of unrecovered unfit begun_state written_state read_state savepoint_state went_back_state precommitted_state without dropped_state load_of area_named open_by open_of disk_ok
     steps_of examine_of recovered_state restart_of carried_out
 savepoints_computed = refl
 

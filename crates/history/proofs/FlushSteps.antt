@@ -1,4 +1,4 @@
--- Flush: refused, or a step of `recovery`'s machine, done or cut.
+-- Flush: of a state beside its disk it isn't refused, and a step of `recovery`'s machine, done or cut.
 use Prim.Native.Nat.{ℕ, ◌+◌, ◌-◌, ◌≤◌, ◌<◌}
 use native.Mathlib.Decide.{dec_le}
 use native.Mathlib.Omega.{arith}
@@ -7,8 +7,8 @@ use mathlib.Core.List.{List, ◌++◌, append_assoc}
 use mathlib.Core.Path.{◌≡◌, refl, sym, ap, ap₂, ◌∙◌, subst}
 use lib.ListN.{length, take, drop, replicate, length-take, length-append, take-append-drop}
 use lib.Seq.{sets, sets-eq, length-take-le, take_all, take_at, drop_at, drop-drop}
+use Rattle.layout.specs.Parts.{log_at}
 use Rattle.recovery.specs.Group.{Group, groups_size, last_csn, fitting}
-use Rattle.recovery.specs.Ledger as ledger
 use Rattle.recovery.specs.Machine.{Disk, standing_in, number_before, Live, down, up, flushes, flush_is_cut, storing, after_flush}
 use Rattle.recovery.proofs.Groups.{groups_size_append, fitting_all}
 use Rattle.recovery.proofs.Log.{stored_before, stored_stands, stored_number}
@@ -25,15 +25,15 @@ use Rattle.store.specs.declared.State.{State}
 use Rattle.store.specs.Flush.{first_groups, first_size, flushed_state, flushed_tail, flush_stores, flush_plan, flush_of}
 use Rattle.store.specs.View.{live}
 use Rattle.store.proofs.Fits.{Fit, fit, unfit_no}
-use Rattle.store.proofs.Storing.{disk_number, stored_cut, stored_done}
+use Rattle.store.proofs.Storing.{stored_cut, stored_done}
 use Rattle.store.proofs.Flushing.{flush_length, flush_room, flush_tail, flush_keeps}
-use Rattle.store.proofs.Stepping.{same_or_other}
 use Rattle.disk.specs.Layout.{log_from}
-use Rattle.disk.proofs.Opened.{log_length, OpenAlike, log_stores_alike}
+use Rattle.disk.proofs.Opened.{opened_area, OpenAlike, log_stores_alike}
+use Rattle.disk.proofs.Accepted.{area_in}
 use Rattle.history.specs.Calls.{flush, stored, World, step_of}
 use Rattle.history.proofs.Padded.{padded, padded_front, padded_shifted}
-use Rattle.history.proofs.OnDisk.{Start, opens, whole_log, groups_from, OnDisk, same_opened}
-use Rattle.history.proofs.Shows.{Neat, LiveOn, awake, rests, cut_rests, FollowsBy, refused_follows, flush_refuses}
+use Rattle.history.proofs.OnDisk.{Start, opens, whole_log, OnDisk, same_opened, whole_length}
+use Rattle.history.proofs.Shows.{Neat, LiveOn, awake, rests, cut_rests, FollowsBy, ready}
 
 module _ {from : Start} (w : World) (d : Disk) (l : Live) (o : OnDisk from w.disk d) (v : LiveOn w d l)
     (number : last_csn (number_before (opens from) d) (standing_in d) ≡ w.state.ondisk.0)
@@ -90,6 +90,13 @@ module _ {from : Start} (w : World) (d : Disk) (l : Live) (o : OnDisk from w.dis
 
   -- ---- what n stores leave
 
+  -- into the area in force
+  abbrev area : ℕ
+  area = area_in w.disk
+
+  stores_are : flush_stores s t k ≡ copies (log_at area + s.logend) (take size t)
+  stores_are = ap (λ (a : ℕ). copies (log_at a + s.logend) (take size t)) v.area
+
   module _ (n : ℕ) where
     abbrev left : List ℕ
     left = apply (take n (flush_stores s t k)) w.disk
@@ -103,24 +110,28 @@ module _ {from : Start} (w : World) (d : Disk) (l : Live) (o : OnDisk from w.dis
     new_length : length new ≤ size
     new_length = omega (arith, length-take n (encode_log firsts), length_log firsts)
 
-    left_is : whole_log left ≡ sets log s.logend new
-    left_is = part_copied 17307 16384 n s.logend (take size t) w.disk ∙ ap (λ (x : List ℕ). sets log s.logend (take n x)) bytes
+    -- the log after
+    abbrev after : List ℕ
+    after = log_from area 0 left
 
-    left_length : length left ≡ 33691
-    left_length = length_apply (take n (flush_stores s t k)) w.disk ∙ o.long
+    left_is : after ≡ sets log s.logend new
+    left_is =
+        ap (λ (ss : List Store). log_from area 0 (apply (take n ss) w.disk)) stores_are
+        ∙ part_copied (log_at area) 16384 n s.logend (take size t) w.disk
+        ∙ ap (λ (x : List ℕ). sets log s.logend (take n x)) bytes
 
     -- in three parts
-    parts : whole_log left ≡ take s.logend log ++ (new ++ drop (s.logend + length new) log)
+    parts : after ≡ take s.logend log ++ (new ++ drop (s.logend + length new) log)
     parts =
-        let l = log_length w.disk o.long in
+        let l = whole_length w.disk d o in
         left_is ∙ sets-eq new log s.logend (omega (arith, l, new_length, room))
         ∙ append_assoc (take s.logend log) new (drop (s.logend + length new) log)
 
     front_length : length (take s.logend log) ≡ s.logend
-    front_length = let l = log_length w.disk o.long in length-take-le s.logend log (omega (arith, l, room))
+    front_length = let l = whole_length w.disk d o in length-take-le s.logend log (omega (arith, l, room))
 
     -- what stands from the log's old end on
-    behind : log_from s.logend left ≡ new ++ replicate (16384 - s.logend - length new) 0
+    behind : log_from area s.logend left ≡ new ++ replicate (16384 - s.logend - length new) 0
     behind =
         ap (drop s.logend) parts
         ∙ drop_at (take s.logend log) (new ++ drop (s.logend + length new) log) s.logend front_length
@@ -132,30 +143,30 @@ module _ {from : Start} (w : World) (d : Disk) (l : Live) (o : OnDisk from w.dis
     firsts_formed = formed_first k s.ondisk.0 groups (log_formed s.ondisk.0 groups t refl)
 
     -- the groups that were stored whole are read after those that stood there
-    log_left : groups_from (number_before (opens from) d) left ≡ standing_in d ++ fitting n firsts
+    log_left : read_log (number_before (opens from) d) after ≡ standing_in d ++ fitting n firsts
     log_left =
         let gs = standing_in d in
-        let same : take (groups_size gs) (whole_log left) ≡ take (groups_size gs) log =
-        ap (λ (j : ℕ). take j (whole_log left)) (sym v.end)
+        let same : take (groups_size gs) after ≡ take (groups_size gs) log =
+        ap (λ (j : ℕ). take j after) (sym v.end)
         ∙ ap (take s.logend) parts
         ∙ take_at (take s.logend log) (new ++ drop (s.logend + length new) log) s.logend front_length
         ∙ ap (λ (j : ℕ). take j log) v.end in
-        log_same (number_before (opens from) d) gs log (whole_log left) o.log same
+        log_same (number_before (opens from) d) gs log after o.log same
         ∙ ap (λ (hs : List Group). gs ++ hs)
-        (ap₂ read_log number (ap (λ (j : ℕ). log_from j left) (sym v.end) ∙ behind)
+        (ap₂ read_log number (ap (λ (j : ℕ). log_from area j left) (sym v.end) ∙ behind)
         ∙ log_cut s.ondisk.0 firsts n (16384 - s.logend - length new) firsts_formed)
 
     -- and no whole group stands behind them
-    ended_left : Groupless (log_from (s.logend + groups_size (fitting n firsts)) left)
+    ended_left : Groupless (log_from area (s.logend + groups_size (fitting n firsts)) left)
     ended_left =
         let j = groups_size (fitting n firsts) in
-        subst Groupless (sym (sym (drop-drop j s.logend (whole_log left)) ∙ ap (drop j) behind))
+        subst Groupless (sym (sym (drop-drop j s.logend after) ∙ ap (drop j) behind))
         (cut_ended s.ondisk.0 firsts n (16384 - s.logend - length new) firsts_formed)
 
     left_alike : OpenAlike left w.disk
     left_alike =
-        subst (λ (ss : List Store). OpenAlike (apply (take n ss) w.disk) w.disk) (sym (copies_moved 17307 s.logend (take size t)))
-        (log_stores_alike n (copies s.logend (take size t)) w.disk
+        subst (λ (ss : List Store). OpenAlike (apply (take n ss) w.disk) w.disk) (sym (stores_are ∙ copies_moved (log_at area) s.logend (take size t)))
+        (log_stores_alike area n (copies s.logend (take size t)) w.disk (opened_area w.disk o.opened)
         (within_copies 16384 s.logend (take size t) (omega (arith, length-take size t, room))))
 
     ends : (gs : List Group) → fitting n firsts ≡ gs → s.logend + groups_size (fitting n firsts) ≡ groups_size (standing_in (storing gs d))
@@ -163,22 +174,22 @@ module _ {from : Start} (w : World) (d : Disk) (l : Live) (o : OnDisk from w.dis
 
     shows_left : (gs : List Group) → fitting n firsts ≡ gs → OnDisk from left (storing gs d)
     shows_left gs e =
-        same_opened w.disk left d (storing gs d) o left_length left_alike refl (stored_before gs d)
-        (ap (λ (m : ℕ). groups_from m left) (stored_number (opens from) gs d)
+        same_opened w.disk left d (storing gs d) o (length_apply (take n (flush_stores s t k)) w.disk) left_alike refl refl (stored_before gs d)
+        (ap (λ (m : ℕ). read_log m after) (stored_number (opens from) gs d)
         ∙ log_left
         ∙ ap (λ (hs : List Group). standing_in d ++ hs) e
         ∙ sym (stored_stands gs d))
-        (subst (λ (j : ℕ). Groupless (log_from j left)) (ends gs e) ended_left)
+        (subst (λ (j : ℕ). Groupless (log_from area j left)) (ends gs e) ended_left)
 
   -- ---- the call
 
   firsts_same : firsts ≡ take k l.tail
   firsts_same = ap (take k) tail_same
 
-  cut_follows : (a : ℕ) → disk_number s w.disk w.memory t ≡ 0 → a < size → FollowsBy from (up d l) (flush k a) (step_of (flush k a) w)
+  cut_follows : (a : ℕ) → a < size → FollowsBy from (up d l) (flush k a) (step_of (flush k a) w)
   unfolding step_of flush_of
-  cut_follows a z h =
-      let e = stored_cut s w.disk w.memory t (flush_plan s w.memory t k) a z (omega (arith, flush_length s t k, h)) in
+  cut_follows a h =
+      let e = stored_cut s w.disk w.memory t (flush_plan s w.memory t k) a (ready w d l o v) (omega (arith, flush_length s t k, h)) in
       let few : a < groups_size (take k l.tail) = omega (arith, h, ap groups_size firsts_same) in
       subst (FollowsBy from (up d l) (flush k a)) (sym (ap stored e))
       (record {
@@ -190,18 +201,18 @@ module _ {from : Start} (w : World) (d : Disk) (l : Live) (o : OnDisk from w.dis
         );
       })
 
-  done_follows : (a : ℕ) → disk_number s w.disk w.memory t ≡ 0 → size ≤ a → FollowsBy from (up d l) (flush k a) (step_of (flush k a) w)
+  done_follows : (a : ℕ) → size ≤ a → FollowsBy from (up d l) (flush k a) (step_of (flush k a) w)
   unfolding step_of flush_of
-  done_follows a z h =
-      let e = stored_done s w.disk w.memory t (flush_plan s w.memory t k) a z (omega (arith, flush_length s t k, h)) in
+  done_follows a h =
+      let e = stored_done s w.disk w.memory t (flush_plan s w.memory t k) a (ready w d l o v) (omega (arith, flush_length s t k, h)) in
       let gs = take k l.tail in
       let stored-firsts : fitting a firsts ≡ gs = fitting_all a firsts h ∙ firsts_same in
       let enough : groups_size gs ≤ a = omega (arith, h, ap groups_size firsts_same) in
       let whole : new a ≡ encode_log firsts = take_all a (encode_log firsts) (omega (arith, length_log firsts, h)) in
       let n : length (new a) ≡ size = ap length whole ∙ length_log firsts in
       let rest : 16384 - s.logend - length (new a) ≡ 16384 - (s.logend + size) = omega (arith, n) in
-      let zeros : log_from (s.logend + size) (left a) ≡ replicate (16384 - (s.logend + size)) 0 =
-      sym (drop-drop size s.logend (whole_log (left a)))
+      let zeros : log_from area (s.logend + size) (left a) ≡ replicate (16384 - (s.logend + size)) 0 =
+      sym (drop-drop size s.logend (after a))
       ∙ ap (drop size) (behind a)
       ∙ drop_at (new a) (replicate (16384 - s.logend - length (new a)) 0) size n
       ∙ ap (λ (j : ℕ). replicate j 0) rest in
@@ -226,15 +237,14 @@ module _ {from : Start} (w : World) (d : Disk) (l : Live) (o : OnDisk from w.dis
                   last_id = s.lastid.0;
                 }) (flush_tail s t k)
                 ∙ ap (after_flush k) v.view;
+            area = v.area ∙ sym (left_alike a).area;
             end = omega (arith, ends a gs stored-firsts, ap groups_size stored-firsts, ap groups_size firsts_same);
-            zeros = zeros;
+            zeros =
+                subst (λ (k : ℕ). log_from k (s.logend + size) (left a) ≡ replicate (16384 - (s.logend + size)) 0) (sym (left_alike a).area) zeros;
             neat = neat_after;
           }),
         );
       })
 
   pub flush_follows : (a : ℕ) → FollowsBy from (up d l) (flush k a) (step_of (flush k a) w)
-  flush_follows a =
-      same_or_other (disk_number s w.disk w.memory t) 0
-      (λ z. elim (dec_le size a) [ yes h ↦ done_follows a z h | no h ↦ cut_follows a z (omega (arith, h)) ])
-      (λ h. refused_follows (up d l) w (flush k a) (o, awake v) (flush_refuses w k a h))
+  flush_follows a = elim (dec_le size a) [ yes h ↦ done_follows a h | no h ↦ cut_follows a (omega (arith, h)) ]

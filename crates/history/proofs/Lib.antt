@@ -1,7 +1,13 @@
--- Tails whose zeros are left out (Padded). The table M1 to M10: calls fast enough to be computed (Quick), that they are right (QuickRight,
--- QuickMemory, QuickStores, QuickRestart), and lists of them (QuickRun); the one proof (Cases). Demand 3: what a disk and a world show of
--- `recovery`'s machine (OnDisk, Shows), each call as a step of it (MemorySteps, FlushSteps, CheckpointSteps, RestartSteps), the claim (Theorem). On its lists readers hold
--- (Apart); undo records have what stood, and a return leaves it (OpenRuns, Savepoints).
+-- Demand 3 and what goes with it. What a reader wants:
+-- Theorem: the claim, of a fresh disk (`demand-3`) and of any disk that opens a history (`survives-opened`; Openings: `Opens`); each call is refused or a
+-- step of recovery's machine (`follows`), by MemorySteps, FlushSteps, CheckpointSteps and RestartSteps; each happening keeps a store that shows the machine
+-- (`happens`, `all-happen`).
+-- OnDisk, Shows: what a disk and a world show of the machine (`accepts`, `memory-shown`, `tail-shown`).
+-- Theorem also: the log of the area in force is what stands in the machine's (`log-shown`); in form one also as found (`OldLog`).
+-- Ready: from a restart that is not cut until a call is cut or the power fails, no flush and no checkpoint is refused (`stays-ready`).
+-- Apart: readers hold (`readers-hold`). Savepoints, over OpenRuns: undo records and returns (`undo-recorded`, `returns-as-before`).
+-- Cases: the one proof over the table M1 to M10 (`worked`), computed the quick way, which is right (Quick and its like, QuickRun: `right-run`). Padded: tails
+-- whose zeros are left out.
 pub mod Padded
 pub mod Quick
 pub mod QuickRight
@@ -11,12 +17,14 @@ pub mod QuickRestart
 pub mod QuickRun
 pub mod Cases
 pub mod OnDisk
+pub mod Openings
 pub mod Shows
 pub mod MemorySteps
 pub mod FlushSteps
 pub mod CheckpointSteps
 pub mod RestartSteps
 pub mod Theorem
+pub mod Ready
 pub mod Apart
 pub mod OpenRuns
 pub mod Savepoints

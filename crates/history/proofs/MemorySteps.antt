@@ -37,42 +37,45 @@ use Rattle.store.proofs.Views.{abort_live, settle_live}
 use Rattle.store.proofs.Premises.{free_view, room_view}
 use Rattle.store.proofs.Keeping.{Kept, begin_keeps, write_keeps, answer_keeps, savepoint_keeps, go_back_keeps, precommit_keeps, abort_keeps, settle_keeps}
 use Rattle.disk.specs.Layout.{log_from}
+use Rattle.disk.proofs.Accepted.{area_in}
 use Rattle.history.specs.Calls.{Call, begin, write, read_answer, savepoint, go_back, precommit, abort, settle, World, Stepped, returned, changed, step_of}
 use Rattle.history.specs.Demand.{event_of}
 use Rattle.history.proofs.OnDisk.{Start, opens, OnDisk}
 use Rattle.history.proofs.Shows.{Neat, LiveOn, awake, FollowsBy, refused_follows, begin_refuses, write_refuses, precommit_refuses, abort_refuses}
 use Rattle.history.proofs.Shows.{answer_refuses, savepoint_refuses, go_back_refuses, settle_refuses, appended_neat}
 
--- ---- the steps leave the log's end and the number on disk
+-- ---- the steps leave the log's area and end, and the number on disk
 
-begun_same : (s : State) → ((begun_state s).logend ≡ s.logend) × ((begun_state s).ondisk.0 ≡ s.ondisk.0)
+abbrev SameLog : State → State → Type 0
+SameLog r s = (r.logend ≡ s.logend) × (r.ondisk.0 ≡ s.ondisk.0) × (r.area ≡ s.area)
+
+begun_same : (s : State) → SameLog (begun_state s) s
 unfolding begun_state
-begun_same s = (refl, refl)
+begun_same s = (refl, refl, refl)
 
-written_same : (s : State) (j : ℕ) (m : List ℕ) (a : ℕ) (bs : List ℕ)
-    → ((written_state s j m a bs).logend ≡ s.logend) × ((written_state s j m a bs).ondisk.0 ≡ s.ondisk.0)
+written_same : (s : State) (j : ℕ) (m : List ℕ) (a : ℕ) (bs : List ℕ) → SameLog (written_state s j m a bs) s
 unfolding written_state
-written_same s j m a bs = (refl, refl)
+written_same s j m a bs = (refl, refl, refl)
 
-read_same : (s : State) (j a n : ℕ) → ((read_state s j a n).logend ≡ s.logend) × ((read_state s j a n).ondisk.0 ≡ s.ondisk.0)
+read_same : (s : State) (j a n : ℕ) → SameLog (read_state s j a n) s
 unfolding read_state
-read_same s j a n = (refl, refl)
+read_same s j a n = (refl, refl, refl)
 
-savepoint_same : (s : State) (j name : ℕ) → ((savepoint_state s j name).logend ≡ s.logend) × ((savepoint_state s j name).ondisk.0 ≡ s.ondisk.0)
+savepoint_same : (s : State) (j name : ℕ) → SameLog (savepoint_state s j name) s
 unfolding savepoint_state
-savepoint_same s j name = (refl, refl)
+savepoint_same s j name = (refl, refl, refl)
 
-back_same : (s : State) (j : ℕ) (m : List ℕ) (name : ℕ) → ((went_back_state s j m name).logend ≡ s.logend) × ((went_back_state s j m name).ondisk.0 ≡ s.ondisk.0)
+back_same : (s : State) (j : ℕ) (m : List ℕ) (name : ℕ) → SameLog (went_back_state s j m name) s
 unfolding went_back_state
-back_same s j m name = (refl, refl)
+back_same s j m name = (refl, refl, refl)
 
-precommitted_same : (s : State) (j : ℕ) → ((precommitted_state s j).logend ≡ s.logend) × ((precommitted_state s j).ondisk.0 ≡ s.ondisk.0)
+precommitted_same : (s : State) (j : ℕ) → SameLog (precommitted_state s j) s
 unfolding precommitted_state
-precommitted_same s j = (refl, refl)
+precommitted_same s j = (refl, refl, refl)
 
-dropped_same : (s : State) (j : ℕ) → ((dropped_state s j).logend ≡ s.logend) × ((dropped_state s j).ondisk.0 ≡ s.ondisk.0)
+dropped_same : (s : State) (j : ℕ) → SameLog (dropped_state s j) s
 unfolding dropped_state
-dropped_same s j = (refl, refl)
+dropped_same s j = (refl, refl, refl)
 
 module _ {from : Start} (w : World) (d : Disk) (l : Live) (o : OnDisk from w.disk d) (v : LiveOn w d l) where
   abbrev s : State
@@ -88,7 +91,7 @@ module _ {from : Start} (w : World) (d : Disk) (l : Live) (o : OnDisk from w.dis
   fits = fit s t v.fits
 
   -- the same disk, and a state, memory and tail that go on
-  lives : (s' : State) (m' t' : List ℕ) (l' : Live) → (s'.logend ≡ s.logend) × (s'.ondisk.0 ≡ s.ondisk.0) → length m' ≡ 4096 → length t' ≡ 16384
+  lives : (s' : State) (m' t' : List ℕ) (l' : Live) → SameLog s' s → length m' ≡ 4096 → length t' ≡ 16384
       → Kept s' t'
       → live s' m' t' ≡ l' → Neat s.ondisk.0 t' → LiveOn (record { disk = w.disk; memory = m'; tail = t'; state = s' }) d l'
   lives s' m' t' l' same lm lt k view neat = record {
@@ -97,8 +100,9 @@ module _ {from : Start} (w : World) (d : Disk) (l : Live) (o : OnDisk from w.dis
     fits = k.fits;
     sizes = k.sizes;
     view = view;
+    area = same.2 ∙ v.area;
     end = same.0 ∙ v.end;
-    zeros = subst (λ (n : ℕ). log_from n w.disk ≡ replicate (16384 - n) 0) (sym same.0) v.zeros;
+    zeros = subst (λ (n : ℕ). log_from (area_in w.disk) n w.disk ≡ replicate (16384 - n) 0) (sym same.0) v.zeros;
     neat = subst (λ (n : ℕ). Neat n t') (sym same.1) neat;
   }
 

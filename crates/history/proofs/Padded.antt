@@ -1,12 +1,14 @@
 -- A tail whose zeros after the groups are left out is read as the whole one is.
 use Prim.Native.Nat.{ℕ, ◌+◌, ◌-◌, ◌≤◌, min}
 use native.Mathlib.Omega.{arith}
-use mathlib.Core.Bool.{cond}
-use mathlib.Core.List.{List, [], ◌++◌, append_assoc}
+use mathlib.Core.Bool.{cond, not}
+use mathlib.Core.List.{List, [], ◌∷◌, ◌++◌, append_assoc}
 use mathlib.Core.Path.{◌≡◌, refl, ap, ◌∙◌}
 use lib.ListN.{length, take, drop, replicate, length-append, length-drop, length-replicate, replicate-append-replicate}
 use lib.Seq.{sets, sets-eq, take-append-le, take-append_seam, drop-append-le, drop-append-add}
+use lib.Dec.{eqb}
 use borrow.Author.Tests.{eq-eqb}
+use Rattle.layout.proofs.Forms.{passes_one}
 use Rattle.redolog.specs.Log.{read_log}
 use Rattle.redolog.specs.Stores.{shifted}
 use Rattle.redolog.proofs.LogLaws.{log_within}
@@ -14,7 +16,7 @@ use Rattle.redolog.proofs.Parts.{log_padding}
 use Rattle.redolog.proofs.StoreLaws.{drop_zeros}
 use Rattle.store.specs.declared.State.{State}
 use Rattle.store.specs.Rules.{all_zero, tail_length, unfit}
-use Rattle.store.specs.Numbers.{Check, first_number, shared_checks}
+use Rattle.store.specs.Numbers.{Check, check, first_number, shared_checks}
 use Rattle.store.specs.Stored.{disk_checks}
 use Rattle.store.proofs.Zeros.{zeros_behind}
 
@@ -42,12 +44,19 @@ padded_unfit s bs = rw (padded_log s.ondisk.0 bs, zeros_after s.ondisk.0 bs)
 abbrev pub number_of : State → List ℕ → List Check → ℕ
 number_of s bs cs = cond (unfit s bs) 2 (first_number cs)
 
+-- the state's area is form one's
+abbrev pub of_form_one : State → List Check
+of_form_one s = check 2 (not (eqb s.area 0)) ∷ []
+
 module _ (s : State) (m bs : List ℕ) (cs : List Check) (lm : length m ≡ 4096) (lt : length bs ≤ 16384) where
   pub shared_number : first_number (shared_checks s (length m) (padded bs) ++ cs) ≡ number_of s bs cs
   shared_number = rw (eq-eqb (length m) 4096 lm, eq-eqb (length (padded bs)) 16384 (padded_length bs lt), padded_unfit s bs)
 
-  pub disk_number_lem : (d : List ℕ) → length d ≡ 33691 → first_number (disk_checks s (length d) (length m) (padded bs)) ≡ number_of s bs []
-  disk_number_lem d ld = rw (eq-eqb (length d) 33691 ld, eq-eqb (length m) 4096 lm, eq-eqb (length (padded bs)) 16384 (padded_length bs lt), padded_unfit s bs)
+  -- with a disk of form one
+  pub disk_number_lem : (d : List ℕ) → length d ≡ 33691 → first_number (disk_checks s (length d) (length m) (padded bs)) ≡ number_of s bs (of_form_one s)
+  disk_number_lem d ld =
+      ap (λ (n : ℕ). first_number (disk_checks s n (length m) (padded bs))) ld
+      ∙ rw (passes_one, eq-eqb (length m) 4096 lm, eq-eqb (length (padded bs)) 16384 (padded_length bs lt), padded_unfit s bs)
 
 -- ---- a group more, groups less
 

@@ -26,12 +26,12 @@ use Rattle.store.specs.Numbers.{tx_of, begin_checks, write_checks, read_checks, 
 use Rattle.store.specs.Steps.{begun_state, written_state, read_state, savepoint_state, went_back_state, precommitted_state, dropped_state}
 use Rattle.store.specs.Calls.{decided}
 use Rattle.store.specs.Flush.{first_size, flushed_state}
-use Rattle.store.specs.Checkpoint.{target_at, target_name}
+use Rattle.slots.specs.{target_at, target_name}
 use Rattle.disk.specs.Examine.{examine_of}
 use Rattle.disk.specs.Restart.{recovered_state}
 use Rattle.disk.proofs.Accepted.{image_in, log_in}
 use Rattle.history.specs.Calls.{Reply, told, part, World}
-use Rattle.history.proofs.Padded.{padded, number_of}
+use Rattle.history.proofs.Padded.{padded, number_of, of_form_one}
 
 -- a world whose tail's zeros are left out
 pub record Short : Type 0 where
@@ -136,7 +136,7 @@ module _ (d m bs : List ℕ) (s : State) where
 
   abbrev pub flush_quick : ℕ → ℕ → Option Went
   flush_quick k a =
-      let n = number_of s bs [] in
+      let n = number_of s bs (of_form_one s) in
       let size = first_size s bs k in
       let at = 17307 + s.logend in
       decided n
@@ -149,11 +149,11 @@ module _ (d m bs : List ℕ) (s : State) where
   image_bytes = encode_image (image_of s) m
 
   abbrev pub slot : ℕ
-  slot = target_at (get_or d 0 0)
+  slot = target_at 0 (get_or d 0 0)
 
   abbrev pub checkpoint_quick : ℕ → Option Went
   checkpoint_quick a =
-      let n = number_of s bs [] in
+      let n = number_of s bs (of_form_one s) in
       let size = length image_bytes in
       decided n
       (cond (leb (slot + size) 33691)
@@ -170,5 +170,5 @@ module _ (d m bs : List ℕ) (s : State) where
       let left = take (17307 + r.end + (need - a)) d ++ (replicate (need - (need - a)) 0 ++ drop 33691 d) in
       cond (eqb r.number 0)
       (cond (ltb a need) (cutting a left)
-      (telling r.undone need left (examine_of d).memory (encode_log (aborts (undone_by (image_in d) (log_in d)))) (recovered_state r.end r.csn r.last)))
+      (telling r.undone need left (examine_of d).memory (encode_log (aborts (undone_by (image_in d) (log_in d)))) (recovered_state r.area r.end r.csn r.last)))
       none

@@ -29,15 +29,15 @@ use Rattle.store.proofs.Stepping.{SizedState}
 use Rattle.disk.specs.Layout.{log_from}
 use Rattle.disk.specs.Examine.{Meaning, steps_of, examine_of}
 use Rattle.disk.specs.Restart.{recovered_state, clearing, restart_of}
-use Rattle.disk.proofs.Opened.{log_length}
-use Rattle.disk.proofs.Accepted.{image_in, memory_in, log_in, steps_in, Accepted, memory_length, tail_length_lem}
+use Rattle.disk.proofs.Opened.{OpenAlike}
+use Rattle.disk.proofs.Accepted.{image_in, area_in, memory_in, log_in, steps_in, Accepted, memory_length, tail_length_lem}
 use Rattle.disk.proofs.Restarting.{cut_from, done_from, restart_cut, restart_done}
 use Rattle.disk.proofs.Usable.{tail_reads, usable}
-use Rattle.disk.proofs.Again.{cleared, cleared_alike}
+use Rattle.disk.proofs.Again.{area_fits, cleared, cleared_alike}
 use Rattle.history.specs.Calls.{restart, stored, World, step_of}
 use Rattle.history.proofs.Padded.{padded}
-use Rattle.history.proofs.OnDisk.{Start, opens, whole_log, groups_from, OnDisk, same_opened, groups_after, undone_shown, accepts, number_none, end_shown, count_shown, csn_shown}
-use Rattle.history.proofs.OnDisk.{memory_shown, tail_shown}
+use Rattle.history.proofs.OnDisk.{Start, opens, whole_log, OnDisk, same_opened, groups_after, undone_shown, accepts, number_none, end_shown, count_shown, csn_shown}
+use Rattle.history.proofs.OnDisk.{memory_shown, tail_shown, area_shown, formed, inside, whole_length}
 use Rattle.history.proofs.Shows.{Neat, LiveOn, awake, rests, cut_rests, FollowsBy}
 
 -- a state without transactions
@@ -49,6 +49,13 @@ module _ {from : Start} (disk : List ℕ) (d : Disk) (o : OnDisk from disk d) (n
   abbrev end : ℕ
   end = (examine_of disk).result.end
 
+  abbrev area : ℕ
+  area = (examine_of disk).result.area
+
+  -- the area in force
+  area_is : area ≡ area_in disk
+  area_is = area_shown disk d o n room
+
   ends : end ≡ groups_size (standing_in d)
   ends = end_shown disk d o n room
 
@@ -59,7 +66,7 @@ module _ {from : Start} (disk : List ℕ) (d : Disk) (o : OnDisk from disk d) (n
 
   module _ (k : ℕ) where
     abbrev pub left : List ℕ
-    left = apply (take k (clearing end)) disk
+    left = apply (take k (clearing area end)) disk
 
     abbrev front : ℕ
     front = end + (16384 - end - k)
@@ -67,24 +74,29 @@ module _ {from : Start} (disk : List ℕ) (d : Disk) (o : OnDisk from disk d) (n
     abbrev zeros : ℕ
     zeros = 16384 - end - (16384 - end - k)
 
-    left_is : whole_log left ≡ take front (whole_log disk) ++ replicate zeros 0
-    left_is = cleared k end disk o.long (omega (arith, ends, room))
+    left_is : log_from (area_in disk) 0 left ≡ take front (whole_log disk) ++ replicate zeros 0
+    left_is =
+        ap (λ (x : ℕ). log_from (area_in disk) 0 (apply (take k (clearing x end)) disk)) area_is
+        ∙ cleared k (area_in disk) end disk (inside disk d o) (omega (arith, ends, room))
 
-    pub log_left : groups_from (number_before (opens from) d) left ≡ standing_in d
+    log_left : read_log (number_before (opens from) d) (log_from (area_in disk) 0 left) ≡ standing_in d
     log_left =
         ap (read_log (number_before (opens from) d)) left_is
         ∙ log_torn (number_before (opens from) d) (standing_in d) (whole_log disk) front zeros o.log
         ∙ fitting_all front (standing_in d) (omega (arith, ends))
 
-    ended_left : Groupless (log_from (groups_size (standing_in d)) left)
+    ended_left : Groupless (log_from (area_in disk) (groups_size (standing_in d)) left)
     ended_left =
         subst Groupless (sym (ap (drop (groups_size (standing_in d))) left_is))
         (subst (λ (gs : List Group). Groupless (drop (groups_size gs) (take front (whole_log disk) ++ replicate zeros 0)))
         (fitting_all front (standing_in d) (omega (arith, ends)))
         (log_ended (number_before (opens from) d) (standing_in d) (whole_log disk) front zeros o.log o.ended))
 
-    shows_left : OnDisk from left d
-    shows_left = same_opened disk left d d o (length_apply (take k (clearing end)) disk ∙ o.long) (cleared_alike k end disk (omega (arith, ends, room))) refl refl log_left ended_left
+    left_alike : OpenAlike left disk
+    left_alike = cleared_alike k area end disk (area_fits disk (formed disk d o) ok) (omega (arith, ends, room))
+
+    pub shows_left : OnDisk from left d
+    shows_left = same_opened disk left d d o (length_apply (take k (clearing area end)) disk) left_alike refl refl refl log_left ended_left
 
   -- ---- the state, memory and tail of a restart that is done
 
@@ -114,7 +126,7 @@ module _ {from : Start} (disk : List ℕ) (d : Disk) (o : OnDisk from disk d) (n
       (last_above_groups (image_in disk) ok.rules (log_in disk) (memory_in disk) (replicate 16384 0)))
 
   abbrev state : State
-  state = recovered_state end (examine_of disk).result.csn (examine_of disk).result.last
+  state = recovered_state area end (examine_of disk).result.csn (examine_of disk).result.last
 
   tail_groups : (csn : ℕ) → read_log csn (examine_of disk).tail ≡ aborts (undone_by d)
   tail_groups csn = tail_reads disk ok csn ∙ ap aborts (undone_shown disk d o n)
@@ -136,16 +148,18 @@ module _ {from : Start} (disk : List ℕ) (d : Disk) (o : OnDisk from disk d) (n
       let e : front k ≡ end = omega arith in
       let z : 16384 - end - (16384 - end - k) ≡ 16384 - end = omega arith in
       record {
-        memory = memory_length disk o.long ok;
-        tail = tail_length_lem disk o.long ok;
+        memory = memory_length disk (formed disk d o) ok;
+        tail = tail_length_lem disk (formed disk d o) ok;
         fits = usable disk ok (examine_of disk).result.csn (examine_of disk).result.last;
         sizes = recovered_sized state refl refl;
         view = view;
+        area = area_is ∙ sym (left_alike k).area;
         end = ends;
         zeros =
-            ap (drop end) (left_is k)
+            ap (λ (x : ℕ). log_from x end (left k)) (left_alike k).area
+            ∙ ap (drop end) (left_is k)
             ∙ drop_at (take (front k) (whole_log disk)) (replicate (zeros k) 0) end
-            (length-take-le (front k) (whole_log disk) (omega (arith, log_length disk o.long, ends, room)) ∙ e)
+            (length-take-le (front k) (whole_log disk) (omega (arith, whole_length disk d o, ends, room)) ∙ e)
             ∙ ap (λ (j : ℕ). replicate j 0) z;
         neat = neat (examine_of disk).result.csn.0;
       }
@@ -154,10 +168,10 @@ module _ {from : Start} (disk : List ℕ) (d : Disk) (o : OnDisk from disk d) (n
 
   module _ (m t : List ℕ) (lm : length m ≡ 4096) (lt : length t ≡ 16384) (a : ℕ) where
     pub restart_made : 16384 - end ≤ a → restart_of disk m t a ≡ done_from (examine_of disk) disk a
-    restart_made h = restart_done disk m t a o.long lm lt (number_none disk d o n room) h
+    restart_made h = restart_done disk m t a o.passes lm lt (number_none disk d o n room) h
 
     restart_broken : a < 16384 - end → restart_of disk m t a ≡ cut_from (examine_of disk) disk a
-    restart_broken h = restart_cut disk m t a o.long lm lt (number_none disk d o n room) h
+    restart_broken h = restart_cut disk m t a o.passes lm lt (number_none disk d o n room) h
 
 pub restart_follows : {from : Start} (w : World) (s : System) → OnDisk from w.disk (disk_of s) → length w.memory ≡ 4096 → length w.tail ≡ 16384
     → last_csn (number_before (opens from) (disk_of s)) (standing_before (disk_of s)) ≡ (disk_of s).image.csn → groups_size (standing_in (disk_of s)) + 4 * length (undone_by (disk_of s)) ≤ 16384

@@ -14,7 +14,7 @@ use Rattle.recovery.specs.Lists.{All, nil, cons, any}
 use Rattle.recovery.specs.Savepoint.{count_at}
 use Rattle.recovery.specs.Transaction.{Tx as Transaction, lookup}
 use Rattle.recovery.specs.Ledger.{Event, wrote, went_back, OpenTx, Ledger}
-use Rattle.recovery.specs.Machine.{Disk, Live, System, down, up, opening_disk, Listed, after_go_back, Step, Run, opened, next}
+use Rattle.recovery.specs.Machine.{Disk, Live, System, down, up, Listed, after_go_back, Step, Run, next}
 use Rattle.recovery.proofs.Bool.{some_none, opposed, or_left, or_right}
 use Rattle.recovery.proofs.Lists.{else_both, all_right}
 use Rattle.recovery.proofs.Transactions.{lookup_own}
@@ -27,7 +27,7 @@ use Rattle.redolog.specs.declared.TxId.{TxId}
 use Rattle.redolog.proofs.Basics.{and_left, and_right, clash}
 use Rattle.transaction.proofs.Lists.{all_at}
 use Rattle.store.specs.declared.State.{State}
-use Rattle.store.specs.State.{unrecovered, tx_at}
+use Rattle.store.specs.State.{tx_at}
 use Rattle.store.specs.Steps.{went_back_state}
 use Rattle.store.specs.Calls.{Outcome, write_number, go_back_number}
 use Rattle.store.specs.View.{view_at, live}
@@ -38,16 +38,13 @@ use Rattle.store.specs.Answer.{done}
 use Rattle.history.specs.Calls.{Call, write, go_back, told, World, step_of}
 use Rattle.history.specs.Demand.{event_of, Happening, called, power_fails, Watched, happen, happen_all, opening}
 use Rattle.history.specs.Savepoints.{open_at, TxRecorded, UndoRecorded, writes_byte, Writing, by_write, by_return, FirstSince, StaysOpen, ReturnsTo, ReturnsAsBefore}
-use Rattle.history.proofs.OnDisk.{Start, opens, fresh, fresh_shows}
-use Rattle.history.proofs.Shows.{Beside, FollowsBy, awake, rests, write_refuses, go_back_refuses}
-use Rattle.history.proofs.Theorem.{follows, Reached, happens, all_happen}
+use Rattle.history.proofs.OnDisk.{Start, opens}
+use Rattle.history.proofs.Openings.{fresh}
+use Rattle.history.proofs.Shows.{unrecovered_so, Beside, FollowsBy, awake, rests, write_refuses, go_back_refuses}
+use Rattle.history.proofs.Theorem.{follows, Reached, happens, all_happen, fresh_reached}
 use Rattle.history.proofs.OpenRuns.{Runs, runs, runs_within, runs_open, runs_recorded, WentBack, step_back}
 
 -- ---- a world that shows a system that is up
-
-unrecovered_so : (unrecovered.recovered ≡ false) × (unrecovered.count ≡ 0)
-unfolding unrecovered
-unrecovered_so = (refl, refl)
 
 beside_memory : (w : World) (s : System) → Beside w s → w.state.recovered ≡ true → (d : Disk) (l : Live) → s ≡ up d l → w.memory ≡ l.memory
 beside_memory w s (rests x) e d l q = absurd (opposed e (ap (λ (y : State). y.recovered) x.state ∙ unrecovered_so.0))
@@ -154,6 +151,9 @@ module _ (from : Start) where
 
         running : shown.committing ≡ false
         running = rw e
+
+    pub recorded : Reached from k → TxRecorded k.ledger (tx_at w.state i)
+    recorded x = shown_recorded x.system x.run x.shows.1
 
   -- ---- returns
 
@@ -274,7 +274,7 @@ module _ (from : Start) where
           ∙ sym (ap (λ (m : List ℕ). get_or m a 0)
           (beside_memory first.world (up d l) b (writing_recovered first.world id c f.writing f.done) d l refl))
 
-      returned : get_or (step_of (go_back id name) last.world).world.memory a 0 ≡ get_or first.world.memory a 0
+      pub returned : get_or (step_of (go_back id name) last.world).world.memory a 0 ≡ get_or first.world.memory a 0
       returned =
           let now-memory : (step_of (go_back id name) last.world).world.memory ≡ (after_go_back gone.tx gone.count gone.live).memory =
           beside_memory _ return.next return.shows.1 (went_recovered last.world id name went) gone.disk
@@ -285,15 +285,9 @@ module _ (from : Start) where
 
 -- ---- from a fresh disk
 
-fresh_reached : (memory tail : List ℕ) → length memory ≡ 4096 → length tail ≡ 16384 → (hs : List Happening) → Reached fresh (happen_all hs (opening memory tail))
-fresh_reached memory tail lm lt hs =
-    all_happen fresh hs (opening memory tail)
-    (record { system = down (opening_disk (opens fresh)); run = opened; shows = (fresh_shows, rests (record { memory = lm; tail = lt; state = refl })) })
-
 pub undo_recorded : UndoRecorded
 undo_recorded memory tail lm lt hs i h e =
-    let x = fresh_reached memory tail lm lt hs in
-    shown_recorded fresh (happen_all hs (opening memory tail)) i h e x.system x.run x.shows.1
+    recorded fresh (happen_all hs (opening memory tail)) i h e (fresh_reached memory tail lm lt hs)
 
 pub returns_as_before : ReturnsAsBefore
 returns_as_before memory tail lm lt before between c id name n a first stays back =

@@ -1,5 +1,5 @@
 -- A world that shows a system of `recovery`'s machine: what its disk shows, and what state, memory and tail are beside it.
-use Prim.Native.Nat.{ℕ, ◌+◌, ◌-◌}
+use Prim.Native.Nat.{ℕ, ◌-◌}
 use native.Mathlib.Omega.{arith}
 use mathlib.Core.Bool.{true, false}
 use mathlib.Core.List.{List, [], ◌∷◌, ◌++◌, append-nil}
@@ -7,6 +7,7 @@ use mathlib.Core.Path.{◌≡◌, refl, sym, ap, ap₂, ◌∙◌, subst}
 use lib.ListN.{length, replicate, length-replicate}
 use lib.Seq.{sets}
 use borrow.Author.Tests.{eq-eqb}
+use Rattle.layout.specs.Parts.{form_of, disk_ok, area_ok}
 use Rattle.recovery.specs.Group.{Group, groups_size}
 use Rattle.recovery.specs.Ledger.{Event, unchanged}
 use Rattle.recovery.specs.Machine.{Disk, standing_in, Live, System, up, disk_of, Step, stays}
@@ -31,6 +32,8 @@ use Rattle.store.proofs.Stepping.{SizedState}
 use Rattle.store.proofs.Fits.{Fit}
 use Rattle.store.proofs.Views.{Appends, tail_zeros}
 use Rattle.disk.specs.Layout.{log_from}
+use Rattle.disk.proofs.Opened.{opened_area}
+use Rattle.disk.proofs.Accepted.{area_in}
 use Rattle.history.specs.Calls.{Call, begin, write, read, read_answer, savepoint, go_back, precommit, abort, flush, settle, checkpoint, World, Stepped, returned, changed}
 use Rattle.history.specs.Calls.{stored, step_of}
 use Rattle.history.specs.Demand.{event_of}
@@ -47,9 +50,15 @@ pub record LiveOn (w : World) (d : Disk) (l : Live) : Type 0 where
   pub fits : unfit w.state w.tail ≡ false
   pub sizes : SizedState w.state
   pub view : live w.state w.memory w.tail ≡ l
+  -- the log goes on in the area in force
+  pub area : w.state.area ≡ area_in w.disk
   pub end : w.state.logend ≡ groups_size (standing_in d)
-  pub zeros : log_from w.state.logend w.disk ≡ replicate (16384 - w.state.logend) 0
+  pub zeros : log_from (area_in w.disk) w.state.logend w.disk ≡ replicate (16384 - w.state.logend) 0
   pub neat : Neat w.state.ondisk.0 w.tail
+
+pub unrecovered_so : (unrecovered.recovered ≡ false) × (unrecovered.count ≡ 0)
+unfolding unrecovered
+unrecovered_so = (refl, refl)
 
 -- nothing but a restart goes on
 pub record Resting (w : World) : Type 0 where
@@ -173,11 +182,11 @@ module _ (w : World) (r : Resting w) where
   never : (cs : List Check) → first_number (shared_checks w.state (length w.memory) w.tail ++ cs) ≡ 0 → ⊥
   never cs z = absurd (omega (arith, two cs, z))
 
-  never_disk : length w.disk ≡ 33691 → disk_number w.state w.disk w.memory w.tail ≡ 0 → ⊥
-  never_disk l z = absurd (omega (arith, z, disk_two))
+  never_disk : disk_ok (length w.disk) ≡ true → disk_number w.state w.disk w.memory w.tail ≡ 0 → ⊥
+  never_disk p z = absurd (omega (arith, z, disk_two))
     where
       disk_two : disk_number w.state w.disk w.memory w.tail ≡ 2
-      disk_two = rw (eq-eqb _ _ l, eq-eqb _ _ r.memory, eq-eqb _ _ r.tail, unfit_here)
+      disk_two = rw (p, eq-eqb _ _ r.memory, eq-eqb _ _ r.tail, unfit_here)
 
   pub begin_idle : Refuses w begin
   begin_idle = begin_refuses w (never (begin_checks w.state.count w.state.lastid.0 (room_used w.state w.tail)))
@@ -203,11 +212,19 @@ module _ (w : World) (r : Resting w) where
   pub settle_idle : (id : ℕ) → Refuses w (settle id)
   settle_idle id = settle_refuses w id (never (settle_checks w.state id))
 
-  pub flush_idle : length w.disk ≡ 33691 → (k a : ℕ) → Refuses w (flush k a)
-  flush_idle l k a = flush_refuses w k a (never_disk l)
+  pub flush_idle : disk_ok (length w.disk) ≡ true → (k a : ℕ) → Refuses w (flush k a)
+  flush_idle p k a = flush_refuses w k a (never_disk p)
 
-  pub checkpoint_idle : length w.disk ≡ 33691 → (a : ℕ) → Refuses w (checkpoint a)
-  checkpoint_idle l a = checkpoint_refuses w a (never_disk l)
+  pub checkpoint_idle : disk_ok (length w.disk) ≡ true → (a : ℕ) → Refuses w (checkpoint a)
+  checkpoint_idle p a = checkpoint_refuses w a (never_disk p)
+
+-- ---- a state beside its disk: no flush and no checkpoint is refused
+
+pub ready : {from : Start} (w : World) (d : Disk) (l : Live) → OnDisk from w.disk d → LiveOn w d l
+    → disk_number w.state w.disk w.memory w.tail ≡ 0
+ready w d l o v =
+    let own : area_ok (form_of w.disk) w.state.area ≡ true = ap (area_ok (form_of w.disk)) v.area ∙ opened_area w.disk o.opened in
+    rw (o.passes, eq-eqb _ _ v.memory, eq-eqb _ _ v.tail, v.fits, own)
 
 -- ---- a group appended to a neat tail
 

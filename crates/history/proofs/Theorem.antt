@@ -1,64 +1,70 @@
--- Demand 3 for the calls themselves, of a store that opened from any memory and commit number (`survives`), and so from a fresh disk (`demand-3`).
+-- Demand 3 for the calls themselves, of a store that opened from any form, memory and numbers (`survives`), so from any disk that opens a history
+-- (`survives-opened`), and so from a fresh disk (`demand-3`).
 -- A call added later hooks in here. A constructor of Call: its lines of `follows`, by a lemma that it is refused or a step of the machine;
 -- `Reached`, `happens` and all below them stay. A call that is made of these calls is a list of happenings: `all-happen` keeps `Reached`.
-use Prim.Native.Nat.{ℕ, ◌+◌, ◌*◌, ◌≤◌}
+use Prim.Native.Nat.{ℕ, ◌+◌, ◌*◌, ◌≤◌, ◌<◌}
+use native.Mathlib.Omega.{arith}
+use mathlib.Core.Bool.{true}
 use mathlib.Core.List.{List, [], ◌∷◌, ◌++◌, Memᴰ}
-use mathlib.Core.Path.{◌≡◌, refl, sym, ap, ◌∙◌, subst}
+use mathlib.Core.Path.{◌≡◌, refl, sym, ap, ap₂, ◌∙◌, subst}
 use lib.ListN.{length, replicate}
+use Rattle.layout.specs.Parts.{form_of, pointer_of}
+use Rattle.layout.specs.declared.Form.{Form}
 use Rattle.layout.specs.declared.Form.TheVariants.{One}
-use Rattle.recovery.specs.Group.{groups_size, last_csn}
+use Rattle.recovery.specs.Group.{Group, groups_size, last_csn}
 use Rattle.recovery.specs.Lists.{All}
-use Rattle.recovery.specs.Ledger.{Event, settled, Commit, Ledger, no_ledger, committed_in, latest}
-use Rattle.recovery.specs.Machine.{Disk, standing_before, standing_in, number_before, Live, System, down, up, disk_of, opening_disk, undone_by, Step, stays, begins}
+use Rattle.recovery.specs.Ledger.{Event, settled, Commit, Ledger, committed_in, latest}
+use Rattle.recovery.specs.Machine.{Disk, standing_before, standing_in, number_if, number_before, Live, System, down, up, disk_of, opening_disk, undone_by, Step, stays, begins}
 use Rattle.recovery.specs.Machine.{writes, sets_savepoint, goes_back, precommits, rolls_back, flushes, flush_is_cut, settles, checkpoints, checkpoint_is_cut, restarts, restart_is_cut, Run, opened, next}
-use Rattle.recovery.specs.Claim.{commits, lay_commits, Numbered}
+use Rattle.recovery.specs.Claim.{commits, lay_commits, Numbered, Claim}
+use Rattle.recovery.proofs.Bool.{opposed}
+use Rattle.recovery.proofs.Distinct.{Distinct}
 use Rattle.recovery.proofs.Groups.{last_csn_append}
-use Rattle.recovery.proofs.Numbers.{Numbers}
-use Rattle.recovery.proofs.Log.{number_one, standing_number, form_stays}
-use Rattle.recovery.proofs.Invariant.{Inv}
-use Rattle.recovery.proofs.Theorem.{holds, theorem, settled_found}
+use Rattle.recovery.proofs.Log.{standing_number, form_stays}
+use Rattle.recovery.proofs.Durable.{durable_counted, image_above, durable_above, durable_apart}
+use Rattle.recovery.proofs.Theorem.{lasts, holds, theorem, settled_found}
+use Rattle.redolog.specs.declared.TxId.{TxId}
+use Rattle.redolog.specs.declared.Csn.{Csn}
+use Rattle.redolog.specs.Log.{read_log}
 use Rattle.redolog.specs.Found.{read_found}
 use Rattle.redolog.proofs.Basics.{clash}
 use Rattle.redolog.proofs.FoundLaws.{found_same}
-use Rattle.store.specs.Answer.{done}
-use Rattle.store.specs.State.{unrecovered}
+use Rattle.image.specs.Pack.{empty_image}
+use Rattle.store.specs.declared.State.{State}
+use Rattle.store.specs.Answer as answers
 use Rattle.store.specs.Stored.{DiskOutcome}
+use Rattle.store.proofs.Storing.{disk_number}
+use Rattle.disk.specs.Layout.{log_from}
+use Rattle.disk.specs.Open.{Loaded, OpenedDisk, open_of}
 use Rattle.disk.specs.Examine.{examine_of}
-use Rattle.disk.specs.Restart.{restart_of}
+use Rattle.disk.specs.Restart.{recovered_state, restart_of}
 use Rattle.disk.specs.Enough.{Enough}
+use Rattle.disk.proofs.Loading.{load_none}
+use Rattle.disk.proofs.Opened.{open_inv, opened_area}
+use Rattle.disk.proofs.Accepted.{image_in, area_in, memory_in}
+use Rattle.disk.proofs.Restarting.{done_from}
 use Rattle.history.specs.Calls.{Call, begin, write, read, read_answer, savepoint, go_back, precommit, abort, flush, settle, checkpoint, restart, told, World, step_of}
 use Rattle.history.specs.Demand.{event_of, Happening, called, power_fails, Watched, happen, happen_all, opening, LatestDurable, Survives, Demand3}
-use Rattle.history.proofs.OnDisk.{Start, opens, whole_log, groups_from, OnDisk, fresh, fresh_shows, end_shown, memory_shown}
-use Rattle.history.proofs.Shows.{LiveOn, Beside, awake, rests, Shows, FollowsBy, refused_follows, read_refuses}
+use Rattle.history.proofs.OnDisk.{Start, opens, whole_log, groups_from, OnDisk, area_one_lem, number_none, end_shown, csn_shown, memory_shown}
+use Rattle.history.proofs.Openings.{opened_on, Opens, start_of, opens_shows, zeros_memory, zeros_csn, fresh, fresh_opens}
+use Rattle.history.proofs.Shows.{unrecovered_so, LiveOn, Beside, awake, rests, Shows, FollowsBy, refused_follows, read_refuses, ready}
 use Rattle.history.proofs.Shows.{begin_idle, write_idle, answer_idle, savepoint_idle, go_back_idle, precommit_idle, abort_idle, settle_idle, flush_idle, checkpoint_idle}
 use Rattle.history.proofs.MemorySteps.{begin_follows, write_follows, answer_follows, savepoint_follows, go_back_follows, precommit_follows, abort_follows, settle_follows}
 use Rattle.history.proofs.FlushSteps.{flush_follows}
 use Rattle.history.proofs.CheckpointSteps.{checkpoint_follows}
-use Rattle.history.proofs.RestartSteps.{left, log_left, restart_made, restart_follows}
-
--- a store before its first call, and an empty ledger that starts from a memory
-abbrev pub opened_on : List ℕ → List ℕ → List ℕ → List ℕ → Watched
-opened_on opening disk memory tail =
-    record { world = record { disk = disk; memory = memory; tail = tail; state = unrecovered }; ledger = no_ledger opening }
+use Rattle.history.proofs.RestartSteps.{left, shows_left, restart_made, restart_follows}
 
 module _ (from : Start) where
   -- ---- what the machine's invariant says of a disk
 
-  numbers_in : (s : System) (k : Ledger) → Inv (opens from) s k → Numbers (opens from) (disk_of s)
-  numbers_in (down d) k v = v.numbers
-  numbers_in (up d l) k v = v.numbers
-
   module _ (s : System) (k : Ledger) (r : Run (opens from) s k) where
     -- what stands before the image ends with the image's number
     image_number : last_csn (number_before (opens from) (disk_of s)) (standing_before (disk_of s)) ≡ (disk_of s).image.csn
-    image_number = standing_number (opens from) (disk_of s) (numbers_in s k (holds (opens from) r))
+    image_number = standing_number (opens from) (disk_of s) (lasts (opens from) s k (holds (opens from) r)).numbers
 
-    -- the form is the opening's, and so the log goes on from the opening's number
-    form : (disk_of s).form ≡ One
+    -- the form is the opening's
+    form : (disk_of s).form ≡ from.form
     form = form_stays (opens from) r
-
-    opening_number : number_before (opens from) (disk_of s) ≡ from.csn
-    opening_number = number_one (opens from) (disk_of s) form
 
     room : groups_size (standing_in (disk_of s)) + 4 * length (undone_by (disk_of s)) ≤ 16384
     room = (theorem (opens from) r).fits
@@ -74,7 +80,7 @@ module _ (from : Start) where
 
   -- ---- each call is a step
 
-  lengths : (w : World) (s : System) → Beside w s → (length w.memory ≡ 4096) × (length w.tail ≡ 16384)
+  pub lengths : (w : World) (s : System) → Beside w s → (length w.memory ≡ 4096) × (length w.tail ≡ 16384)
   lengths w s (awake v) = (v.memory, v.tail)
   lengths w s (rests r) = (r.memory, r.tail)
 
@@ -93,8 +99,8 @@ module _ (from : Start) where
   follows (precommit id) w s k r o (rests x) = refused_follows s w (precommit id) (o, rests x) (precommit_idle w x id)
   follows (abort id) w s k r o (rests x) = refused_follows s w (abort id) (o, rests x) (abort_idle w x id)
   follows (settle id) w s k r o (rests x) = refused_follows s w (settle id) (o, rests x) (settle_idle w x id)
-  follows (flush n a) w s k r o (rests x) = refused_follows s w (flush n a) (o, rests x) (flush_idle w x o.long n a)
-  follows (checkpoint a) w s k r o (rests x) = refused_follows s w (checkpoint a) (o, rests x) (checkpoint_idle w x o.long a)
+  follows (flush n a) w s k r o (rests x) = refused_follows s w (flush n a) (o, rests x) (flush_idle w x o.passes n a)
+  follows (checkpoint a) w s k r o (rests x) = refused_follows s w (checkpoint a) (o, rests x) (checkpoint_idle w x o.passes a)
   follows begin w s k r o (awake {d} {l} v) = begin_follows w d l o v
   follows (write id a bs) w s k r o (awake {d} {l} v) = write_follows w d l o v id a bs
   follows (read_answer id a n) w s k r o (awake {d} {l} v) = answer_follows w d l o v id a n
@@ -104,7 +110,7 @@ module _ (from : Start) where
   follows (abort id) w s k r o (awake {d} {l} v) = abort_follows w d l o v id
   follows (settle id) w s k r o (awake {d} {l} v) = settle_follows w d l o v id
   follows (flush n a) w s k r o (awake {d} {l} v) = flush_follows w d l o v (last_number w d l k r v) n a
-  follows (checkpoint a) w s k r o (awake {d} {l} v) = checkpoint_follows w d l o v (form s k r) a
+  follows (checkpoint a) w s k r o (awake {d} {l} v) = checkpoint_follows w d l o v a
 
   -- ---- lists of them
 
@@ -147,82 +153,231 @@ module _ (from : Start) where
   step_settles s t e k id r (restarts s' last_id image_last image-ids group-ids) q = clash (cc)
   step_settles s t e k id r (restart_is_cut s') q = clash (cc)
 
-  settle_found : (k : Watched) → Reached k → (id : ℕ) → (step_of (settle id) k.world).reply ≡ told done 0 0 → LatestDurable id k.ledger
+  settle_found : (k : Watched) → Reached k → (id : ℕ) → (step_of (settle id) k.world).reply ≡ told answers.done 0 0 → LatestDurable id k.ledger
   settle_found k r id e =
       let f = follows (settle id) k.world r.system k.ledger r.run r.shows.0 r.shows.1 in
       step_settles r.system f.next _ k.ledger id r.run f.step (ap (event_of (settle id)) e)
 
+  -- ---- what stands in the log of a disk
+
+  -- the number that it goes on from: the opening's in form one, its image's in form two
+  abbrev pub number_in : List ℕ → ℕ
+  number_in disk = number_if from.form from.csn (image_in disk).ondisk.0
+
+  -- in the area in force, from its first byte on
+  abbrev pub groups_in : List ℕ → List Group
+  groups_in disk = groups_from (number_in disk) disk
+
+  -- form one's log, on from the opening's number
+  abbrev pub old_groups : List ℕ → List Group
+  old_groups disk = read_log from.csn (log_from 0 0 disk)
+
+  module _ (disk : List ℕ) (d : Disk) (o : OnDisk from disk d) (form : d.form ≡ from.form) where
+    number_shown : number_in disk ≡ number_before (opens from) d
+    unfolding number_before
+    number_shown = ap₂ (λ (f : Form) (n : ℕ). number_if f from.csn n) (sym form) o.csn
+
+    -- what stands in the machine's log is what the disk's log has
+    groups_shown : groups_in disk ≡ standing_in d
+    groups_shown = ap (λ (n : ℕ). groups_from n disk) number_shown ∙ o.log
+
+    -- read with its first number as found it is the same
+    groups_found : read_found (whole_log disk) ≡ groups_in disk
+    groups_found = found_same (number_in disk) (standing_in d) (whole_log disk) groups_shown o.ended ∙ sym groups_shown
+
+    module _ (one : from.form ≡ One) where
+      old_log : whole_log disk ≡ log_from 0 0 disk
+      old_log = ap (λ (a : ℕ). log_from a 0 disk) (area_one_lem (form_of disk) (area_in disk) (opened_area disk o.opened) (o.form ∙ form ∙ one))
+
+      old_shown : groups_in disk ≡ old_groups disk
+      old_shown = ap₂ read_log (ap (λ (f : Form). number_if f from.csn (image_in disk).ondisk.0) one) old_log
+
+  -- where no image is named, both numbers are 0
+  unnamed_number : (disk : List ℕ) → (open_of disk).number ≡ 0 → pointer_of disk ≡ 0 → (image_in disk).ondisk.0 ≡ 0
+  unfolding empty_image
+  unnamed_number disk e p =
+      ap (λ (x : OpenedDisk). x.image.ondisk.0) (open_inv disk e).is
+      ∙ ap (λ (x : Loaded). x.decoded.image.ondisk.0) (load_none (form_of disk) (pointer_of disk) disk p)
+
+  recovered_state_lem : (area end : ℕ) (csn : Csn) (last : TxId) → let s = recovered_state area end csn last in
+      (s.recovered ≡ true) × (s.ondisk ≡ csn) × (s.assigned ≡ csn)
+  unfolding recovered_state
+  recovered_state_lem area end csn last = (refl, refl, refl)
+
   -- ---- the claim
 
-  -- of one more restart's outcome
-  abbrev pub Restored : List Commit → DiskOutcome → Type 0
-  Restored durable x =
-      (x.result.says ≡ done) × (x.memory ≡ lay_commits durable from.memory)
-      × (commits (groups_from from.csn x.disk) ≡ durable)
+  -- those whose commits stand in the log of a disk are the last of the durable ones
+  abbrev pub LastDurable : List Commit → List ℕ → Type 0
+  LastDurable durable disk = (gone : List Commit) × (durable ≡ gone ++ commits (groups_in disk))
 
-  -- `Survives` (specs/Demand.antt), of a store that opened from any memory and number
+  -- Form one: the commits of the log are exactly the durable ones. Where no image is named it goes on from 0; read with its first number as found it
+  -- is the same.
+  pub record OldLog (durable : List Commit) (disk : List ℕ) : Type 0 where
+    pub stands : groups_in disk ≡ old_groups disk
+    pub logged : commits (old_groups disk) ≡ durable
+    pub found : read_found (log_from 0 0 disk) ≡ old_groups disk
+    pub zero : pointer_of disk ≡ 0 → from.csn ≡ 0
+
+  -- what a disk means to a restart, or to a move
+  pub record MeansDurable (durable : List Commit) (disk : List ℕ) : Type 0 where
+    pub number : (examine_of disk).result.number ≡ 0
+    pub memory : (examine_of disk).memory ≡ lay_commits durable from.memory
+    pub csn : (examine_of disk).result.csn.0 ≡ from.csn + length durable
+
+  -- of one more restart's outcome
+  pub record Restored (durable : List Commit) (x : DiskOutcome) : Type 0 where
+    pub done : x.result.says ≡ answers.done
+    pub restores : x.memory ≡ lay_commits durable from.memory
+    pub recovered : x.result.state.recovered ≡ true
+    -- both commit numbers
+    pub ondisk : x.result.state.ondisk.0 ≡ from.csn + length durable
+    pub assigned : x.result.state.assigned.0 ≡ from.csn + length durable
+    pub old : from.form ≡ One → OldLog durable x.disk
+    pub standing : LastDurable durable x.disk
+
+  -- `Survives` (specs/Demand.antt), of a store that opened from any form, memory and numbers
   pub record SurvivesFrom (k : Watched) : Type 0 where
     pub restarts : (memory tail : List ℕ) (allowed : ℕ) → length memory ≡ 4096 → length tail ≡ 16384 → Enough allowed k.world.disk
         → Restored k.ledger.durable (restart_of k.world.disk memory tail allowed)
-    pub logged : commits (groups_from from.csn k.world.disk) ≡ k.ledger.durable
-    pub ends : (examine_of k.world.disk).result.end ≡ groups_size (groups_from from.csn k.world.disk)
+    pub means : MeansDurable k.ledger.durable k.world.disk
+    pub old : from.form ≡ One → OldLog k.ledger.durable k.world.disk
+    pub standing : LastDurable k.ledger.durable k.world.disk
+    pub ends : (examine_of k.world.disk).result.end ≡ groups_size (groups_in k.world.disk)
     pub numbered : Numbered from.csn k.ledger.durable
+    pub above : All (λ c. from.last_id < c.id) k.ledger.durable
+    pub apart : Distinct (λ c. c.id) k.ledger.durable
     pub first : (rest : List Commit) × (k.ledger.assigned ≡ k.ledger.durable ++ rest)
     pub settled : All (λ c. Memᴰ c k.ledger.durable) k.ledger.settled
-    pub settles : (id : ℕ) → (step_of (settle id) k.world).reply ≡ told done 0 0 → LatestDurable id k.ledger
+    pub settles : (id : ℕ) → (step_of (settle id) k.world).reply ≡ told answers.done 0 0 → LatestDurable id k.ledger
+    -- from a restart that is done to the next cut no flush and no checkpoint is refused
+    pub ready : k.world.state.recovered ≡ true → disk_number k.world.state k.world.disk k.world.memory k.world.tail ≡ 0
 
-  -- what stands in the machine's log is what the disk's log has, read from its first byte on from the opening's number
-  pub log_shown : (k : Watched) (r : Reached k) → groups_from from.csn k.world.disk ≡ standing_in (disk_of r.system)
-  log_shown k r =
-      ap (λ (n : ℕ). groups_from n k.world.disk) (sym (opening_number r.system k.ledger r.run)) ∙ r.shows.0.log
+  ready_beside : (w : World) (s : System) → OnDisk from w.disk (disk_of s) → Beside w s → w.state.recovered ≡ true
+      → disk_number w.state w.disk w.memory w.tail ≡ 0
+  ready_beside w s o (awake {d} {l} v) e = ready w d l o v
+  ready_beside w s o (rests x) e = absurd (opposed e (ap (λ (y : State). y.recovered) x.state ∙ unrecovered_so.0))
 
-  -- read with its first number as found it is the same
-  pub found_shown : (k : Watched) (r : Reached k) → read_found (whole_log k.world.disk) ≡ groups_from from.csn k.world.disk
-  found_shown k r =
-      found_same from.csn (standing_in (disk_of r.system)) (whole_log k.world.disk) (log_shown k r) r.shows.0.ended
-      ∙ sym (log_shown k r)
+  module _ (k : Watched) (r : Reached k) where
+    abbrev disk : List ℕ
+    disk = k.world.disk
 
-  pub claimed : (k : Watched) → Reached k → SurvivesFrom k
-  claimed k r =
-      let d = disk_of r.system in
-      let disk = k.world.disk in
-      let o = r.shows.0 in
-      let c = theorem (opens from) r.run in
-      let n = image_number r.system k.ledger r.run in
-      let fits = room r.system k.ledger r.run in
-      let logged : commits (standing_in d) ≡ k.ledger.durable = c.logged (form r.system k.ledger r.run) in
-      let from-opening = opening_number r.system k.ledger r.run in
-      record {
-        restarts = λ m t a lm lt h.
-            subst (Restored k.ledger.durable) (sym (restart_made disk d o n fits m t lm lt a h)) (
-              refl,
-              memory_shown disk d o n fits ∙ c.restores,
-              ap (λ (j : ℕ). commits (groups_from j (left disk d o n fits a))) (sym from-opening) ∙ ap commits (log_left disk d o n fits a) ∙ logged,
-            );
-        logged = ap commits (log_shown k r) ∙ logged;
-        ends = end_shown disk d o n fits ∙ ap groups_size (sym (log_shown k r));
-        numbered = c.numbered;
-        first = c.first;
-        settled = c.settled;
-        settles = settle_found k r;
-      }
+    abbrev d : Disk
+    d = disk_of r.system
+
+    o : OnDisk from disk d
+    o = r.shows.0
+
+    own_form : d.form ≡ from.form
+    own_form = form r.system k.ledger r.run
+
+    n : last_csn (number_before (opens from) d) (standing_before d) ≡ d.image.csn
+    n = image_number r.system k.ledger r.run
+
+    fits : groups_size (standing_in d) + 4 * length (undone_by d) ≤ 16384
+    fits = room r.system k.ledger r.run
+
+    claim : Claim (opens from) d k.ledger
+    claim = theorem (opens from) r.run
+
+    pub log_shown : groups_in disk ≡ standing_in d
+    log_shown = groups_shown disk d o own_form
+
+    -- of a disk that shows the same: the one before a restart and the one after it
+    old : (x : List ℕ) → OnDisk from x d → from.form ≡ One → OldLog k.ledger.durable x
+    old x y one = record {
+      stands = old_shown x d y own_form one;
+      logged = ap commits (sym (old_shown x d y own_form one) ∙ groups_shown x d y own_form) ∙ claim.logged (own_form ∙ one);
+      found = ap read_found (sym (old_log x d y own_form one)) ∙ groups_found x d y own_form ∙ old_shown x d y own_form one;
+      zero = λ p. omega (arith, image_above (opens from) r.system k.ledger r.run, y.csn, unnamed_number x y.opened p);
+    }
+
+    stands : (x : List ℕ) → OnDisk from x d → LastDurable k.ledger.durable x
+    stands x y =
+        let (gone, whole) = claim.standing in
+        (gone, whole ∙ ap (λ (gs : List Group). gone ++ commits gs) (sym (groups_shown x d y own_form)))
+
+    means : MeansDurable k.ledger.durable disk
+    means = record {
+      number = number_none disk d o n fits;
+      memory = memory_shown disk d o n fits ∙ claim.restores;
+      csn = csn_shown disk d o n fits ∙ durable_counted (opens from) r.system k.ledger r.run;
+    }
+
+    restored : (a : ℕ) → Restored k.ledger.durable (done_from (examine_of disk) disk a)
+    restored a =
+        let e = (examine_of disk).result in
+        let state = recovered_state_lem e.area e.end e.csn e.last in
+        let after = shows_left disk d o n fits a in
+        record {
+          done = refl;
+          restores = means.memory;
+          recovered = state.0;
+          ondisk = ap (λ (c : Csn). c.0) state.1 ∙ means.csn;
+          assigned = ap (λ (c : Csn). c.0) state.2 ∙ means.csn;
+          old = old (left disk d o n fits a) after;
+          standing = stands (left disk d o n fits a) after;
+        }
+
+    pub claimed : SurvivesFrom k
+    claimed = record {
+      restarts = λ m t a lm lt h. subst (Restored k.ledger.durable) (sym (restart_made disk d o n fits m t lm lt a h)) (restored a);
+      means = means;
+      old = old disk o;
+      standing = stands disk o;
+      ends = end_shown disk d o n fits ∙ ap groups_size (sym log_shown);
+      numbered = claim.numbered;
+      above = durable_above (opens from) r.system k.ledger r.run;
+      apart = durable_apart (opens from) r.system k.ledger r.run;
+      first = claim.first;
+      settled = claim.settled;
+      settles = settle_found k r;
+      ready = ready_beside k.world r.system o r.shows.1;
+    }
 
   -- ---- from the opening on
 
   -- whatever happens to a store whose disk shows the opening one, and whatever memory and tail hold at first
-  pub survives : (disk memory tail : List ℕ) → OnDisk from disk (opening_disk (opens from)) → length memory ≡ 4096 → length tail ≡ 16384
-      → (hs : List Happening) → SurvivesFrom (happen_all hs (opened_on from.memory disk memory tail))
-  survives disk memory tail o lm lt hs =
-      claimed (happen_all hs (opened_on from.memory disk memory tail)) (all_happen hs (opened_on from.memory disk memory tail)
-      (record { system = down (opening_disk (opens from)); run = opened; shows = (o, rests (record { memory = lm; tail = lt; state = refl })) }))
+  module _ (disk memory tail : List ℕ) (o : OnDisk from disk (opening_disk (opens from))) (lm : length memory ≡ 4096) (lt : length tail ≡ 16384)
+      (hs : List Happening) where
+    pub reached : Reached (happen_all hs (opened_on from.memory disk memory tail))
+    reached =
+        all_happen hs (opened_on from.memory disk memory tail)
+        (record { system = down (opening_disk (opens from)); run = opened; shows = (o, rests (record { memory = lm; tail = lt; state = refl })) })
 
--- a fresh disk opens from zeros and 0
+    pub survives : SurvivesFrom (happen_all hs (opened_on from.memory disk memory tail))
+    survives = claimed (happen_all hs (opened_on from.memory disk memory tail)) reached
+
+-- whatever disk opens the history
+module _ (form : Form) (disk : List ℕ) (x : Opens form disk) (memory tail : List ℕ) (lm : length memory ≡ 4096) (lt : length tail ≡ 16384) (hs : List Happening) where
+  pub opened_reached : Reached (start_of form disk x) (happen_all hs (opened_on (memory_in disk) disk memory tail))
+  opened_reached = reached (start_of form disk x) disk memory tail (opens_shows form disk x) lm lt hs
+
+  pub survives_opened : SurvivesFrom (start_of form disk x) (happen_all hs (opened_on (memory_in disk) disk memory tail))
+  survives_opened = survives (start_of form disk x) disk memory tail (opens_shows form disk x) lm lt hs
+
+-- ---- an all-zero disk of form one: it opens from zeros and 0
+
+pub fresh_reached : (memory tail : List ℕ) → length memory ≡ 4096 → length tail ≡ 16384 → (hs : List Happening) → Reached fresh (happen_all hs (opening memory tail))
+fresh_reached memory tail lm lt hs =
+    subst (λ (m : List ℕ). Reached fresh (happen_all hs (opened_on m (replicate 33691 0) memory tail))) (zeros_memory One)
+    (opened_reached One (replicate 33691 0) fresh_opens memory tail lm lt hs)
+
+-- its log is read from 0
+pub from_zero : (disk : List ℕ) → old_groups fresh disk ≡ read_log 0 (log_from 0 0 disk)
+from_zero disk = ap (λ (n : ℕ). read_log n (log_from 0 0 disk)) (zeros_csn One)
+
 as_demanded : (k : Watched) → SurvivesFrom fresh k → Survives k
 as_demanded k x = record {
-  restarts = λ m t a lm lt h. let r = x.restarts m t a lm lt h in record { done = r.0; restores = r.1; logged = r.2 };
-  logged = x.logged;
-  ends = x.ends;
-  numbered = x.numbered;
+  restarts = λ m t a lm lt h.
+      let r = x.restarts m t a lm lt h in
+      record {
+        done = r.done;
+        restores = r.restores ∙ ap (lay_commits k.ledger.durable) (zeros_memory One);
+        logged = ap commits (sym (from_zero (restart_of k.world.disk m t a).disk)) ∙ (r.old refl).logged;
+      };
+  logged = ap commits (sym (from_zero k.world.disk)) ∙ (x.old refl).logged;
+  ends = x.ends ∙ ap groups_size ((x.old refl).stands ∙ from_zero k.world.disk);
+  numbered = subst (λ (n : ℕ). Numbered n k.ledger.durable) (zeros_csn One) x.numbered;
   first = x.first;
   settled = x.settled;
   settles = x.settles;
@@ -230,4 +385,4 @@ as_demanded k x = record {
 
 pub demand_3 : Demand3
 demand_3 memory tail lm lt hs =
-    as_demanded (happen_all hs (opening memory tail)) (survives fresh (replicate 33691 0) memory tail fresh_shows lm lt hs)
+    as_demanded (happen_all hs (opening memory tail)) (claimed fresh (happen_all hs (opening memory tail)) (fresh_reached memory tail lm lt hs))

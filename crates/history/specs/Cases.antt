@@ -32,7 +32,7 @@ abbrev pub nowhere : World → List ℕ
 nowhere w = []
 
 abbrev pub log_front : ℕ → World → List ℕ
-log_front n w = take n (log_from 0 w.disk)
+log_front n w = take n (log_from 0 0 w.disk)
 
 abbrev pub end_of_log : World → List ℕ
 end_of_log w = w.state.logend ∷ []

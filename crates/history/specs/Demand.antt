@@ -91,7 +91,7 @@ pub record Restarts (disk : List ℕ) (durable : List Commit) (memory tail : Lis
   -- it leaves "4,096 zeros with the writes of the kept bookings laid over them, booking after booking, each one's writes in order"
   pub restores : (restart_of disk memory tail allowed).memory ≡ lay_commits durable (replicate 4096 0)
   -- after it the log, read from its first byte, has as its commits exactly the durable ones
-  pub logged : commits (read_log 0 (log_from 0 (restart_of disk memory tail allowed).disk)) ≡ durable
+  pub logged : commits (read_log 0 (log_from 0 0 (restart_of disk memory tail allowed).disk)) ≡ durable
 
 -- "the latest booking of that id, kept or queued": there is one, and it is durable
 pub record LatestDurable (id : ℕ) (k : Ledger) : Type 0 where
@@ -105,9 +105,9 @@ pub record Survives (k : Watched) : Type 0 where
   pub restarts : (memory tail : List ℕ) (allowed : ℕ) → length memory ≡ 4096 → length tail ≡ 16384 → Enough allowed k.world.disk
       → Restarts k.world.disk k.ledger.durable memory tail allowed
   -- before it, too, the log's commits are exactly the durable ones (the kept), in order, with their ids, writes and numbers
-  pub logged : commits (read_log 0 (log_from 0 k.world.disk)) ≡ k.ledger.durable
+  pub logged : commits (read_log 0 (log_from 0 0 k.world.disk)) ≡ k.ledger.durable
   -- the end that restart finds, from the image's place on, is that of the log read from its first byte
-  pub ends : (examine_of k.world.disk).result.end ≡ groups_size (read_log 0 (log_from 0 k.world.disk))
+  pub ends : (examine_of k.world.disk).result.end ≡ groups_size (read_log 0 (log_from 0 0 k.world.disk))
   -- "these being 1, 2, 3 and on"
   pub numbered : Numbered 0 k.ledger.durable
   -- "The kept are the first so many in force"

@@ -1,6 +1,9 @@
--- The laws of the checkpoint image: of the image rules (KeyLaws, Rules), of the layout in flat arrays (Pushing, Packing), of the readers (Readings,
--- TxReadings, HeadLaws) and writers (Sizes, Writings); round trip, soundness, that a slot on disk has bytes enough, that the encoding looks at the view
--- alone, worked cases.
+-- The laws of the checkpoint image. What a reader wants:
+-- RoundTrip: an image that was written is read as what was meant, whatever follows (`content-written`, `memory-written`, `image-restored`).
+-- Soundness: what is accepted keeps the rules and is the encoding of its answer (`decode-keeps`, `decode-sound`, `content-unique`).
+-- Sizes: an image takes at most 8,653 bytes (`image-small`). Enough: so a reading never fails for want of bytes (`never-short`).
+-- Rules: what the image rules say (`image-logend`, `image-ordered`, `image-count`, `image-distinct`, `outline-at`).
+-- EncodeView: the encoding looks at counters and view alone (`encode_same`). The others serve readers and writers; Cases are worked cases.
 pub mod Lists
 pub mod KeyLaws
 pub mod Rules

@@ -1,9 +1,11 @@
 -- The first groups of a disk's log, from none of them to all: in recovery's terms, from one number of groups to the next, and where restart
 -- takes over with step 4.
 use Prim.Native.Nat.{ℕ, suc, ◌+◌, ◌≤◌}
+use mathlib.Core.Bool.{true}
 use mathlib.Core.List.{List, []}
 use mathlib.Core.Path.{◌≡◌, sym, ap, ◌∙◌}
 use lib.ListN.{length, take, replicate}
+use Rattle.layout.specs.Parts.{disk_ok}
 use Rattle.recovery.specs.Group.{Group, groups_size, last_csn}
 use Rattle.recovery.specs.Replay.{undo_each, lay_bytes}
 use Rattle.recovery.specs.Restart.{forward}
@@ -18,7 +20,7 @@ use Rattle.disk.specs.Open.{open_of}
 use Rattle.disk.specs.Examine.{Meaning, steps_of, meant, examine_of}
 use Rattle.disk.specs.Restart.{recovered_state, restart_of}
 use Rattle.disk.proofs.Opened.{opened_rules}
-use Rattle.disk.proofs.Accepted.{image_in, memory_in, log_in, accepted_is}
+use Rattle.disk.proofs.Accepted.{image_in, area_in, memory_in, log_in, accepted_is}
 use Rattle.disk.proofs.Restarting.{Done?, done_inv, done_with}
 use Rattle.inspect.specs.Groups.{GroupsLeft, pass_of, applied_by, first_groups_of}
 use Rattle.inspect.proofs.Applying.{groups_open}
@@ -27,7 +29,7 @@ use Rattle.inspect.proofs.Applying.{groups_open}
 abbrev pub groups_in : List ℕ → List Group
 groups_in disk = groups_of (image_in disk) (log_in disk)
 
-module _ (disk memory : List ℕ) (d : length disk ≡ 33691) (m : length memory ≡ 4096) (e : (open_of disk).number ≡ 0) where
+module _ (disk memory : List ℕ) (d : disk_ok (length disk) ≡ true) (m : length memory ≡ 4096) (e : (open_of disk).number ≡ 0) where
   abbrev left : ℕ → GroupsLeft
   left k = first_groups_of disk memory k
 
@@ -83,8 +85,8 @@ taken_up disk memory m t allowed k all l r =
     let w = done_inv disk m t allowed r in
     let a = accepted_is disk w.number in
     let o = done_with disk m t allowed w in
-    let s : examine_of disk ≡ meant (image_in disk).logend (after_steps (image_in disk) (pass_of k (open_of disk)) (replicate 16384 0)) =
-    a.is ∙ ap (meant (image_in disk).logend) (steps_after disk k all) in
+    let s : examine_of disk ≡ meant (area_in disk) (image_in disk).logend (after_steps (image_in disk) (pass_of k (open_of disk)) (replicate 16384 0)) =
+    a.is ∙ ap (meant (area_in disk) (image_in disk).logend) (steps_after disk k all) in
     let g = groups_open disk memory k w.disk_length l a.opened in
     record {
       end = ap (λ (x : DiskOutcome). x.result.state.logend) o

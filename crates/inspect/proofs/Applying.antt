@@ -7,6 +7,7 @@ use mathlib.Core.Path.{◌≡◌, refl, sym, ap, ◌∙◌}
 use lib.ListN.{length}
 use lib.Dec.{eqb}
 use borrow.Author.Tests.{eq-eqb, ne_eqb}
+use Rattle.layout.specs.Parts.{disk_ok}
 use Rattle.image.specs.declared.Image.{Image}
 use Rattle.restart.specs.declared.forward.Pass.{Pass}
 use Rattle.restart.specs.Forward.{first_of}
@@ -26,23 +27,23 @@ module _ (disk memory : List ℕ) (k : ℕ) where
   abbrev refused_by1 : GroupsLeft
   refused_by1 = record { result = refused_groups 1; memory = memory }
 
-  pub groups_no_disk : (length disk ≡ 33691 → ⊥) → first_groups_of disk memory k ≡ refused_by1
+  pub groups_no_disk : disk_ok (length disk) ≡ false → first_groups_of disk memory k ≡ refused_by1
   unfolding first_groups_of
-  groups_no_disk n = rw (ne_eqb (length disk) 33691 n)
+  groups_no_disk n = rw n
 
   pub groups_no_memory : (length memory ≡ 4096 → ⊥) → first_groups_of disk memory k ≡ refused_by1
   unfolding first_groups_of
-  groups_no_memory n = rw (ne_eqb (length memory) 4096 n, and_no (eqb (length disk) 33691))
+  groups_no_memory n = rw (ne_eqb (length memory) 4096 n, and_no (disk_ok (length disk)))
 
-  module _ (d : length disk ≡ 33691) (m : length memory ≡ 4096) where
+  module _ (d : disk_ok (length disk) ≡ true) (m : length memory ≡ 4096) where
     pub groups_shut : ((open_of disk).number ≡ 0 → ⊥)
         → first_groups_of disk memory k ≡ record { result = refused_groups (open_of disk).number; memory = (open_of disk).memory }
     unfolding first_groups_of
-    groups_shut n = rw (eq-eqb (length disk) 33691 d, eq-eqb (length memory) 4096 m, ne_eqb (open_of disk).number 0 n)
+    groups_shut n = rw (d, eq-eqb (length memory) 4096 m, ne_eqb (open_of disk).number 0 n)
 
     pub groups_open : (open_of disk).number ≡ 0 → first_groups_of disk memory k ≡ applied_by (open_of disk).image.logend (pass_of k (open_of disk))
     unfolding first_groups_of
-    groups_open e = rw (eq-eqb (length disk) 33691 d, eq-eqb (length memory) 4096 m, eq-eqb (open_of disk).number 0 e)
+    groups_open e = rw (d, eq-eqb (length memory) 4096 m, eq-eqb (open_of disk).number 0 e)
 
 -- over however many groups, the pass stays within the log
 pub pass_within : (k : ℕ) (image : Image) (log m : List ℕ) {p : Pass} → p ≡ (first_of k image log m).pass → p.end ≤ length log

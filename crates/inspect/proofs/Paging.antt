@@ -1,12 +1,15 @@
 -- One page of a disk's pattern: by cases, and sixteen of them laid together.
 use Prim.Native.Nat.{ℕ, zero, suc, ◌+◌, ◌*◌, ◌-◌, ◌≤◌, ◌<◌}
 use native.Mathlib.Omega.{arith}
+use mathlib.Core.Bool.{true, false}
 use mathlib.Core.List.{List, [], ◌++◌}
 use mathlib.Core.Path.{◌≡◌, refl, sym, ap, ◌∙◌}
 use lib.ListN.{length, take, drop, replicate, length-drop, replicate-append-replicate}
 use lib.Seq.{sets, length-take-le, take-add, take_all}
 use lib.Dec.{eqb, leb}
 use borrow.Author.Tests.{eq-eqb, ne_eqb, le-leb, lt-leb}
+use Rattle.layout.specs.Parts.{disk_ok}
+use Rattle.layout.proofs.Forms.{disk_ok_lem}
 use Rattle.redolog.proofs.StoreLaws.{sets_all}
 use Rattle.store.specs.Answer.{Word, done, refused}
 use Rattle.store.specs.Stored.{DiskOutcome}
@@ -27,30 +30,30 @@ as_page e p q = (p ∙ sym (ap (λ (z : PageLeft). z.says) e), q ∙ sym (ap (λ
 -- ---- by cases
 
 module _ (disk buffer : List ℕ) (page : ℕ) where
-  pub page_no_disk : (length disk ≡ 33691 → ⊥) → page_of disk buffer page ≡ refused_page 1 buffer
+  pub page_no_disk : disk_ok (length disk) ≡ false → page_of disk buffer page ≡ refused_page 1 buffer
   unfolding page_of
-  page_no_disk n = rw (ne_eqb (length disk) 33691 n)
+  page_no_disk n = rw n
 
   pub page_no_buffer : (length buffer ≡ 256 → ⊥) → page_of disk buffer page ≡ refused_page 1 buffer
   unfolding page_of
-  page_no_buffer n = rw (ne_eqb (length buffer) 256 n, and_no (eqb (length disk) 33691))
+  page_no_buffer n = rw (ne_eqb (length buffer) 256 n, and_no (disk_ok (length disk)))
 
-  module _ (d : length disk ≡ 33691) (b : length buffer ≡ 256) where
+  module _ (d : disk_ok (length disk) ≡ true) (b : length buffer ≡ 256) where
     pub page_above : 16 ≤ page → page_of disk buffer page ≡ refused_page 17 buffer
     unfolding page_of
-    page_above h = rw (eq-eqb (length disk) 33691 d, eq-eqb (length buffer) 256 b, le-leb 16 page h)
+    page_above h = rw (d, eq-eqb (length buffer) 256 b, le-leb 16 page h)
 
     module _ (h : page < 16) where
       pub page_refused : ((examine_of disk).result.number ≡ 0 → ⊥)
           → page_of disk buffer page ≡ record { says = refused (examine_of disk).result.number; buffer = replicate 256 0 }
       unfolding page_of
       page_refused n =
-          rw (eq-eqb (length disk) 33691 d, eq-eqb (length buffer) 256 b, lt-leb 16 page h, ne_eqb (examine_of disk).result.number 0 n)
+          rw (d, eq-eqb (length buffer) 256 b, lt-leb 16 page h, ne_eqb (examine_of disk).result.number 0 n)
 
       pub page_done : (examine_of disk).result.number ≡ 0 → page_of disk buffer page ≡ record { says = done; buffer = page_in page (examine_of disk).memory }
       unfolding page_of
       page_done e =
-          rw (eq-eqb (length disk) 33691 d, eq-eqb (length buffer) 256 b, lt-leb 16 page h, eq-eqb (examine_of disk).result.number 0 e)
+          rw (d, eq-eqb (length buffer) 256 b, lt-leb 16 page h, eq-eqb (examine_of disk).result.number 0 e)
 
 -- ---- a page as it is lent, copied over a whole buffer
 
@@ -85,7 +88,7 @@ laid_zeros f k h =
     ∙ ap (λ (j : ℕ). replicate j 0) (page_end n))
 
 -- of a disk of its length, into whatever buffers of theirs
-module _ (disk m t : List ℕ) (lent : ℕ → List ℕ) (allowed : ℕ) (d : length disk ≡ 33691) (u : length m ≡ 4096) (v : length t ≡ 16384)
+module _ (disk m t : List ℕ) (lent : ℕ → List ℕ) (allowed : ℕ) (d : disk_ok (length disk) ≡ true) (u : length m ≡ 4096) (v : length t ≡ 16384)
     (l : (n : ℕ) → length (lent n) ≡ 256) where
   abbrev page_at : ℕ → PageLeft
   page_at n = page_of disk (lent n) n
@@ -98,7 +101,7 @@ module _ (disk m t : List ℕ) (lent : ℕ → List ℕ) (allowed : ℕ) (d : le
       record {
         says = λ n h. ap (λ (x : PageLeft). x.says) (page n h) ∙ sym (ap (λ (o : DiskOutcome). o.result.says) r);
         memory = laid_front (λ n. (page_at n).buffer) memory 16 (λ n h. ap (λ (x : PageLeft). x.buffer) (page n h))
-            ∙ take_all 4096 memory (omega (arith, memory_length disk d (accepted_is disk e)))
+            ∙ take_all 4096 memory (omega (arith, memory_length disk (disk_ok_lem (length disk) d) (accepted_is disk e)))
             ∙ sym (ap (λ (o : DiskOutcome). o.memory) r);
       }
 

@@ -10,6 +10,9 @@ use lib.ListN.{length, get_or, set, drop, replicate, drop_of_length-le, length-s
 use lib.Seq.{drop-cons, drop-drop, get_or-set_same, get_or-set_other, ext_get_or}
 use lib.Dec.{eqb, ltb}
 use borrow.Author.Tests.{eq-eqb, ne_eqb, eqb-true, eqb-false, lt-ltb, le-ltb, ltb-true, ltb-false}
+use Rattle.layout.specs.Parts.{form_of, length_by, HasForm, disk_ok}
+use Rattle.layout.specs.declared.Form.{Form}
+use Rattle.layout.specs.declared.Form.TheVariants.{One, Two}
 use Rattle.recovery.specs.Group.{Group, group_size}
 use Rattle.recovery.specs.Lists.{or_else}
 use Rattle.recovery.specs.Restart.{group_id}
@@ -274,24 +277,32 @@ module _ (ids log : List ℕ) (w : Walk) (out : List ℕ) where
 
 -- ---- the call by cases
 
+shortest : (form : Form) → 33691 ≤ length_by form
+shortest One = omega arith
+shortest Two = omega arith
+
+-- form one's log lies within a disk of either form
+pub log_inside : (disk : List ℕ) → HasForm disk → 33691 ≤ length disk
+log_inside disk d = let l = shortest (form_of disk) in omega (arith, l, d)
+
 -- what was told and left is what a definition has, if it is what an equal one has
 pub as_outcomes : {x y : OutcomesLeft} {r : WalkTold} {o : List ℕ} → x ≡ y → r ≡ y.result → o ≡ y.outcomes → (r ≡ x.result) × (o ≡ x.outcomes)
 as_outcomes e p q = (p ∙ sym (ap (λ (z : OutcomesLeft). z.result) e), q ∙ sym (ap (λ (z : OutcomesLeft). z.outcomes) e))
 
 module _ (disk ids out : List ℕ) where
-  pub outcomes_no_disk : (length disk ≡ 33691 → ⊥) → outcomes_of disk ids out ≡ refused_outcomes 1 out
+  pub outcomes_no_disk : disk_ok (length disk) ≡ false → outcomes_of disk ids out ≡ refused_outcomes 1 out
   unfolding outcomes_of
-  outcomes_no_disk n = rw (ne_eqb (length disk) 33691 n)
+  outcomes_no_disk n = rw n
 
-  module _ (d : length disk ≡ 33691) where
+  module _ (d : disk_ok (length disk) ≡ true) where
     pub outcomes_unequal : (length ids ≡ length out → ⊥) → outcomes_of disk ids out ≡ refused_outcomes 20 out
     unfolding outcomes_of
-    outcomes_unequal n = rw (eq-eqb (length disk) 33691 d, ne_eqb (length ids) (length out) n)
+    outcomes_unequal n = rw (d, ne_eqb (length ids) (length out) n)
 
     pub outcomes_unsorted : rising ids ≡ false → outcomes_of disk ids out ≡ refused_outcomes 20 out
     unfolding outcomes_of
-    outcomes_unsorted r = rw (eq-eqb (length disk) 33691 d, r, and_no (eqb (length ids) (length out)))
+    outcomes_unsorted r = rw (d, r, and_no (eqb (length ids) (length out)))
 
     pub outcomes_done : length ids ≡ length out → rising ids ≡ true → outcomes_of disk ids out ≡ walked_log (groups_on disk) ids
     unfolding outcomes_of
-    outcomes_done l r = rw (eq-eqb (length disk) 33691 d, eq-eqb (length ids) (length out) l, r)
+    outcomes_done l r = rw (d, eq-eqb (length ids) (length out) l, r)

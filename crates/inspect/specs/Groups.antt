@@ -1,7 +1,8 @@
 -- "given disk, memory and a number of groups, it leaves the memory as it is after step 3's first so many groups, or all if fewer, and tells the
 -- log end and last commit number reached; 1, 3 and 4 as at restart" (document 02, A.3).
 use Rattle.std.specs.Prelude.{ℕ, ◌+◌, cond, ◌&&◌, List, length, eqb}
-use Rattle.layout.specs.{memory_len, disk_len}
+use Rattle.layout.specs.{memory_len}
+use Rattle.layout.specs.Parts.{disk_ok}
 use Rattle.restart.specs.Forward.{Went, first_of}
 use Rattle.store.specs.Answer.{Word, done, refused, word}
 use Rattle.disk.specs.Open.{OpenedDisk, open_of}
@@ -41,4 +42,4 @@ of_opened k o =
 -- 1: "a lent buffer hasn't its length"
 unfoldable pub first_groups_of : List ℕ → List ℕ → ℕ → GroupsLeft
 first_groups_of disk memory k =
-    cond (eqb (length disk) disk_len && eqb (length memory) memory_len) (of_opened k (open_of disk)) (record { result = refused_groups 1; memory = memory })
+    cond (disk_ok (length disk) && eqb (length memory) memory_len) (of_opened k (open_of disk)) (record { result = refused_groups 1; memory = memory })

@@ -3,8 +3,7 @@
 -- the log. If an id has several groups, its last counts." (document 02, A.8)
 use Rattle.std.specs.Prelude.{ℕ, Bool, true, cond, ◌&&◌, List, [], ◌∷◌, map, length, eqb, ltb}
 use Rattle.std.proofs.Math.Option.{Option, none, some}
-use Rattle.layout.specs.{disk_len}
-use Rattle.layout.specs.Parts.{log_part}
+use Rattle.layout.specs.Parts.{disk_ok, log_part}
 use Rattle.recovery.specs.Group.{Group, committed, aborted}
 use Rattle.recovery.specs.Lists.{or_else}
 use Rattle.recovery.specs.Restart.{group_id}
@@ -64,7 +63,7 @@ refused_outcomes n out = record { result = refused_walk n; outcomes = out }
 
 -- the log's groups, from its first byte on, whatever pointer byte and images hold
 abbrev pub groups_on : List ℕ → List Group
-groups_on disk = read_log 0 (log_part disk)
+groups_on disk = read_log 0 (log_part 0 disk)
 
 abbrev pub walked_log : List Group → List ℕ → OutcomesLeft
 walked_log gs ids = record { result = record { says = done; groups = length gs }; outcomes = map (last_outcome gs) ids }
@@ -72,6 +71,6 @@ walked_log gs ids = record { result = record { says = done; groups = length gs }
 -- 1: the disk hasn't its length. "20, list not strictly rising, or lengths unequal, checked after 1"
 unfoldable pub outcomes_of : List ℕ → List ℕ → List ℕ → OutcomesLeft
 outcomes_of disk ids out =
-    cond (eqb (length disk) disk_len)
+    cond (disk_ok (length disk))
     (cond (eqb (length ids) (length out) && rising ids) (walked_log (groups_on disk) ids) (refused_outcomes 20 out))
     (refused_outcomes 1 out)

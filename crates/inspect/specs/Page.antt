@@ -1,7 +1,8 @@
 -- "Given a disk, a lent buffer of 256 bytes and a drawer number, fill the buffer with that drawer as restart, given stores enough, would leave
 -- it, storing nothing on disk" (document 02, A.6). A drawer is a page here: "16 drawers of 256 bytes" (A.5).
-use Rattle.std.specs.Prelude.{ℕ, zero, suc, ◌*◌, ◌<◌, cond, ◌&&◌, List, [], ◌++◌, ◌≡◌, length, take, drop, replicate, eqb, leb}
-use Rattle.layout.specs.{memory_len, tail_len, disk_len, page_len, pages}
+use Rattle.std.specs.Prelude.{ℕ, zero, suc, ◌*◌, ◌<◌, true, cond, ◌&&◌, List, [], ◌++◌, ◌≡◌, length, take, drop, replicate, eqb, leb}
+use Rattle.layout.specs.{memory_len, tail_len, page_len, pages}
+use Rattle.layout.specs.Parts.{disk_ok}
 use Rattle.store.specs.Answer.{Word, done, refused}
 use Rattle.store.specs.Stored.{DiskOutcome}
 use Rattle.disk.specs.Examine.{Meaning, examine_of}
@@ -30,7 +31,7 @@ refused_page n buffer = record { says = refused n; buffer = buffer }
 -- 1: "a lent buffer hasn't its length". "17, drawer above 15, checked after 1"
 unfoldable pub page_of : List ℕ → List ℕ → ℕ → PageLeft
 page_of disk buffer page =
-    cond (eqb (length disk) disk_len && eqb (length buffer) page_len) (cond (leb pages page) (refused_page 17 buffer) (page_meant page (examine_of disk)))
+    cond (disk_ok (length disk) && eqb (length buffer) page_len) (cond (leb pages page) (refused_page 17 buffer) (page_meant page (examine_of disk)))
     (refused_page 1 buffer)
 
 -- the first n of these, laid together
@@ -49,5 +50,5 @@ pub record LikeRestart (disk : List ℕ) (lent : ℕ → List ℕ) (o : DiskOutc
 
 -- "For every disk", whatever the buffers hold, and a restart "given stores enough"
 abbrev pub PagesLikeRestart : Type 0
-PagesLikeRestart = (disk memory tail : List ℕ) (lent : ℕ → List ℕ) (allowed : ℕ) → length disk ≡ disk_len → length memory ≡ memory_len → length tail ≡ tail_len
+PagesLikeRestart = (disk memory tail : List ℕ) (lent : ℕ → List ℕ) (allowed : ℕ) → disk_ok (length disk) ≡ true → length memory ≡ memory_len → length tail ≡ tail_len
     → ((page : ℕ) → length (lent page) ≡ page_len) → Enough allowed disk → LikeRestart disk lent (restart_of disk memory tail allowed)

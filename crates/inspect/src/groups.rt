@@ -3,7 +3,8 @@ ghost use Rattle.std.specs.Prelude.{◌≡◌};
 ghost use Rattle.inspect.specs.Groups.{of_applied, refused_groups, first_groups_of};
 
 use disk::open::open;
-use layout::{DISK_LEN, IMAGE_LEN, MEMORY_LEN, TXS_START};
+use layout::geometry::disk_ok;
+use layout::{IMAGE_LEN, MEMORY_LEN, TXS_START};
 use redolog::Csn;
 use restart::forward::forward;
 use store::Answer;
@@ -31,7 +32,7 @@ pub fn first_groups(disk: &[u8], memory: &mut [u8], groups: usize) -> Applied
     ensures result_value { of_applied result ≡ (first_groups_of disk.now memory.old groups).result }
     ensures memory_after { memory.new ≡ (first_groups_of disk.now memory.old groups).memory }
 {
-    if disk.len() != DISK_LEN {
+    if !disk_ok(disk.len()) {
         return refused(1);
     }
     if memory.len() != MEMORY_LEN {

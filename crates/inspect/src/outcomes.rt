@@ -4,7 +4,8 @@ ghost use Rattle.redolog.specs.Log.{read_log_with};
 ghost use Rattle.inspect.specs.Outcomes.{rising, of_walked, refused_walk, outcomes_of};
 ghost use Rattle.inspect.specs.Walk.{FoundAs, noted_in, group_noted, walk_step, walked_over};
 
-use layout::{DISK_LEN, LOG_LEN, LOG_START};
+use layout::geometry::disk_ok;
+use layout::{LOG_LEN, LOG_START};
 use redolog::TxId;
 use redolog::group::{GroupEnd, read_next};
 use redolog::stores::fill_zero;
@@ -157,7 +158,7 @@ pub fn outcomes(disk: &[u8], ids: &[u16], out: &mut [u8]) -> Walked
     ensures result_value { of_walked result ≡ (outcomes_of disk.now ids.now out.old).result }
     ensures out_after { out.new ≡ (outcomes_of disk.now ids.now out.old).outcomes }
 {
-    if disk.len() != DISK_LEN {
+    if !disk_ok(disk.len()) {
         return refused(1);
     }
     if ids.len() != out.len() {

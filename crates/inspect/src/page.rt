@@ -4,7 +4,8 @@ ghost use Rattle.store.specs.Answer.{word};
 ghost use Rattle.inspect.specs.Page.{page_of};
 
 use disk::examine::judge;
-use layout::{DISK_LEN, MEMORY_LEN, PAGE_LEN, PAGES};
+use layout::geometry::disk_ok;
+use layout::{MEMORY_LEN, PAGE_LEN, PAGES};
 use redolog::stores::{copy, fill_zero};
 use store::Answer;
 
@@ -13,7 +14,7 @@ pub fn read_page(disk: &[u8], buffer: &mut [u8], page: usize) -> Answer
     ensures result_value { word result ≡ (page_of disk.now buffer.old page).says }
     ensures buffer_after { buffer.new ≡ (page_of disk.now buffer.old page).buffer }
 {
-    if disk.len() != DISK_LEN {
+    if !disk_ok(disk.len()) {
         return Answer::Refused(1);
     }
     if buffer.len() != PAGE_LEN {

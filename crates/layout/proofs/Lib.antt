@@ -1,2 +1,3 @@
--- The laws of a disk's forms.
+-- Laws of a disk's forms and parts. Forms: `disk-ok`, a length that passes number 1 is its form's. Places: where the parts stand.
 pub mod Forms
+pub mod Places

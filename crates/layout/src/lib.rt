@@ -1,4 +1,5 @@
 // Sizes, offsets, counts and statuses of documents 01 and 02, each said once. The same numbers for the definitions: specs/Lib.antt.
+pub mod geometry;
 
 // The buffers that are lent.
 pub const MEMORY_LEN: usize = 4096;

@@ -11,7 +11,7 @@ use lib.Dec.{eqb, ltb}
 use borrow.Author.Tests.{eqb-true, eqb-false, ne_eqb, ltb-true, ltb-false}
 use types.Run.{OneOf}
 use denote.Enum.Declared.{tag_of}
-use Rattle.layout.specs.Parts.{pointer_of}
+use Rattle.layout.specs.Parts.{disk_ok, pointer_of}
 use Rattle.redolog.proofs.Basics.{clash}
 use Rattle.store.specs.contracts.Answer.{the_type}
 use Rattle.store.specs.declared.Answer.{Answer}
@@ -41,7 +41,7 @@ result : {x y : DiskOutcome} → x ≡ y → x.result ≡ y.result
 result e = ap (λ (o : DiskOutcome). o.result) e
 
 pub ending : (disk : List ℕ) → Ending disk
-ending disk = go (eqb (length disk) 33691) (eqb (examine_of disk).result.number 0) refl refl
+ending disk = go (disk_ok (length disk)) (eqb (examine_of disk).result.number 0) refl refl
   where
     m : length memory ≡ 4096
     m = length-replicate {A = ℕ} 4096 0
@@ -49,12 +49,12 @@ ending disk = go (eqb (length disk) 33691) (eqb (examine_of disk).result.number 
     t : length tail ≡ 16384
     t = length-replicate {A = ℕ} 16384 0
 
-    go : (a b : Bool) → eqb (length disk) 33691 ≡ a → eqb (examine_of disk).result.number 0 ≡ b → Ending disk
+    go : (a b : Bool) → disk_ok (length disk) ≡ a → eqb (examine_of disk).result.number 0 ≡ b → Ending disk
     go false b p q = refused 1 (result (restart_1 disk memory tail 16384 (rw p)))
     go true false p q =
-        refused _ (result (restart_refused disk memory tail 16384 (eqb-true (length disk) 33691 p) m t (eqb-false (examine_of disk).result.number 0 q)))
+        refused _ (result (restart_refused disk memory tail 16384 p m t (eqb-false (examine_of disk).result.number 0 q)))
     go true true p q =
-        done (restart_done disk memory tail 16384 (eqb-true (length disk) 33691 p) m t (eqb-true (examine_of disk).result.number 0 q) (omega arith))
+        done (restart_done disk memory tail 16384 p m t (eqb-true (examine_of disk).result.number 0 q) (omega arith))
 
 -- 16,384 stores are enough for any disk
 pub uncut : (disk : List ℕ) → (restart_whole disk).result.says ≡ cut → ⊥
@@ -108,9 +108,14 @@ printed {out = out} {r} e l = subst (λ (text : List ℕ). Printed text r out) e
 -- ---- an input of any length, read into a buffer
 
 -- a wrong length is number 1
-listing_1 : (disk : List ℕ) → (length disk ≡ 33691 → ⊥) → listing_of disk ≡ refused_text 1
+listing_1 : (disk : List ℕ) → disk_ok (length disk) ≡ false → listing_of disk ≡ refused_text 1
 unfolding listing_of restart_of
-listing_1 disk l = rw (ne_eqb (length disk) 33691 l)
+listing_1 disk l = rw l
+
+-- no disk has more than 33,691 bytes
+too_long : (n : ℕ) → 33691 < n → disk_ok n ≡ false
+unfolding disk_ok
+too_long n h = ne_eqb n 33691 (λ e. omega (arith, e, h))
 
 -- 33,692 bytes of an input tell as much as all of them
 front_tells : (whole : List ℕ) → listing_of (take 33692 whole) ≡ listing_of whole
@@ -120,7 +125,9 @@ front_tells whole = go (ltb 33692 (length whole)) refl
     go false p = ap listing_of (take_all 33692 whole (ltb-false 33692 (length whole) p))
     go true p =
         let longer : 33692 < length whole = ltb-true 33692 (length whole) p in
-        listing_1 (take 33692 whole) (λ e. omega (arith, e, longer, length-take 33692 whole)) ∙ sym (listing_1 whole (λ e. omega (arith, e, longer)))
+        let front = length-take 33692 whole in
+        listing_1 (take 33692 whole) (too_long (length (take 33692 whole)) (omega (arith, front, longer)))
+        ∙ sym (listing_1 whole (too_long (length whole) (omega (arith, longer))))
 
 pub read_tells : (buffer : List ℕ) (count : ℕ) (whole : List ℕ) → length buffer ≡ 33692 → take count buffer ≡ take (length buffer) whole
     → listing_of (take count buffer) ≡ listing_of whole

@@ -1,9 +1,10 @@
 -- Texts at their limits. Document 01's text of M1's disk is a row of history's table (history, specs/Cases.antt).
 use Prim.Native.Nat.{ℕ}
+use mathlib.Core.Bool.{false}
 use mathlib.Core.List.{List, ◌++◌}
 use mathlib.Core.Path.{◌≡◌, refl}
 use lib.ListN.{length}
-use borrow.Author.Tests.{ne_eqb}
+use Rattle.layout.specs.Parts.{disk_ok}
 use Rattle.redolog.specs.declared.stop.Stop.TheVariants.{Full}
 use Rattle.disk.specs.declared.call.Stopped.TheVariants.{At}
 use Rattle.disk.specs.Restart.{restart_of}
@@ -18,6 +19,6 @@ unfolding found_text stop_line line decimal
 longest = refl
 
 -- "a wrong input length is 1"
-wrong_length : (disk : List ℕ) → (length disk ≡ 33691 → ⊥) → listing_of disk ≡ ascii "refused=1\n"
+wrong_length : (disk : List ℕ) → disk_ok (length disk) ≡ false → listing_of disk ≡ ascii "refused=1\n"
 unfolding listing_of restart_of refused_text line decimal
-wrong_length disk h = rw (ne_eqb (length disk) 33691 h)
+wrong_length disk h = rw h

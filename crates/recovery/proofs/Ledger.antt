@@ -125,7 +125,7 @@ latest_in i (c ∷ cs) b e = go (latest i cs) refl (eqb i c.id) refl e (λ f. la
     go none p true q e' f = let same : b ≡ c = cc in (mathlib.Core.List.Memᴰ.head same, ap (λ (x : Commit). x.id) same ∙ sym (eqb-true i c.id q))
     go none p false q e' f = absurd (some_none e' refl)
 
-all_member : {p : Commit → Type 0} {b : Commit} {cs : List Commit} → All p cs → Memᴰ b cs → p b
+pub all_member : {p : Commit → Type 0} {b : Commit} {cs : List Commit} → All p cs → Memᴰ b cs → p b
 all_member {p} (cons h hs) (mathlib.Core.List.Memᴰ.head e) = subst p (sym e) h
 all_member (cons h hs) (mathlib.Core.List.Memᴰ.tail m) = all_member hs m
 

@@ -83,6 +83,11 @@ checkpoint_stands d l e = form_one (after_checkpoint d l) e ∙ ap (λ (hs : Lis
 pub checkpoint_number : (o : Opening) (d : Disk) (l : Live) → d.form ≡ One → number_before o (after_checkpoint d l) ≡ number_before o d
 checkpoint_number o d l e = number_one o (after_checkpoint d l) e ∙ sym (number_one o d e)
 
+-- form two: nothing stands before it
+pub checkpoint_empties : (d : Disk) (l : Live) → d.form ≡ Two → standing_before (after_checkpoint d l) ≡ []
+unfolding standing_before
+checkpoint_empties d l e = ap (λ (form : Form). standing_if form (history_of d)) e
+
 -- either form: it takes no more room than before
 pub checkpoint_room : (d : Disk) (l : Live) → groups_size (standing_before (after_checkpoint d l)) ≤ groups_size (standing_in d)
 unfolding standing_before

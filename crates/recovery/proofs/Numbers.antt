@@ -1,8 +1,9 @@
 -- Commit numbers along a log: each is the previous one plus 1.
 use mathlib.Core.Path.{◌≡◌, sym, ap, ◌∙◌, subst}
 use mathlib.Core.List.{List, [], ◌∷◌, ◌++◌}
-use Prim.Native.Nat.{ℕ, suc, ◌≤◌, ◌<◌}
+use Prim.Native.Nat.{ℕ, suc, ◌+◌, ◌≤◌, ◌<◌}
 use native.Mathlib.Omega.{arith}
+use lib.ListN.{length}
 use Rattle.recovery.specs.Group.{Write, Group, committed, aborted, last_csn}
 use Rattle.recovery.specs.Lists.{All, nil, cons}
 use Rattle.recovery.specs.Transaction.{Tx}
@@ -27,10 +28,23 @@ consecutive_right [] c = c
 consecutive_right (aborted i ∷ gs) (consecutive_abort c) = consecutive_right gs c
 consecutive_right (committed i m ws ∷ gs) (consecutive_commit e c) = consecutive_right gs c
 
+pub consecutive_left : {n : ℕ} (gs hs : List Group) → Consecutive n (gs ++ hs) → Consecutive n gs
+consecutive_left [] hs c = consecutive_nil
+consecutive_left (aborted i ∷ gs) hs (consecutive_abort c) = consecutive_abort (consecutive_left gs hs c)
+consecutive_left (committed i m ws ∷ gs) hs (consecutive_commit e c) = consecutive_commit e (consecutive_left gs hs c)
+
 pub consecutive_grows : {n : ℕ} {gs : List Group} → Consecutive n gs → n ≤ last_csn n gs
 consecutive_grows consecutive_nil = omega arith
 consecutive_grows (consecutive_abort c) = consecutive_grows c
 consecutive_grows (consecutive_commit {n} {m} {gs} e c) = let h : m ≤ last_csn m gs = consecutive_grows c in omega arith
+
+-- the last number counts the commits
+pub consecutive_counts : {n : ℕ} {gs : List Group} → Consecutive n gs → last_csn n gs ≡ n + length (commits gs)
+consecutive_counts {n} consecutive_nil = omega arith
+consecutive_counts (consecutive_abort c) = consecutive_counts c
+consecutive_counts (consecutive_commit {n} {m} {gs} e c) =
+    let h : last_csn m gs ≡ m + length (commits gs) = consecutive_counts c in
+    omega (arith, h, e)
 
 pub consecutive_tied : {n : ℕ} {T : List Group} {cs : List Tx} → Tied n T cs → Consecutive n T
 consecutive_tied tied_nil = consecutive_nil

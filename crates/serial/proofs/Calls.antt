@@ -25,7 +25,7 @@ use Rattle.disk.specs.Restart.{restart_plan, refused_with, of_meaning, restart_o
 use Rattle.history.specs.Calls.{Call, begin, write, read_answer, savepoint, go_back, precommit, abort, flush, settle, checkpoint, restart, World, Stepped, returned, changed, stored, step_of}
 use Rattle.serial.specs.Ledger.{LedgerWithReads, without_reads, feed}
 use Rattle.serial.specs.Demand.{fed_of}
-use Rattle.serial.proofs.Holding.{ReadsHeld, none_held, begun_held, wrote_held, answered_held, savepointed_held, went_back_held, precommitted_held, aborted_held, settled_held, flushed_held}
+use Rattle.serial.proofs.Holding.{ReadsHeld, none_held, begun_held, wrote_held, answered_held, savepointed_held, went_back_held, precommitted_held, aborted_held, settled_held, flushed_held, switched_held}
 
 module _ (w : World) (k : LedgerWithReads) where
   abbrev s : State
@@ -136,7 +136,7 @@ module _ (w : World) (k : LedgerWithReads) where
 
     pub checkpoint_held : (a : ℕ) → HeldAfter (checkpoint a) (step_of (checkpoint a) w)
     unfolding step_of checkpoint_of
-    checkpoint_held a = stored_held (checkpoint a) (checkpoint_plan s w.disk m t) a h h
+    checkpoint_held a = stored_held (checkpoint a) (checkpoint_plan s w.disk m t) a (λ e. switched_held s k.active (h e)) h
 
   -- a restart leaves no open transaction, or the unrecovered state
   pub restart_held : (a : ℕ) → HeldAfter (restart a) (step_of (restart a) w)

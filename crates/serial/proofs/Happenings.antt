@@ -1,5 +1,5 @@
 -- Document 02, A.4, for the calls themselves: what happens to a store keeps a run of the machine with reads, and so the claim holds (`reads-serial`).
-use Prim.Native.Nat.{ℕ, ◌+◌}
+use Prim.Native.Nat.{ℕ}
 use native.Mathlib.Omega.{arith}
 use mathlib.Core.Logic.{◌≢◌}
 use mathlib.Core.Bool.{Bool, true, false}
@@ -7,6 +7,8 @@ use mathlib.Core.List.{List, [], ◌∷◌, ◌++◌, cons≢nil}
 use mathlib.Core.Path.{◌≡◌, refl, sym, ap, ap₂, ◌∙◌, subst}
 use lib.ListN.{length, take, drop, replicate, length-drop}
 use lib.Seq.{length-take-le}
+use Rattle.layout.specs.declared.Form.{Form}
+use Rattle.layout.specs.declared.Form.TheVariants.{One}
 use Rattle.recovery.specs.Lists.{All, any}
 use Rattle.recovery.specs.Transaction.{Tx as Transaction, lookup, held_by_other}
 use Rattle.recovery.specs.Ledger.{Event, Ledger, enter}
@@ -18,7 +20,7 @@ use Rattle.transaction.specs.View.{used_by, view_of}
 use Rattle.transaction.specs.Rules.{reading, held_against, covered}
 use Rattle.store.specs.declared.State.{State}
 use Rattle.store.specs.Answer.{done, cut, refused}
-use Rattle.store.specs.State.{unrecovered, txs_of}
+use Rattle.store.specs.State.{txs_of}
 use Rattle.store.specs.Numbers.{tx_of}
 use Rattle.store.specs.Calls.{Outcome, write_number, read_number, read_of}
 use Rattle.store.proofs.Passing.{ReadPassed, read_passed, write_passed}
@@ -27,14 +29,16 @@ use Rattle.store.proofs.Premises.{held_view}
 use Rattle.store.proofs.Stepping.{SizedState, same_or_other}
 use Rattle.store.proofs.Apart.{unrecovered_holds}
 use Rattle.store.proofs.Views.{listed_view}
+use Rattle.disk.proofs.Accepted.{memory_in}
 use Rattle.history.specs.Calls.{Call, begin, write, read, read_answer, savepoint, go_back, precommit, abort, flush, settle, checkpoint, restart, Reply, told, part, World, changed, step_of}
 use Rattle.history.specs.Demand.{done_event, event_of, Happening, called, power_fails, happen, happen_all}
-use Rattle.history.proofs.OnDisk.{Start, opens, OnDisk, fresh, fresh_shows}
+use Rattle.history.proofs.OnDisk.{Start, opens, OnDisk}
+use Rattle.history.proofs.Openings.{opened_on, Opens, start_of, opens_shows, zeros_memory, fresh_opens}
 use Rattle.history.proofs.Shows.{LiveOn, Resting, Beside, awake, rests, Shows}
 use Rattle.history.proofs.Theorem.{follows}
 use Rattle.serial.specs.Ledger.{OpenWithReads, CommitWithReads, LedgerWithReads, no_reads, without_reads, stamps_of, Fed, event, saw, told_of, feed}
 use Rattle.serial.specs.Claim.{OnlyOpen}
-use Rattle.serial.specs.Demand.{fed_of, fed_by, WatchedReads, watched, happen_read, happen_reads, opening_reads, ReadsOrdered, ReadsSerial}
+use Rattle.serial.specs.Demand.{fed_of, fed_by, WatchedReads, watched, happen_read, happen_reads, ReadsOrdered, ReadsSerial}
 use Rattle.serial.proofs.Plain.{without_reads_lem}
 use Rattle.serial.proofs.Run.{Unread, ReadStep, steps, reads, ReadRun, opened, next, plain_run}
 use Rattle.serial.proofs.Seeing.{reader_open}
@@ -42,6 +46,10 @@ use Rattle.serial.proofs.Theorem.{read_theorem, SoFar, read_so_far}
 use Rattle.serial.proofs.Stamps.{Stamped, stamped_feed, Lost, lost_stays, lost_unread}
 use Rattle.serial.proofs.Holding.{ReadsHeld, unrecovered_no, none_held, wrote_unread, seen_held}
 use Rattle.serial.proofs.Calls.{HeldAfter, begin_held, write_held, answer_held, savepoint_held, go_back_held, precommit_held, abort_held, settle_held, flush_held, checkpoint_held, restart_held}
+
+-- a store before its first call, with an empty ledger that starts from a memory
+abbrev pub opened_reads : List ℕ → List ℕ → List ℕ → List ℕ → WatchedReads
+opened_reads start disk memory tail = record { world = (opened_on start disk memory tail).world; ledger = no_reads start }
 
 -- ---- what is fed
 
@@ -289,10 +297,9 @@ module _ (from : Start) where
 
   -- whatever happens to a store whose disk shows the opening one, and whatever memory and tail hold at first
   pub reads_reached : (disk memory tail : List ℕ) → OnDisk from disk (opening_disk (opens from)) → length memory ≡ 4096 → length tail ≡ 16384
-      → (hs : List Happening)
-      → ReadReached (happen_reads hs (record { world = record { disk = disk; memory = memory; tail = tail; state = unrecovered }; ledger = no_reads from.memory }))
+      → (hs : List Happening) → ReadReached (happen_reads hs (opened_reads from.memory disk memory tail))
   reads_reached disk memory tail o lm lt hs =
-      reads_happen hs (record { world = record { disk = disk; memory = memory; tail = tail; state = unrecovered }; ledger = no_reads from.memory })
+      reads_happen hs (opened_reads from.memory disk memory tail)
       (record {
         system = down (opening_disk (opens from));
         run = opened;
@@ -319,7 +326,15 @@ module _ (from : Start) where
   lost_reader n k r lost hs =
       lost_unread from.memory n (happen_reads hs k).ledger (reads_ordered (happen_reads hs k) (reads_happen hs k r)).serial (lost_happen n hs k lost)
 
--- document 02, A.4
+-- whatever disk opens the history
+pub reads_serial_from : (form : Form) (disk : List ℕ) → Opens form disk → (memory tail : List ℕ) → length memory ≡ 4096 → length tail ≡ 16384
+    → (hs : List Happening) → ReadsOrdered (memory_in disk) (happen_reads hs (opened_reads (memory_in disk) disk memory tail))
+reads_serial_from form disk x memory tail lm lt hs =
+    let from = start_of form disk x in
+    reads_ordered from (happen_reads hs (opened_reads (memory_in disk) disk memory tail)) (reads_reached from disk memory tail (opens_shows form disk x) lm lt hs)
+
+-- document 02, A.4, of an all-zero disk of form one
 pub reads_serial : ReadsSerial
 reads_serial memory tail lm lt hs =
-    reads_ordered fresh (happen_reads hs (opening_reads memory tail)) (reads_reached fresh (replicate 33691 0) memory tail fresh_shows lm lt hs)
+    subst (λ (m : List ℕ). ReadsOrdered m (happen_reads hs (opened_reads m (replicate 33691 0) memory tail))) (zeros_memory One)
+    (reads_serial_from One (replicate 33691 0) fresh_opens memory tail lm lt hs)

@@ -26,6 +26,7 @@ use Rattle.store.specs.Numbers.{tx_of}
 use Rattle.store.specs.Steps.{begun_state, written_state, read_state, savepoint_state, went_back_state, precommitted_state, dropped_state}
 use Rattle.store.specs.Calls.{begin_number, write_number, answer_number, savepoint_number, go_back_number, precommit_number, abort_number, settle_number}
 use Rattle.store.specs.Flush.{flushed_state}
+use Rattle.store.specs.Checkpoint.{switched_state}
 use Rattle.store.proofs.Passing.{ReadPassed, begin_passed, write_passed, answer_passed, savepoint_passed, go_back_passed, precommit_passed, abort_passed, settle_passed}
 use Rattle.store.proofs.Positions.{Changed}
 use Rattle.store.proofs.Views.{writable}
@@ -59,6 +60,10 @@ keep f h = all_map (λ x p. all_map (λ q k a c. f x.tx.id a (k a c)) p) h
 -- a flush leaves the transactions
 pub flushed_held : (s : State) (t : List ℕ) (ss : List OpenWithReads) (q : ℕ) → All (HoldsReads s) ss → All (HoldsReads (flushed_state s t q)) ss
 flushed_held s t ss q h = keep (λ id a x. record { slot = x.slot; listed = x.listed; named = x.named; running = x.running; used = x.used }) h
+
+-- so does a checkpoint
+pub switched_held : (s : State) (ss : List OpenWithReads) → All (HoldsReads s) ss → All (HoldsReads (switched_state s)) ss
+switched_held s ss h = keep (λ id a x. record { slot = x.slot; listed = x.listed; named = x.named; running = x.running; used = x.used }) h
 
 module _ (s : State) (m t : List ℕ) (z : SizedState s) (ss : List OpenWithReads) (h : All (HoldsReads s) ss) where
   pub begun_held : begin_number s m t ≡ 0 → (i : ℕ) → All (HoldsReads (begun_state s)) (ss ++ (record { tx = record { id = i; writes = []; savepoints = [] }; reads = [] } ∷ []))

@@ -1,7 +1,11 @@
--- The laws of the ledger with reads. Worked cases of the ledger and of the calls (Cases, Worked); without its reads it is the ledger (Plain); reads against the
--- order (Laying, Ordered); what a read sees of live memory (LiveRead); `recovery`'s machine with reads (Run), its invariant and every step (Assigned, Invariant,
--- Seeing), the theorem; stamps tell apart (Stamps). The calls: what was read or written is held (Held), and so is what an open transaction has read, after
--- each call (Holding, Calls); what happens to a store is a run of the machine with reads (Happenings).
+-- The laws of the ledger with reads. What a reader wants:
+-- Happenings: the statement (`reads-serial`), for any happenings (`read-happens`, `reads-happen`); no reader of a lost transaction is durable (`lost-reader`).
+-- Theorem: the same on recovery's machine with reads (`read-theorem`), and of open and queued transactions (`read-so-far`); the machine is Run, its invariant
+-- Invariant, its steps Assigned and Seeing.
+-- Plain: without its reads it is the ledger (`without-reads`). LiveRead: what a read sees of live memory (`read_byte`, `others-left`).
+-- Held: what was read or written stays held, and a write that 9 lets pass meets none of it (`unheld-byte`); call by call: Holding, Calls.
+-- Stamps: no stamp is given twice, a lost transaction stays lost (`stamped-feed`, `lost-stays`, `lost-unread`). Laying, Ordered: reads against the order.
+-- Cases and Worked are worked cases.
 pub mod Cases
 pub mod Worked
 pub mod Plain

@@ -5,6 +5,7 @@ use mathlib.Core.List.{List, [], ◌∷◌, map}
 use mathlib.Core.Option.{Option, none, some}
 use mathlib.Core.Path.{◌≡◌, refl, ap, ◌∙◌}
 use lib.ListN.{replicate, length-replicate}
+use Rattle.layout.specs.Parts.{disk_ok}
 use Rattle.recovery.specs.Restart.{undo_order}
 use Rattle.redolog.specs.Record.{read_record, read_redo, read_commit, read_abort}
 use Rattle.redolog.specs.Reader.{run, whole as all}
@@ -23,7 +24,7 @@ use Rattle.store.specs.Answer.{done, refused}
 use Rattle.store.specs.Rules.{unfit}
 use Rattle.store.specs.Stored.{carried_out}
 use Rattle.store.specs.Steps.{begun_state, written_state, read_state, precommitted_state}
-use Rattle.disk.specs.Open.{load_of, open_of}
+use Rattle.disk.specs.Open.{load_of, area_named, open_by, open_of}
 use Rattle.disk.specs.Examine.{steps_of, examine_of}
 use Rattle.disk.specs.Restart.{recovered_state, restart_of}
 use Rattle.history.specs.Calls.{Call, begin, write, read, read_answer, precommit, flush, restart, Reply, told, part, fresh_world, run_of}
@@ -73,7 +74,7 @@ replies_in (some x) = some x.replies
 computed : replies_in (quick_run calls start) ≡ some replies
 unfolding calls replies undo_order read_record read_redo read_commit read_abort run all read_body group_with read_log_with read_log empty_records empty_tx head_ok savepoints_ok state_ok held_against pushed fresh_tx
     written with_read precommitted empty_image past forward_of is_running is_lost running_of lost_of recover_of unrecovered unfit begun_state written_state read_state
-    precommitted_state load_of open_of steps_of examine_of recovered_state restart_of carried_out
+    precommitted_state load_of area_named open_by open_of disk_ok steps_of examine_of recovered_state restart_of carried_out
 computed = refl
 
 told_so : (run_of calls fresh_world).replies ≡ replies

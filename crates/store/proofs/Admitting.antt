@@ -6,7 +6,7 @@ use mathlib.Core.List.{List, []}
 use mathlib.Core.Path.{◌≡◌, refl, sym, ap, ◌∙◌, subst}
 use lib.ListN.{length, drop}
 use lib.Dec.{eqb, leb, ltb}
-use borrow.Author.Tests.{eq-eqb, ne_eqb, lt-ltb, leb-true, eqb-true, eqb-false, not-false}
+use borrow.Author.Tests.{eq-eqb, ne_eqb, lt-ltb, le-ltb, leb-true, leb-false, eqb-true, eqb-false, not-false}
 use Rattle.recovery.specs.Group.{last_csn}
 use Rattle.redolog.specs.Log.{read_log}
 use Rattle.redolog.proofs.Basics.{and_left, and_right}
@@ -90,36 +90,44 @@ module _ (s : State) where
 
 -- ---- number 2
 
+above : (a b : ℕ) → ltb b a ≡ not (leb a b)
+above a b = go (leb a b) refl
+  where
+    go : (x : Bool) → leb a b ≡ x → ltb b a ≡ not x
+    go true e = le-ltb b a (leb-true a b e)
+    go false e = lt-ltb b a (leb-false a b e)
+
 module _ (s : State) (t : List ℕ) where
   abbrev bounds : Bool
   bounds = bounds_ok s.logend s.ondisk.0 s.assigned.0 s.count
 
   abbrev head : Bool
-  head = counters_ok s.recovered s.logend s.ondisk.0 s.assigned.0 s.count
+  head = counters_ok s.recovered s.area s.logend s.ondisk.0 s.assigned.0 s.count
 
   pub unfit_head : head ≡ false → unfit s t ≡ true
   unfolding unfit counters_ok
   unfit_head e =
       rw (length_up (outline_at s) s.count 0)
       (go s.recovered bounds (outlines_ok s.lastid.0 s.assigned.0 (outlines_of s))
-      (ltb 16384 (room_used s t)) (not (every state_ok (txs_of s))) (not (tail_ok s.ondisk.0 s.assigned.0 t)) e)
+      (ltb 16384 (room_used s t)) (not (every state_ok (txs_of s))) (not (tail_ok s.ondisk.0 s.assigned.0 t)) (leb s.area 2) (ltb 2 s.area) (above s.area 2) e)
     where
-      go : (r i o x y z : Bool) → r && i ≡ false → not r || not (i && o) || x || y || z ≡ true
-      go false i o x y z e = refl
-      go true false o x y z e = refl
-      go true true o x y z e = let w : true ≡ false = e in cc
+      go : (r i o x y z a b : Bool) → b ≡ not a → r && a && i ≡ false → not r || not (i && o) || x || y || z || b ≡ true
+      go false i o x y z a b q e = refl
+      go true false o x y z a b q e = refl
+      go true true o x y z true b q e = let w : true ≡ false = e in cc
+      go true true o x y z false b q e = rw (q, or-true)
 
   pub unfit_txs : outlines_ok s.lastid.0 s.assigned.0 (outlines_of s) && every state_ok (txs_of s) ≡ false → unfit s t ≡ true
   unfolding unfit
   unfit_txs e =
       go (not s.recovered) (leb s.logend 16384 && leb s.ondisk.0 s.assigned.0 && leb (length (outlines_of s)) 8)
       (outlines_ok s.lastid.0 s.assigned.0 (outlines_of s))
-      (every state_ok (txs_of s)) (ltb 16384 (room_used s t)) (not (tail_ok s.ondisk.0 s.assigned.0 t)) e
+      (every state_ok (txs_of s)) (ltb 16384 (room_used s t)) (not (tail_ok s.ondisk.0 s.assigned.0 t)) (ltb 2 s.area) e
     where
-      go : (r i o d x z : Bool) → o && d ≡ false → r || not (i && o) || x || not d || z ≡ true
-      go r i false d x z e = rw (and-false, or-true)
-      go r i true false x z e = rw or-true
-      go r i true true x z e = let w : true ≡ false = e in cc
+      go : (r i o d x z y : Bool) → o && d ≡ false → r || not (i && o) || x || not d || z || y ≡ true
+      go r i false d x z y e = rw (and-false, or-true)
+      go r i true false x z y e = rw or-true
+      go r i true true x z y e = let w : true ≡ false = e in cc
 
   pub unfit_tail : tail_ok s.ondisk.0 s.assigned.0 t ≡ false → unfit s t ≡ true
   unfolding unfit
@@ -133,21 +141,23 @@ module _ (s : State) (t : List ℕ) where
     pub head_count : s.count ≤ 8
     unfolding counters_ok
     head_count =
-        leb-true _ _ (and_right (leb s.logend 16384 && leb s.ondisk.0 s.assigned.0) (leb s.count 8) (and_right s.recovered bounds e))
+        leb-true _ _ (and_right (leb s.logend 16384 && leb s.ondisk.0 s.assigned.0) (leb s.count 8) (and_right (s.recovered && leb s.area 2) bounds e))
 
     pub unfit_none : outlines_ok s.lastid.0 s.assigned.0 (outlines_of s) && every state_ok (txs_of s) ≡ true
         → tail_ok s.ondisk.0 s.assigned.0 t ≡ true
         → room_used s t ≤ 16384 → unfit s t ≡ false
     unfolding counters_ok
     unfit_none m q h =
+        let counted : s.recovered && leb s.area 2 ≡ true = and_left (s.recovered && leb s.area 2) bounds e in
         let o : outlines_ok s.lastid.0 s.assigned.0 (outlines_of s) ≡ true = and_left _ (every state_ok (txs_of s)) m in
         unfit_no s t
         (record {
-          recovered = and_left s.recovered bounds e;
-          image = rw (length_up (outline_at s) s.count 0, and_right s.recovered bounds e, o);
+          recovered = and_left s.recovered (leb s.area 2) counted;
+          image = rw (length_up (outline_at s) s.count 0, and_right (s.recovered && leb s.area 2) bounds e, o);
           room = h;
           states = and_right (outlines_ok s.lastid.0 s.assigned.0 (outlines_of s)) (every state_ok (txs_of s)) m;
           tail = q;
+          area = leb-true _ _ (and_right s.recovered (leb s.area 2) counted);
         })
 
 -- ---- bounds, so that no sum wraps

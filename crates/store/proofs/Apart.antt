@@ -405,4 +405,5 @@ module _ (s : State) (d m t : List ℕ) (h : Holding s) where
 
   pub checkpoint_holds : (allowed : ℕ) → Holding (checkpoint_of s d m t allowed).result.state
   unfolding checkpoint_of
-  checkpoint_holds allowed = stored_holds (checkpoint_plan s d m t) allowed h
+  checkpoint_holds allowed =
+      stored_holds (checkpoint_plan s d m t) allowed (record { sizes = record { slots = h.sizes.slots; each = h.sizes.each }; apart = h.apart })

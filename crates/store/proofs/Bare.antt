@@ -50,11 +50,11 @@ taken_past s ts i l m b h =
 
 -- other transactions leave the counters
 pub counters_kept : (s : State) (e : StateExtents) (ts : List TxExtents) → e ≡ with_extents s e.txs
-    → record { recovered = e.recovered; logend = e.logend; ondisk = e.ondisk; assigned = e.assigned; lastid = e.lastid; count = e.count; txs = ts }
+    → record { recovered = e.recovered; logend = e.logend; ondisk = e.ondisk; assigned = e.assigned; lastid = e.lastid; count = e.count; area = e.area; txs = ts }
     ≡ with_extents s ts
 counters_kept s e ts q =
     ap (λ (x : StateExtents).
-    record { recovered = x.recovered; logend = x.logend; ondisk = x.ondisk; assigned = x.assigned; lastid = x.lastid; count = x.count; txs = ts })
+    record { recovered = x.recovered; logend = x.logend; ondisk = x.ondisk; assigned = x.assigned; lastid = x.lastid; count = x.count; area = x.area; txs = ts })
     q
 
 -- the first one's, in every slot
@@ -98,6 +98,7 @@ module _ (s : State) (e : StateExtents) (h : HasExtents s e) where
         assigned = ap (λ (x : StateExtents). x.assigned.0) h.0;
         lastid = ap (λ (x : StateExtents). x.lastid.0) h.0;
         count = count;
+        area = ap (λ (x : StateExtents). x.area) h.0;
         listed = at;
       }
 

@@ -73,4 +73,5 @@ begun_fits s t z f h room =
       room = omega (arith, sum, room);
       states = changed_states s t f r u s.count c (omega arith) (omega arith) old good (fresh_state id);
       tail = f.tail;
+      area = f.area;
     }

@@ -56,6 +56,7 @@ settled_fits s t j z f h =
       room = omega (arith, dropped_reserved s t j z f h, f.room);
       states = dropped_states s t j z f h;
       tail = f.tail;
+      area = f.area;
     }
 
 pub aborted_fits : (s : State) (m t : List ℕ) (id : ℕ) → SizedState s → RunningPassed s m t id
@@ -76,4 +77,5 @@ aborted_fits s m t id z run =
       room = omega (arith, dropped_reserved s t j z f h, size, k, f.room);
       states = dropped_states s t j z f h;
       tail = rw (eq-eqb _ _ last, appended_zeros s.ondisk.0 t (aborted id) (tail_zeros s t f) y.room y.right);
+      area = f.area;
     }

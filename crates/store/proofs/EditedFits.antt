@@ -60,6 +60,7 @@ module _ (s : State) (t : List ℕ) (f : Fit s t) (j : ℕ) (h : j < s.count) (f
           room = omega (arith, sum, size, room);
           states = changed_states s t f r u j c (omega arith) (omega arith) same good state;
           tail = f.tail;
+          area = f.area;
         }
 
 -- one more read range, within number 8's limits

@@ -24,6 +24,7 @@ pub record Fit (s : State) (t : List ℕ) : Type 0 where
   pub room : room_used s t ≤ 16384
   pub states : every state_ok (txs_of s) ≡ true
   pub tail : tail_ok s.ondisk.0 s.assigned.0 t ≡ true
+  pub area : s.area ≤ 2
 
 pub fit : (s : State) (t : List ℕ) → unfit s t ≡ false → Fit s t
 unfolding unfit
@@ -33,7 +34,9 @@ fit s t e =
     let c = ltb 16384 (room_used s t) in
     let d = not (every state_ok (txs_of s)) in
     let f = not (tail_ok s.ondisk.0 s.assigned.0 t) in
-    let e₃ = or_left (a || b || c || d) f e in
+    let g = ltb 2 s.area in
+    let e₄ = or_left (a || b || c || d || f) g e in
+    let e₃ = or_left (a || b || c || d) f e₄ in
     let e₂ = or_left (a || b || c) d e₃ in
     let e₁ = or_left (a || b) c e₂ in
     record {
@@ -41,12 +44,13 @@ fit s t e =
       image = not-false _ (or_right a b e₁);
       room = ltb-false _ _ (or_right (a || b) c e₂);
       states = not-false _ (or_right (a || b || c) d e₃);
-      tail = not-false _ (or_right (a || b || c || d) f e);
+      tail = not-false _ (or_right (a || b || c || d) f e₄);
+      area = ltb-false _ _ (or_right (a || b || c || d || f) g e);
     }
 
 pub unfit_no : (s : State) (t : List ℕ) → Fit s t → unfit s t ≡ false
 unfolding unfit
-unfit_no s t f = rw (f.recovered, f.image, le-ltb _ _ f.room, f.states, f.tail)
+unfit_no s t f = rw (f.recovered, f.image, le-ltb _ _ f.room, f.states, f.tail, le-ltb _ _ f.area)
 
 -- ---- one transaction
 

@@ -2,14 +2,15 @@
 -- leaves pass number 2.
 use Prim.Native.Nat.{ℕ, ◌+◌, ◌-◌, ◌≤◌, ◌<◌, min}
 use native.Mathlib.Omega.{arith}
-use mathlib.Core.Bool.{Bool, true, ◌&&◌}
+use mathlib.Core.Bool.{Bool, true, false, cond, ◌&&◌}
 use mathlib.Core.List.{List, [], ◌∷◌, ◌++◌, append-nil}
 use mathlib.Core.Path.{◌≡◌, refl, sym, ap, ap₂, ◌∙◌}
 use lib.ListN.{length, take, drop, replicate, length-drop, take-append-drop}
 use lib.Seq.{take-nil, length-take-le, drop-drop, drop-append-le}
 use lib.Dec.{leb, eqb}
 use borrow.Author.Tests.{eq-eqb, eqb-true, le-leb}
-use Rattle.layout.specs.Parts.{log_part}
+use Rattle.layout.specs.Parts.{form_of, part, log_at}
+use Rattle.layout.proofs.Places as places
 use Rattle.recovery.specs.Group.{Group, committed, aborted, groups_size, csn_after, last_csn}
 use Rattle.recovery.proofs.Groups.{groups_size_append, last_csn_append}
 use Rattle.redolog.specs.declared.Csn.{Csn}
@@ -33,7 +34,7 @@ use Rattle.store.specs.Stored.{Plan, zeroed, made_whole}
 use Rattle.store.specs.Flush.{with_log, first_groups, first_size, flushed_state, flushed_tail, flush_stores, flush_plan, flush_of}
 use Rattle.store.proofs.Zeros.{zeros_behind, zeros_all}
 use Rattle.store.proofs.Fits.{Fit}
-use Rattle.store.proofs.Storing.{disk_number, disk_admitted, stored_refused, stored_cut, stored_done}
+use Rattle.store.proofs.Storing.{disk_number, disk_admitted, disk_long, stored_refused, stored_cut, stored_done}
 
 -- ---- the first k groups of the tail
 
@@ -51,7 +52,7 @@ module _ (s : State) (t : List ℕ) (k : ℕ) where
   first_length = length-take-le (first_size s t k) t (omega (arith, first_within, log_within s.ondisk.0 (read_log s.ondisk.0 t) t refl))
 
   pub flush_length : length (flush_stores s t k) ≡ first_size s t k
-  flush_length = length_copies (17307 + s.logend) (take (first_size s t k) t) ∙ first_length
+  flush_length = length_copies (log_at s.area + s.logend) (take (first_size s t k) t) ∙ first_length
 
   -- "uses more than 16,384 bytes of log room" is number 2, so the groups fit into the log
   pub flush_room : Fit s t → s.logend + first_size s t k ≤ 16384
@@ -63,11 +64,20 @@ groups_none [] e = refl
 groups_none (committed id n ws ∷ gs) e = absurd (omega arith)
 groups_none (aborted id ∷ gs) e = absurd (omega arith)
 
+-- no area stands further back
+pub area_low : (area : ℕ) → log_at area ≤ 33693
+area_low area = go (eqb area 0) (eqb area 1)
+  where
+    go : (a b : Bool) → cond a 17307 (cond b 17309 33693) ≤ 33693
+    go true b = omega arith
+    go false true = omega arith
+    go false false = omega arith
+
 -- ---- the cases, as the code comes to them
 
 -- the first n bytes of the tail are there and fit into the log
 pub record Room (s : State) (d t : List ℕ) (n : ℕ) : Type 0 where
-  pub disk : length d ≡ 33691
+  pub disk : log_at s.area + 16384 ≤ length d
   pub tail : n ≤ length t
   pub bytes : length (take n t) ≡ n
   pub log : s.logend + n ≤ 16384
@@ -88,7 +98,7 @@ module _ (s : State) (d m t : List ℕ) (k allowed : ℕ) where
         let a = disk_admitted s d m t z in
         let n = ap (λ (n : ℕ). length (take n t)) size ∙ first_length s t k in
         record {
-          disk = a.disk;
+          disk = omega (arith, disk_long s d m t z, places.log-within (form_of d) s.area a.area);
           tail = omega (arith, size, first_within s t k, log_within s.ondisk.0 (read_log s.ondisk.0 t) t refl);
           bytes = n ∙ sym size;
           log = omega (arith, size, flush_room s t k a.fits);
@@ -98,7 +108,7 @@ module _ (s : State) (d m t : List ℕ) (k allowed : ℕ) where
     abbrev storing : List Group → Plan
     storing gs =
         record {
-          stores = copies (17307 + s.logend) (take (groups_size gs) t);
+          stores = copies (log_at s.area + s.logend) (take (groups_size gs) t);
           value = 0;
           state = with_log s (s.logend + groups_size gs) (record { 0 = last_csn s.ondisk.0 gs });
           memory = m;
@@ -112,12 +122,12 @@ module _ (s : State) (d m t : List ℕ) (k allowed : ℕ) where
         let a : min allowed 0 ≡ 0 = omega arith in
         let b : s.logend + 0 ≡ s.logend = omega arith in
         let z : min 0 (length t) ≡ 0 = omega arith in
-        let stored : take allowed (copies (17307 + s.logend) []) ≡ [] = take-nil allowed in
+        let stored : take allowed (copies (log_at s.area + s.logend) []) ≡ [] = take-nil allowed in
         let moved : t ++ replicate (min 0 (length t)) 0 ≡ t = ap (λ (n : ℕ). t ++ replicate n 0) z ∙ append-nil t in
         ap₂ (λ (n k : ℕ).
         record {
           result = tells done 0 n (with_log s k s.ondisk);
-          disk = apply (take allowed (copies (17307 + s.logend) [])) d;
+          disk = apply (take allowed (copies (log_at s.area + s.logend) [])) d;
           memory = m;
           tail = t ++ replicate (min 0 (length t)) 0;
         }) a b
@@ -147,25 +157,25 @@ module _ (s : State) (d m t : List ℕ) (k allowed : ℕ) where
           let zeros : drop end t ≡ replicate (length t - end) 0 = zeros_all (drop end t) zero ∙ ap (λ (n : ℕ). replicate n 0) (length-drop end t) in
           ap (λ (x : List ℕ). x ++ drop end t) f ∙ shifted_part read.end end t flush_front flush_ends zeros
 
-    -- made is the number of stores made, ys what they left of the log part
-    module _ (made : ℕ) (ys : List ℕ) (f : made ≡ min allowed (length (copies s.logend (take read.end t))))
-        (g : ys ≡ apply (take allowed (copies s.logend (take read.end t))) (log_part d)) where
+    -- at is where the area stands, n its length, made the number of stores made, ys what they left of it
+    module _ (at n made : ℕ) (ys : List ℕ) (p : at ≡ log_at s.area) (q : n ≡ 16384) (f : made ≡ min allowed (length (copies s.logend (take read.end t))))
+        (g : ys ≡ apply (take allowed (copies s.logend (take read.end t))) (part at n d)) where
       abbrev left : List ℕ
-      left = take 17307 d ++ (ys ++ drop 16384 (drop 17307 d))
+      left = take at d ++ (ys ++ drop n (drop at d))
 
       count : made ≡ min allowed (length (flush_stores s t k))
       count =
           let l : length (copies s.logend (take read.end t)) ≡ length (flush_stores s t k) =
           length_copies s.logend (take read.end t) ∙ ap (λ (n : ℕ). length (take n t)) size
-          ∙ sym (length_copies (17307 + s.logend) (take (first_size s t k) t)) in
+          ∙ sym (length_copies (log_at s.area + s.logend) (take (first_size s t k) t)) in
           f ∙ ap (min allowed) l
 
       on_disk_lem : left ≡ apply (take allowed (flush_stores s t k)) d
       on_disk_lem =
-          part_lent 17307 16384 allowed (copies s.logend (take read.end t)) d ys
-          (within_copies 16384 s.logend (take read.end t) (omega (arith, flush_fits.bytes, flush_fits.log))) g
+          part_lent at n allowed (copies s.logend (take read.end t)) d ys
+          (within_copies n s.logend (take read.end t) (omega (arith, q, flush_fits.bytes, flush_fits.log))) g
           ∙ ap (λ (ss : List Store). apply (take allowed ss) d)
-          (sym (copies_moved 17307 s.logend (take read.end t)) ∙ ap (λ (n : ℕ). copies (17307 + s.logend) (take n t)) size)
+          (sym (copies_moved at s.logend (take read.end t)) ∙ ap₂ (λ (i j : ℕ). copies (i + s.logend) (take j t)) p size)
 
       pub flush_cut : made < read.end
           → flush_of s d m t k allowed ≡ record { result = tells cut 0 made unrecovered; disk = left; memory = zeroed m; tail = zeroed t }
@@ -255,4 +265,5 @@ module _ (s : State) (t : List ℕ) (k : ℕ) where
         room = omega (arith, f.room, ap groups_size flush_tail, size_split k groups);
         states = f.states;
         tail = rw (flush_tail, eq-eqb _ _ last) (rest_zero (and_right c z f.tail));
+        area = f.area;
       }

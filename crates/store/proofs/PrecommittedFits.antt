@@ -97,4 +97,5 @@ precommitted_fits s m t id z run =
             appended_zeros s.ondisk.0 t g (tail_zeros s t f)
                 y.room y.right,
           );
+      area = f.area;
     }

@@ -192,7 +192,7 @@ module _ (s r : State) (h : ShowsSame s r) where
   with_same : {a b : Csn} {i j : TxId} {n k : ℕ} {ts us : List Tx} → a.0 ≡ b.0 → i.0 ≡ j.0 → n ≡ k
       → ((x : ℕ) → x < n → SameTx (slot_at ts x) (slot_at us x)) → ShowsSame (with_txs s a i n ts) (with_txs r b j k us)
   with_same a i n l =
-      record { recovered = h.recovered; logend = h.logend; ondisk = h.ondisk; assigned = a; lastid = i; count = n; listed = l }
+      record { recovered = h.recovered; logend = h.logend; ondisk = h.ondisk; assigned = a; lastid = i; count = n; area = h.area; listed = l }
 
   module _ (z : SizedState s) (y : SizedState r) where
     pub begin_shows : s.count < 8 → ShowsSame (begun_state s) (begun_state r)

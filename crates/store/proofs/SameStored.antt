@@ -1,11 +1,11 @@
 -- Flush and checkpoint answer states that show the same alike, refusals too, and leave the same on disk, in memory and tail. Then all calls in one.
 use Prim.Native.Nat.{ℕ, ◌+◌, min}
 use mathlib.Core.Bool.{Bool, true, false, cond, not}
-use mathlib.Core.List.{List, []}
+use mathlib.Core.List.{List, [], ◌∷◌, ◌++◌}
 use mathlib.Core.Path.{◌≡◌, refl, ap, ap₂, ◌∙◌, subst}
-use lib.ListN.{length, take, get_or}
+use lib.ListN.{length, take}
 use lib.Dec.{eqb, ltb}
-use Rattle.layout.specs.{log_start}
+use Rattle.layout.specs.Parts.{form_of, disk_ok, area_ok, pointer_of, log_at, other_area}
 use Rattle.recovery.specs.Group.{Write, groups_size, last_csn}
 use Rattle.redolog.specs.Log.{read_log}
 use Rattle.redolog.specs.Stores.{Store, apply, copies, shifted}
@@ -19,7 +19,9 @@ use Rattle.store.specs.State.{image_of, tx_at, unrecovered}
 use Rattle.store.specs.Calls.{refusing}
 use Rattle.store.specs.Stored.{DiskOutcome, Plan, cut_short, made_whole, carried_out, stored_by}
 use Rattle.store.specs.Flush.{flushed_state, flush_stores, flush_plan, flush_of}
-use Rattle.store.specs.Checkpoint.{image_stores, checkpoint_plan, checkpoint_of}
+use Rattle.slots.specs.{area_byte, switch_stores}
+use Rattle.store.specs.Checkpoint.{switched_state, checkpoint_plan, checkpoint_of}
+use Rattle.store.specs.Numbers.{Check, check, first_number}
 use Rattle.store.specs.Same.{SameRecords, SameTx, ShowsSame, SameDiskOutcome, AnsweredAlike}
 use Rattle.store.proofs.Storing.{disk_number}
 use Rattle.store.proofs.Stepping.{SizedState}
@@ -41,6 +43,7 @@ shows_self s =
       assigned = refl;
       lastid = refl;
       count = refl;
+      area = refl;
       listed = λ i b.
           record {
             id = refl;
@@ -102,21 +105,37 @@ saved_same t u h =
     ap₂ (λ (i k : ℕ). saved i k t.csn.0 (writes_of t.undo)) h.id h.status
     ∙ ap₂ (λ (c : ℕ) (ws : List Write). saved u.id.0 u.status c ws) h.csn h.undo.writes
 
+image_same : (s r : State) → ShowsSame s r → SameView (image_of s) (image_of r)
+image_same s r h =
+    record {
+      logend = h.logend;
+      ondisk = h.ondisk;
+      assigned = h.assigned;
+      lastid = h.lastid;
+      count = h.count;
+      listed = λ i b. saved_same (tx_at s i) (tx_at r i) (h.listed i b);
+    }
+
 module _ (s r : State) (h : ShowsSame s r) where
-  image_same : SameView (image_of s) (image_of r)
-  image_same =
+  switched_shows : ShowsSame (switched_state s) (switched_state r)
+  switched_shows =
       record {
-        logend = h.logend;
+        recovered = h.recovered;
+        logend = ap₂ (λ (a n : ℕ). cond (eqb a 0) n 0) h.area h.logend;
         ondisk = h.ondisk;
         assigned = h.assigned;
         lastid = h.lastid;
         count = h.count;
-        listed = λ i b. saved_same (tx_at s i) (tx_at r i) (h.listed i b);
+        area = ap other_area h.area;
+        listed = h.listed;
       }
 
   module _ (d m t : List ℕ) where
     disk_alike : disk_number s d m t ≡ disk_number r d m t
-    disk_alike = ap (λ (n : ℕ). cond (not (eqb (length d) 33691)) 1 n) (number_alike s r (shown s r h) (length m) t [] [] refl)
+    disk_alike =
+        let clash : ℕ → Check = λ a. check 2 (not (area_ok (form_of d) a)) in
+        ap (λ (n : ℕ). cond (not (disk_ok (length d))) 1 n)
+        (number_alike s r (shown s r h) (length m) t (clash s.area ∷ []) (clash r.area ∷ []) (ap (λ (a : ℕ). first_number (clash a ∷ [])) h.area))
 
     abbrev kept : State → ℕ → DiskOutcome
     kept x n = record { result = refusing n x; disk = d; memory = m; tail = t }
@@ -131,7 +150,8 @@ module _ (s r : State) (h : ShowsSame s r) where
 
     flush_stores_lem : (k : ℕ) → flush_stores s t k ≡ flush_stores r t k
     flush_stores_lem k =
-        ap₂ (λ (e c : ℕ). copies (log_start + e) (take (groups_size (take k (read_log c t))) t)) h.logend h.ondisk
+        ap₂ (λ (e c : ℕ). copies (log_at s.area + e) (take (groups_size (take k (read_log c t))) t)) h.logend h.ondisk
+        ∙ ap (λ (a : ℕ). copies (log_at a + r.logend) (take (groups_size (take k (read_log r.ondisk.0 t))) t)) h.area
 
     flush_shows : (k : ℕ) → ShowsSame (flushed_state s t k) (flushed_state r t k)
     flush_shows k =
@@ -142,6 +162,7 @@ module _ (s r : State) (h : ShowsSame s r) where
           assigned = h.assigned;
           lastid = h.lastid;
           count = h.count;
+          area = h.area;
           listed = h.listed;
         }
 
@@ -164,9 +185,11 @@ module _ (s r : State) (h : ShowsSame s r) where
     checkpoint_same =
         stored_same (checkpoint_plan s d m t) (checkpoint_plan r d m t)
         (record {
-          stores = ap (image_stores (get_or d 0 0)) (encode_same (image_of s) (image_of r) image_same m);
+          stores =
+              ap₂ (λ (a : ℕ) (bs : List ℕ). switch_stores a (pointer_of d) (area_byte a ++ bs)) switched_shows.area
+              (encode_same (image_of (switched_state s)) (image_of (switched_state r)) (image_same (switched_state s) (switched_state r) switched_shows) m);
           value = refl;
-          state = h;
+          state = switched_shows;
           memory = refl;
           tail = refl;
         })

@@ -8,6 +8,7 @@ use mathlib.Core.Path.{◌≡◌, refl, ap, ap₂, ◌∙◌}
 use lib.ListN.{length}
 use lib.Dec.{eqb, ltb}
 use borrow.Author.Tests.{eqb-true}
+use Rattle.layout.specs.Parts.{form_by, disk_ok, area_ok}
 use Rattle.recovery.specs.Lists.{any}
 use Rattle.transaction.specs.declared.Tx.{Tx}
 use Rattle.transaction.specs.Lists.{up_from, every, sum_of}
@@ -21,7 +22,7 @@ use Rattle.store.specs.State.{tx_at, txs_of, outline_at, outlines_of, has_id, sl
 use Rattle.store.specs.Rules.{keeps_image_rules, tail_length, tail_ok, room_used, unfit}
 use Rattle.store.specs.declared.admit.Admission.{Admission}
 use Rattle.store.specs.Numbers.{Check, check, first_number, number_by}
-use Rattle.store.specs.Admission.{not_admitted, refusal, admission, disk_admission, choice}
+use Rattle.store.specs.Admission.{not_admitted, refusal, admission, of_form, disk_admission, choice}
 use Rattle.store.specs.Same.{SameRanges, SameSavepoints, SameTx, ShowsSame}
 
 pub record AlikeTx (t u : Tx) : Type 0 where
@@ -40,6 +41,7 @@ pub record Alike (s r : State) : Type 0 where
   pub assigned : s.assigned.0 ≡ r.assigned.0
   pub lastid : s.lastid.0 ≡ r.lastid.0
   pub count : s.count ≡ r.count
+  pub area : s.area ≡ r.area
   pub listed : (i : ℕ) → i < s.count → AlikeTx (tx_at s i) (tx_at r i)
 
 pub shown_tx : (t u : Tx) → SameTx t u → AlikeTx t u
@@ -63,6 +65,7 @@ shown s r h =
       assigned = h.assigned;
       lastid = h.lastid;
       count = h.count;
+      area = h.area;
       listed = λ i l. shown_tx (tx_at s i) (tx_at r i) (h.listed i l);
     }
 
@@ -156,12 +159,12 @@ module _ (s r : State) (h : Alike s r) where
   pub unfit_alike : (t : List ℕ) → unfit s t ≡ unfit r t
   unfolding unfit
   unfit_alike t =
-      let after : Bool → Bool → ℕ → Bool → Bool → Bool = λ x y n z w. not x || not y || ltb 16384 n || not z || not w in
+      let after : Bool → Bool → ℕ → Bool → Bool → ℕ → Bool = λ x y n z w a. not x || not y || ltb 16384 n || not z || not w || ltb 2 a in
       let tails : tail_ok s.ondisk.0 s.assigned.0 t ≡ tail_ok r.ondisk.0 r.assigned.0 t =
       ap₂ (λ (d a : ℕ). tail_ok d a t) h.ondisk h.assigned in
-      ap₂ (λ (x y : Bool). after x y (room_used s t) (every state_ok (txs_of s)) (tail_ok s.ondisk.0 s.assigned.0 t)) h.recovered rules_alike
-      ∙ ap₂ (λ (n : ℕ) (z : Bool). after r.recovered (keeps_image_rules r) n z (tail_ok s.ondisk.0 s.assigned.0 t)) (room_alike t) states_alike
-      ∙ ap (after r.recovered (keeps_image_rules r) (room_used r t) (every state_ok (txs_of r))) tails
+      ap₂ (λ (x y : Bool). after x y (room_used s t) (every state_ok (txs_of s)) (tail_ok s.ondisk.0 s.assigned.0 t) s.area) h.recovered rules_alike
+      ∙ ap₂ (λ (n : ℕ) (z : Bool). after r.recovered (keeps_image_rules r) n z (tail_ok s.ondisk.0 s.assigned.0 t) s.area) (room_alike t) states_alike
+      ∙ ap₂ (after r.recovered (keeps_image_rules r) (room_used r t) (every state_ok (txs_of r))) tails h.area
 
   pub number_alike : (lent : ℕ) (t : List ℕ) (cs ds : List Check) → first_number cs ≡ first_number ds → number_by s lent t cs ≡ number_by r lent t ds
   number_alike lent t cs ds e =
@@ -177,7 +180,8 @@ module _ (s r : State) (h : Alike s r) where
 
   pub disk_alike : (d lent : ℕ) (t : List ℕ) → disk_admission s d lent t ≡ disk_admission r d lent t
   unfolding disk_admission
-  disk_alike d lent t = ap (λ (x : Admission). cond (eqb d 33691) x (not_admitted 1)) (admission_alike lent t)
+  disk_alike d lent t =
+      ap₂ (λ (a : ℕ) (x : Admission). cond (disk_ok d) (of_form (area_ok (form_by d) a) x) (not_admitted 1)) h.area (admission_alike lent t)
 
   pub choice_alike : (x : Admission) (id : ℕ) (cs ds : List Check) → first_number cs ≡ first_number ds → choice s x id cs ≡ choice r x id ds
   unfolding choice

@@ -85,4 +85,5 @@ written_fits s m t id a bs z w =
           changed_states s t f r u j c (omega arith) (omega arith) same good
           (written_state_lem x a old bs y.undos y.redos w.undo w.redo l (rule_at s t f j h));
       tail = f.tail;
+      area = f.area;
     }

@@ -1,7 +1,8 @@
 -- Numbers 1 and 2 as the code goes about them: what it measures on the way is handed on to the call, and to what decides of the call's own
 -- numbers.
 use Rattle.std.specs.Prelude.{ℕ, ◌≤◌, Bool, true, false, cond, ◌&&◌, List, [], ◌∷◌, ◌≡◌, eqb, leb}
-use Rattle.layout.specs.{log_len, max_txs, disk_len}
+use Rattle.layout.specs.{log_len, max_txs, max_area}
+use Rattle.layout.specs.Parts.{form_by, disk_ok, area_ok}
 use Rattle.transaction.specs.Lists.{every, sum_of}
 use Rattle.transaction.specs.Rules.{state_ok, room_of}
 use Rattle.store.specs.declared.State.{State}
@@ -13,9 +14,9 @@ use Rattle.image.specs.Rules.{bounds_ok, outlines_ok}
 use Rattle.store.specs.Rules.{keeps_image_rules, tail_length, tail_ok, room_used}
 use Rattle.store.specs.Numbers.{Check, first_number, shared_checks, check6}
 
--- recovered, and the image rules of the counters
-unfoldable pub counters_ok : Bool → ℕ → ℕ → ℕ → ℕ → Bool
-counters_ok recovered logend ondisk assigned count = recovered && bounds_ok logend ondisk assigned count
+-- recovered, an area that some form has, and the image rules of the counters
+unfoldable pub counters_ok : Bool → ℕ → ℕ → ℕ → ℕ → ℕ → Bool
+counters_ok recovered area logend ondisk assigned count = recovered && leb area max_area && bounds_ok logend ondisk assigned count
 
 abbrev pub rule_broken : Measured
 rule_broken = record { ok = false; room = 0 }
@@ -39,9 +40,13 @@ admission s lent tail =
     let n = first_number (shared_checks s lent tail) in
     record { number = n; end = cond (eqb n 0) (tail_length s.ondisk.0 tail) 0; room = cond (eqb n 0) (room_used s tail) 0 }
 
+-- the same where the state's area has to be one of the disk's form; a refusal stays: 1 comes before 2
+unfoldable pub of_form : Bool → Admission → Admission
+of_form ok x = cond (eqb x.number 0) (cond ok x (not_admitted 2)) x
+
 -- with a disk lent, its length first (disk: that length)
 unfoldable pub disk_admission : State → ℕ → ℕ → List ℕ → Admission
-disk_admission s disk lent tail = cond (eqb disk disk_len) (admission s lent tail) (not_admitted 1)
+disk_admission s disk lent tail = cond (disk_ok disk) (of_form (area_ok (form_by disk) s.area) (admission s lent tail)) (not_admitted 1)
 
 -- ---- what is decided of a call about the transaction of an id
 

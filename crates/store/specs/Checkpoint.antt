@@ -1,36 +1,27 @@
 -- Checkpoint.
-use Rattle.std.specs.Prelude.{ℕ, Bool, cond, ◌||◌, List, [], ◌∷◌, ◌++◌, eqb}
-use Rattle.layout.specs.{names_a, names_b}
-use Rattle.layout.specs.Parts.{pointer_of, image_at}
-use Rattle.redolog.specs.Stores.{Store, store, copies}
+use Rattle.std.specs.Prelude.{ℕ, cond, List, ◌++◌, eqb}
+use Rattle.layout.specs.Parts.{pointer_of, other_area}
+use Rattle.redolog.specs.Stores.{Store}
 use Rattle.image.specs.Format.{encode_image}
 use Rattle.store.specs.declared.State.{State}
-use Rattle.store.specs.State.{image_of}
+use Rattle.store.specs.State.{image_of, with_place}
+use Rattle.slots.specs.{area_byte, switch_stores}
 use Rattle.store.specs.Stored.{DiskOutcome, Plan, stored_by}
 
--- an image's bytes "in order; then the pointer byte"
-abbrev pub stores_at : ℕ → ℕ → List ℕ → List Store
-stores_at at name bytes = copies at bytes ++ (store 0 name ∷ [])
+-- "and the log goes on there": in the other area, from its first byte (document 02, A.9). In form one it goes on where it was.
+abbrev pub switched_state : State → State
+switched_state s = with_place s (other_area s.area) (cond (eqb s.area 0) s.logend 0)
 
--- "into A if the pointer byte is 0 or 2, else into B"
-abbrev pub into_a : ℕ → Bool
-into_a pointer = eqb pointer 0 || eqb pointer names_b
+-- the image that names the area, and log end 0; "only its used bytes": those of the encoding
+abbrev pub slot_bytes : State → List ℕ → List ℕ
+slot_bytes s m = area_byte s.area ++ encode_image (image_of s) m
 
-abbrev pub target_name : ℕ → ℕ
-target_name pointer = cond (into_a pointer) names_a names_b
-
-abbrev pub target_at : ℕ → ℕ
-target_at pointer = image_at (target_name pointer)
-
-abbrev pub image_stores : ℕ → List ℕ → List Store
-image_stores pointer bytes = stores_at (target_at pointer) (target_name pointer) bytes
-
--- "only its used bytes": those of the encoding
 abbrev pub checkpoint_stores : State → List ℕ → List ℕ → List Store
-checkpoint_stores s d m = image_stores (pointer_of d) (encode_image (image_of s) m)
+checkpoint_stores s d m = let n = switched_state s in switch_stores n.area (pointer_of d) (slot_bytes n m)
 
+-- "with the tail": it is not stored, and stays
 abbrev pub checkpoint_plan : State → List ℕ → List ℕ → List ℕ → Plan
-checkpoint_plan s d m t = record { stores = checkpoint_stores s d m; value = 0; state = s; memory = m; tail = t }
+checkpoint_plan s d m t = record { stores = checkpoint_stores s d m; value = 0; state = switched_state s; memory = m; tail = t }
 
 unfoldable pub checkpoint_of : State → List ℕ → List ℕ → List ℕ → ℕ → DiskOutcome
 checkpoint_of s d m t allowed = stored_by s d m t (checkpoint_plan s d m t) allowed

@@ -14,7 +14,7 @@ no_extents = extents_of no_tx
 -- the counters of a state, with these transactions
 abbrev pub with_extents : State → List TxExtents → StateExtents
 with_extents s ts =
-    record { recovered = s.recovered; logend = s.logend; ondisk = s.ondisk; assigned = s.assigned; lastid = s.lastid; count = s.count; txs = ts }
+    record { recovered = s.recovered; logend = s.logend; ondisk = s.ondisk; assigned = s.assigned; lastid = s.lastid; count = s.count; area = s.area; txs = ts }
 
 -- the extents of the transactions in the first n slots
 abbrev pub Taken : State → List TxExtents → ℕ → Type 0
@@ -34,5 +34,6 @@ bare_state e =
       assigned = e.assigned;
       lastid = e.lastid;
       count = e.count;
+      area = e.area;
       txs = map bare_tx e.txs;
     }

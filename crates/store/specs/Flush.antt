@@ -1,6 +1,6 @@
 -- Flush k.
 use Rattle.std.specs.Prelude.{ℕ, ◌+◌, List, take}
-use Rattle.layout.specs.{log_start}
+use Rattle.layout.specs.Parts.{log_at}
 use Rattle.recovery.specs.Group.{Group, groups_size, last_csn}
 use Rattle.redolog.specs.declared.Csn.{Csn}
 use Rattle.redolog.specs.Log.{read_log}
@@ -11,7 +11,7 @@ use Rattle.store.specs.Stored.{DiskOutcome, Plan, stored_by}
 -- the state with this log end and commit number on disk
 abbrev pub with_log : State → ℕ → Csn → State
 with_log s logend ondisk =
-    record { recovered = s.recovered; logend = logend; ondisk = ondisk; assigned = s.assigned; lastid = s.lastid; count = s.count; txs = s.txs }
+    record { recovered = s.recovered; logend = logend; ondisk = ondisk; assigned = s.assigned; lastid = s.lastid; count = s.count; area = s.area; txs = s.txs }
 
 -- "the first k groups of the tail, or all if fewer"
 abbrev pub first_groups : State → List ℕ → ℕ → List Group
@@ -28,9 +28,9 @@ flushed_state s t k = with_log s (s.logend + first_size s t k) (record { 0 = las
 abbrev pub flushed_tail : State → List ℕ → ℕ → List ℕ
 flushed_tail s t k = shifted (first_size s t k) t
 
--- "byte after byte at the log's end"
+-- "byte after byte at the log's end", in the area in force
 abbrev pub flush_stores : State → List ℕ → ℕ → List Store
-flush_stores s t k = copies (log_start + s.logend) (take (first_size s t k) t)
+flush_stores s t k = copies (log_at s.area + s.logend) (take (first_size s t k) t)
 
 abbrev pub flush_plan : State → List ℕ → List ℕ → ℕ → Plan
 flush_plan s m t k = record { stores = flush_stores s t k; value = 0; state = flushed_state s t k; memory = m; tail = flushed_tail s t k }

@@ -1,6 +1,6 @@
 -- Number 2: what a state and the tail lent with it have to be.
 use Rattle.std.specs.Prelude.{ℕ, ◌+◌, Bool, not, ◌&&◌, ◌||◌, List, drop, eqb, ltb}
-use Rattle.layout.specs.{log_len}
+use Rattle.layout.specs.{log_len, max_area}
 use Rattle.recovery.specs.Group.{groups_size, last_csn}
 use Rattle.redolog.specs.Log.{read_log}
 use Rattle.transaction.specs.Lists.{every, sum_of}
@@ -39,6 +39,7 @@ room_used s tail = s.logend + tail_length s.ondisk.0 tail + sum_of room_of (txs_
 -- It is unrecovered, breaks an image rule, uses more than 16,384 bytes of log room, or has a running transaction whose redo records
 -- differ from its undo records in count or ranges, or a transaction with more than it is allowed of what requests add to it (`stateOk`); or the
 -- lent tail isn't whole groups, commit numbers going on from the one on disk up to the one assigned, then zeros.
+-- Or its area is "above 2" (document 02, A.9).
 unfoldable pub unfit : State → List ℕ → Bool
 unfit s tail =
     not s.recovered
@@ -46,3 +47,4 @@ unfit s tail =
     || ltb log_len (room_used s tail)
     || not (every state_ok (txs_of s))
     || not (tail_ok s.ondisk.0 s.assigned.0 tail)
+    || ltb max_area s.area

@@ -50,6 +50,7 @@ pub record ShowsSame (s r : State) : Type 0 where
   pub assigned : s.assigned.0 ≡ r.assigned.0
   pub lastid : s.lastid.0 ≡ r.lastid.0
   pub count : s.count ≡ r.count
+  pub area : s.area ≡ r.area
   pub listed : (i : ℕ) → i < s.count → SameTx (tx_at s i) (tx_at r i)
 
 -- ---- what calls leave alike

@@ -22,6 +22,7 @@ unrecovered =
       assigned = record { 0 = 0 };
       lastid = record { 0 = 0 };
       count = 0;
+      area = 0;
       txs = replicate max_txs empty_tx;
     }
 
@@ -57,4 +58,9 @@ slot_of s id = slot_in id 0 (txs_of s)
 -- antt has no record update: the state with these counters and slots
 abbrev pub with_txs : State → Csn → TxId → ℕ → List Tx → State
 with_txs s assigned last n ts =
-    record { recovered = s.recovered; logend = s.logend; ondisk = s.ondisk; assigned = assigned; lastid = last; count = n; txs = ts }
+    record { recovered = s.recovered; logend = s.logend; ondisk = s.ondisk; assigned = assigned; lastid = last; count = n; area = s.area; txs = ts }
+
+-- with this area and log end
+abbrev pub with_place : State → ℕ → ℕ → State
+with_place s area logend =
+    record { recovered = s.recovered; logend = logend; ondisk = s.ondisk; assigned = s.assigned; lastid = s.lastid; count = s.count; area = area; txs = s.txs }

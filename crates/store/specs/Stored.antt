@@ -1,6 +1,7 @@
 -- Calls that store on the disk. Each has a list of stores in its order, and makes the first ones, as many as are allowed.
-use Rattle.std.specs.Prelude.{ℕ, min, cond, not, List, ◌∷◌, length, take, replicate, eqb, ltb}
-use Rattle.layout.specs.{memory_len, tail_len, disk_len}
+use Rattle.std.specs.Prelude.{ℕ, min, cond, not, List, [], ◌∷◌, ◌++◌, length, take, replicate, ltb}
+use Rattle.layout.specs.{memory_len, tail_len}
+use Rattle.layout.specs.Parts.{form_by, disk_ok, area_ok}
 use Rattle.redolog.specs.Stores.{Store, apply}
 use Rattle.store.specs.declared.State.{State}
 use Rattle.store.specs.State.{unrecovered}
@@ -8,9 +9,10 @@ use Rattle.store.specs.Answer.{done, cut, Told, tells}
 use Rattle.store.specs.Numbers.{Check, check, first_number, shared_checks}
 use Rattle.store.specs.Calls.{decided, refusing}
 
--- "1. All calls: a lent buffer hasn't its length", the disk's before the shared ones (d, m: the lengths of the lent disk and memory)
+-- "1. All calls: a lent buffer hasn't its length", the disk's before the shared ones; the state's area, "not of the lent disk's form
+-- .. is 2" (document 02, A.9), after every 1 (d, m: the lengths of the lent disk and memory)
 abbrev pub disk_checks : State → ℕ → ℕ → List ℕ → List Check
-disk_checks s d m tail = check 1 (not (eqb d disk_len)) ∷ shared_checks s m tail
+disk_checks s d m tail = check 1 (not (disk_ok d)) ∷ (shared_checks s m tail ++ (check 2 (not (area_ok (form_by d) s.area)) ∷ []))
 
 -- what such a call leaves
 pub record DiskOutcome : Type 0 where

@@ -11,7 +11,7 @@ ghost use Rattle.store.specs.Admission.{not_admitted, rule_broken, counters_ok, 
 
 use crate::extents::StateExtents;
 use image::bounds_ok;
-use layout::{LOG_LEN, MEMORY_LEN, TAIL_LEN};
+use layout::{LAST_AREA, LOG_LEN, MEMORY_LEN, TAIL_LEN};
 use redolog::scan::read_log;
 use redolog::{Csn, TxId};
 use transaction::alike;
@@ -76,11 +76,21 @@ fn all_zero(s: &[u8]) -> bool
     zero_part(&s[at..])
 }
 
-// The counters: recovered, and the image rules of the log's end, the two commit numbers and the count.
-fn counters_ok(recovered: bool, logend: u16, ondisk: Csn, assigned: Csn, count: u8) -> bool
-    ensures { result ≡ counters_ok recovered logend ondisk.0 assigned.0 count }
+// The counters: recovered, an area that some form has, and the image rules of the log's end, the two commit numbers and the count.
+fn counters_ok(
+    recovered: bool,
+    area: u8,
+    logend: u16,
+    ondisk: Csn,
+    assigned: Csn,
+    count: u8,
+) -> bool
+    ensures { result ≡ counters_ok recovered area logend ondisk.0 assigned.0 count }
 {
     if !recovered {
+        return false;
+    }
+    if LAST_AREA < area {
         return false;
     }
     bounds_ok(logend, ondisk, assigned, count)
@@ -164,6 +174,7 @@ impl StateExtents {
         }
         if !counters_ok(
             self.recovered,
+            self.area,
             self.logend,
             self.ondisk,
             self.assigned,

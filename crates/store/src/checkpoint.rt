@@ -1,47 +1,17 @@
-// Checkpoint: the image goes into the slot that the pointer byte doesn't name, then the pointer byte.
-ghost use Rattle.std.specs.Prelude.{◌≡◌, ◌+◌, ◌<◌, ◌≤◌, min, length, take, get_or};
-ghost use Rattle.layout.specs.{disk_len, image_len};
-ghost use Rattle.redolog.specs.Stores.{apply};
+// Checkpoint: the other area is wiped, the image goes into the slot that the pointer byte doesn't name, then the pointer byte.
+ghost use Rattle.std.specs.Prelude.{◌≡◌};
 ghost use Rattle.store.specs.Answer.{of_stored};
 ghost use Rattle.store.specs.State.{image_of};
-ghost use Rattle.store.specs.Checkpoint.{stores_at, image_stores, checkpoint_of};
+ghost use Rattle.store.specs.Checkpoint.{switched_state, checkpoint_of};
 
 use crate::stored::{Stored, cut_off, refused};
 use crate::{Answer, State};
 use image::Image;
-use image::write::encode;
-use layout::{IMAGE_A, IMAGE_B, IMAGE_LEN, NAMES_A, NAMES_B};
-use redolog::stores::copy_up;
+use layout::IMAGE_LEN;
+use slots::{encode_slot, other_area, store_switched, wiped_len};
 
-// An image into the slot that starts at an offset, then its name into the pointer byte, as far as stores are allowed; how many were made.
-fn store_at(disk: &mut [u8], at: usize, name: u8, image: &[u8], allowed: usize) -> usize
-    requires { (0 < length disk.old) × (at + length image.now ≤ length disk.old) }
-    ensures value { result ≡ min allowed (length (stores_at at name image.now)) }
-    ensures disk_after { disk.new ≡ apply (take allowed (stores_at at name image.now)) disk.old }
-{
-    let made = copy_up(disk, at, image, allowed);
-    if made == allowed {
-        return made;
-    }
-    disk[0] = name;
-    made + 1
-}
-
-// An image into A if the pointer byte is 0 or 2, else into B.
-fn store_image(disk: &mut [u8], image: &[u8], allowed: usize) -> usize
-    requires { (length disk.old ≡ disk_len) × (length image.now ≤ image_len) }
-    ensures value { result ≡ min allowed (length (image_stores (get_or disk.old 0 0) image.now)) }
-    ensures disk_after { disk.new ≡ apply (take allowed (image_stores (get_or disk.old 0 0) image.now)) disk.old }
-{
-    let pointer = disk[0];
-    if pointer == 0 {
-        return store_at(disk, IMAGE_A, NAMES_A, image, allowed);
-    }
-    if pointer == NAMES_B {
-        return store_at(disk, IMAGE_A, NAMES_A, image, allowed);
-    }
-    store_at(disk, IMAGE_B, NAMES_B, image, allowed)
-}
+// An image with its area byte.
+const SLOT_LEN: usize = IMAGE_LEN + 1;
 
 impl State {
     // What an image has of the state.
@@ -62,6 +32,18 @@ impl State {
         }
     }
 
+    // The log goes on in the other area, from its first byte; in form one it stays where it was.
+    pub(crate) fn switch_step(mut self) -> Self
+        ensures { result ≡ switched_state self }
+    {
+        if self.area == 0 {
+            return self;
+        }
+        self.area = other_area(self.area);
+        self.logend = 0;
+        self
+    }
+
     pub fn checkpoint(
         mut self,
         disk: &mut [u8],
@@ -79,17 +61,19 @@ impl State {
         if admitted.number != 0 {
             return refused(admitted.number, self);
         }
-        let image = self.image();
-        let mut bytes: [u8; IMAGE_LEN] = [0; IMAGE_LEN];
-        let size = encode(&mut bytes, image, &*memory);
-        let stores = store_image(disk, &bytes[..size], allowed);
-        if stores <= size {
+        let next = self.switch_step();
+        let area = next.area;
+        let image = next.image();
+        let mut bytes: [u8; SLOT_LEN] = [0; SLOT_LEN];
+        let size = encode_slot(&mut bytes, area, image, &*memory);
+        let stores = store_switched(disk, area, &bytes[..size], allowed);
+        if stores <= wiped_len(area) + size {
             return cut_off(memory, tail, stores);
         }
         Stored {
             answer: Answer::Done,
             stores: stores,
-            state: self,
+            state: next,
         }
     }
 }

@@ -16,6 +16,7 @@ pub(crate) struct StateExtents {
     pub assigned: Csn,
     pub lastid: TxId,
     pub count: u8,
+    pub area: u8,
     pub txs: [TxExtents; MAX_TXS],
 }
 
@@ -54,6 +55,7 @@ impl State {
             assigned: assigned,
             lastid: lastid,
             count: self.count,
+            area: self.area,
             txs: [first; MAX_TXS],
         };
         if self.count <= 1 {

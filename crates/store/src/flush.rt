@@ -1,4 +1,4 @@
-// Flush: the first groups of the tail go to the log's end on disk.
+// Flush: the first groups of the tail go to the log's end on disk, in the area in force.
 ghost use Rattle.std.specs.Prelude.{◌≡◌, ◌+◌, ◌≤◌};
 ghost use Rattle.layout.specs.{log_len};
 ghost use Rattle.store.specs.Answer.{of_stored};
@@ -6,7 +6,8 @@ ghost use Rattle.store.specs.Flush.{with_log, flush_of};
 
 use crate::stored::{Stored, cut_off, refused};
 use crate::{Answer, State};
-use layout::{LOG_LEN, LOG_START};
+use layout::LOG_LEN;
+use layout::geometry::log_at;
 use redolog::Csn;
 use redolog::scan::read_first;
 use redolog::stores::{copy_up, shift_down};
@@ -50,12 +51,8 @@ impl State {
             };
         }
         let end = self.logend as usize;
-        let stores = copy_up(
-            &mut disk[LOG_START..LOG_START + LOG_LEN],
-            end,
-            &tail[..size],
-            allowed,
-        );
+        let at = log_at(self.area);
+        let stores = copy_up(&mut disk[at..at + LOG_LEN], end, &tail[..size], allowed);
         if stores < size {
             return cut_off(memory, tail, stores);
         }

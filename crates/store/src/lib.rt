@@ -21,7 +21,7 @@ pub(crate) const COUNT_MAX: u8 = MAX_TXS as u8;
 
 pub(crate) const RECORDS_MAX: u8 = MAX_RECORDS as u8;
 
-// Transactions in order of begin, in the first count slots. Laid out as C does it, with all that it holds, for hosts in other languages
+// Transactions in order of begin, in the first count slots; area is that of the log in force, 0 in form one (document 02, A.9). Laid out as C does it, with all that it holds, for hosts in other languages
 // (crate `luppaneth`).
 #[repr(C)]
 #[derive(Drop)]
@@ -32,6 +32,7 @@ pub struct State {
     pub assigned: Csn,
     pub lastid: TxId,
     pub count: u8,
+    pub area: u8,
     pub txs: [Tx; MAX_TXS],
 }
 
@@ -55,6 +56,7 @@ impl State {
             assigned: Csn(0),
             lastid: TxId(0),
             count: 0,
+            area: 0,
             txs: [t; MAX_TXS],
         }
     }

@@ -10,7 +10,7 @@ ghost use Rattle.store.specs.Stored.{zeroed};
 use crate::admit::{Admission, not_admitted};
 use crate::extents::StateExtents;
 use crate::{Answer, State};
-use layout::DISK_LEN;
+use layout::geometry::{area_ok, disk_ok, form_of};
 use redolog::stores::fill_zero;
 
 // stores is the number of stores made.
@@ -53,9 +53,17 @@ impl StateExtents {
     pub(crate) fn admit_disk(self, disk: usize, memory: usize, tail: &[u8]) -> Admission
         ensures { result ≡ disk_admission (bare_state self) disk memory tail.now }
     {
-        if disk != DISK_LEN {
+        if !disk_ok(disk) {
             return not_admitted(1);
         }
-        self.admit(memory, tail)
+        let admitted = self.admit(memory, tail);
+        if admitted.number != 0 {
+            return admitted;
+        }
+        let form = form_of(disk);
+        if !area_ok(form, self.area) {
+            return not_admitted(2);
+        }
+        admitted
     }
 }

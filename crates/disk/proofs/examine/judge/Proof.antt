@@ -69,7 +69,7 @@ zero x = sym (number (opened x)) ∙ x.if1.false
 shown : (x : tie.Else1) → Handed (opened x).«open».result (diskAt (opened x))
 shown x =
     let o = opened x in
-    subst (λ (r : Opened). Handed r (diskAt o)) (sym o.«open».ensures.0) (handed (diskAt o) (zero x))
+    subst (λ (r : Opened). Handed r (diskAt o)) (sym o.«open».ensures.0) (handed (diskAt o) (entry o).pre.0 (zero x))
 
 -- the part with the image's transactions, and the log, as they are lent
 abbrev txsAt : tie.Else1 → List ℕ
@@ -91,10 +91,10 @@ rules : (x : tie.Else1) → keeps_rules (imageAt x) ≡ true
 rules x = ap keeps_rules (image x) ∙ opened_rules (diskAt (opened x)) (zero x)
 
 add-recover : tie.Need-overflow-add-recover
-add-recover c = omega (arith, (shown c.before.before).slot)
+add-recover c = let x = c.before.before in omega (arith, (shown x).slot, (shown x).short)
 
 add-recover-2 : tie.Need-overflow-add-recover-2
-add-recover-2 c = omega (arith, (shown c.before.before).slot)
+add-recover-2 c = let x = c.before.before in omega (arith, (shown x).slot, (shown x).short)
 
 sub-recover : tie.Need-overflow-sub-recover
 sub-recover c = search rules
@@ -103,7 +103,7 @@ part-recover-start : tie.Need-slice-bounds-recover-start
 part-recover-start c = search rules
 
 part-recover-end : tie.Need-slice-bounds-recover-end
-part-recover-end c = let x = c.before.before in omega (arith, (shown x).slot, (entry (opened x)).requires.0)
+part-recover-end c = (shown c.before.before).slot
 
 sub-recover-2 : tie.Need-overflow-sub-recover-2
 sub-recover-2 c = (shown c.before.before.before).start
@@ -112,7 +112,7 @@ part-recover-start-2 : tie.Need-slice-bounds-recover-start-2
 part-recover-start-2 c = (shown c.before.before.before).start
 
 part-recover-end-2 : tie.Need-slice-bounds-recover-end-2
-part-recover-end-2 c = let x = c.before.before.before in omega (arith, (shown x).end, (entry (opened x)).requires.0)
+part-recover-end-2 c = (shown c.before.before.before).end
 
 recover-requires : tie.Need-recover-requires
 recover-requires c κs =
@@ -197,11 +197,16 @@ returns-3 : tie.Need-returns-3
 returns-3 c =
     let x = c.before.before.before.before.before.before.before.before.before.before in
     answered (means (diskAt (opened (at x))) (zero (at x)) (omega (arith, c.before.before.before.before.if2.false, total x)))
-    (record { found = ap₂ (λ (n : ℕ) (r : Recovered). examinedAt n r) (shown (at x)).logend (found x); tail = laid x })
+    (record {
+      found =
+          ap (λ (k : ℕ). examinedAt k (opened (at x)).«open».result.heads.logend x.recover.result.answer) (shown (at x)).area
+          ∙ ap₂ (λ (n : ℕ) (r : Recovered). examinedAt (open_of (diskAt (opened (at x)))).area n r) (shown (at x)).logend (found x);
+      tail = laid x;
+    })
     (x.recover.ensures.1.0 ∙ ap (λ (o : AfterSteps). o.memory) (steps x))
   where
-    examinedAt : ℕ → Recovered → Examined
-    examinedAt n r = record { number = 0; end = n + r.end; csn = r.csn; last = r.last; undone = r.undone; found = r.found }
+    examinedAt : ℕ → ℕ → Recovered → Examined
+    examinedAt k n r = record { number = 0; area = k; end = n + r.end; csn = r.csn; last = r.last; undone = r.undone; found = r.found }
 
 pub judge-spec : {M : Type 1} → statement M
 judge-spec =

@@ -21,7 +21,7 @@ returns : tie.Need-returns
 unfolding shut_by not_opened
 returns c =
     let s = c.before.before.before.before.before.before in (
-      ap (λ (h : Heads). record { number = s.args.number; heads = h; image = 0; from = 0; to = 0 }) c.blank-heads.ensures,
+      ap (λ (h : Heads). record { number = s.args.number; area = 0; heads = h; image = 0; from = 0; to = 0 }) c.blank-heads.ensures,
       c.before.before.before.fill-zero.ensures ∙ ap (λ (n : ℕ). replicate n 0) s.requires,
     )
 

@@ -1,10 +1,13 @@
 use Prim.Native.Nat.{ℕ, ◌+◌, ◌-◌, ◌≤◌}
 use borrow.Author.Rules.{rules}
+use borrow.Author.Tests.{not-true, not-false}
+use mathlib.Core.Bool.{true}
 use native.Mathlib.Omega.{arith}
 use mathlib.Core.List.{List}
 use mathlib.Core.Path.{◌≡◌, refl, sym, ap, ap₂, ◌∙◌, subst}
-use lib.ListN.{take, drop, length-take}
-use Rattle.layout.specs.Parts.{part}
+use lib.ListN.{length, take, drop, length-take}
+use Rattle.layout.specs.Parts.{disk_ok, part}
+use Rattle.layout.proofs.Forms.{disk_ok_lem}
 use Rattle.image.specs.declared.Image.{Image}
 use Rattle.image.specs.Heads.{image_by, HeadsFit}
 use Rattle.image.proofs.Rules.{image_logend, image_count}
@@ -21,29 +24,39 @@ use Rattle.inspect.proofs.Applying.{as_left, groups_no_disk, groups_no_memory, g
 use Rattle.inspect.proofs.groups.first_groups.Statement.{statement}
 use Rattle.inspect.proofs.groups.first_groups.Tie as tie
 
+disk-ok-requires : tie.Need-disk-ok-requires
+disk-ok-requires c κs = search rules
+
+-- the disk passed number 1
+fit : (x : tie.Else1) → disk_ok (length x.before.before.before.before.args.disk.now) ≡ true
+fit x = sym x.before.disk-ok.ensures ∙ not-false _ x.if1.false
+
 refused-requires : tie.Need-refused-requires
 refused-requires c κs = search rules
 
 returns : tie.Need-returns
 returns c =
-    let a = c.before.before.before.before.args in
-    as_left (groups_no_disk a.disk.now a.memory.now a.groups c.before.if1.true) c.refused.ensures refl
+    let a = c.before.before.before.before.before.args in
+    let n = sym c.before.before.disk-ok.ensures ∙ not-true _ c.before.if1.true in
+    as_left (groups_no_disk a.disk.now a.memory.now a.groups n) c.refused.ensures refl
 
 refused-requires-2 : tie.Need-refused-requires-2
 refused-requires-2 c κs = search rules
 
 returns-2 : tie.Need-returns-2
 returns-2 c =
-    let a = c.before.before.before.before.before.args in
+    let a = c.before.before.before.before.before.before.args in
     as_left (groups_no_memory a.disk.now a.memory.now a.groups c.before.if2.true) c.refused2.ensures refl
 
 open-requires : tie.Need-open-requires
-open-requires c κs = (c.before.before.if1.false, c.before.if2.false)
+open-requires c κs =
+    let x = c.before.before in
+    (disk_ok_lem (length x.before.before.before.before.args.disk.now) (fit x), c.before.if2.false)
 
 -- ---- once the disk is opened
 
 abbrev entry : tie.After-open → tie.Start
-entry o = o.before.before.before.before.before.before
+entry o = o.before.before.before.before.before.before.before
 
 abbrev diskAt : tie.After-open → List ℕ
 diskAt o = (entry o).args.disk.now
@@ -61,7 +74,7 @@ returns-3 : tie.Need-returns-3
 returns-3 c =
     let o = c.before.before.before.before in
     let a = (entry o).args in
-    let d = o.before.before.before.if1.false in
+    let d = fit o.before.before.before in
     let m = o.before.before.if2.false in
     as_left (groups_shut a.disk.now a.memory.now a.groups d m (λ z. c.before.if3.true (number o ∙ z)))
     (c.refused3.ensures ∙ ap refused_groups (number o)) o.«open».ensures.1
@@ -80,7 +93,7 @@ zero x = sym (number (opened x)) ∙ x.if3.false
 shown : (x : tie.Else3) → Handed (opened x).«open».result (diskAt (opened x))
 shown x =
     let o = opened x in
-    subst (λ (r : Opened). Handed r (diskAt o)) (sym o.«open».ensures.0) (handed (diskAt o) (zero x))
+    subst (λ (r : Opened). Handed r (diskAt o)) (sym o.«open».ensures.0) (handed (diskAt o) (disk_ok_lem (length (diskAt o)) (fit o.before.before.before)) (zero x))
 
 -- the part with the image's transactions, as it is lent
 abbrev txsAt : tie.Else3 → List ℕ
@@ -105,10 +118,10 @@ few x =
     )
 
 add-forward : tie.Need-overflow-add-forward
-add-forward c = omega (arith, (shown c.before.before).slot)
+add-forward c = let x = c.before.before in omega (arith, (shown x).slot, (shown x).short)
 
 add-forward-2 : tie.Need-overflow-add-forward-2
-add-forward-2 c = omega (arith, (shown c.before.before).slot)
+add-forward-2 c = let x = c.before.before in omega (arith, (shown x).slot, (shown x).short)
 
 sub-forward : tie.Need-overflow-sub-forward
 sub-forward c = search rules
@@ -117,16 +130,16 @@ part-forward-start : tie.Need-slice-bounds-forward-start
 part-forward-start c = search rules
 
 part-forward-end : tie.Need-slice-bounds-forward-end
-part-forward-end c = let x = c.before.before in omega (arith, (shown x).slot, (opened x).before.before.before.if1.false)
+part-forward-end c = (shown c.before.before).slot
 
 sub-forward-2 : tie.Need-overflow-sub-forward-2
-sub-forward-2 c = let x = c.before.before.before in omega (arith, (shown x).start, (shown x).end)
+sub-forward-2 c = (shown c.before.before.before).start
 
 part-forward-start-2 : tie.Need-slice-bounds-forward-start-2
-part-forward-start-2 c = let x = c.before.before.before in omega (arith, (shown x).start, (shown x).end)
+part-forward-start-2 c = (shown c.before.before.before).start
 
 part-forward-end-2 : tie.Need-slice-bounds-forward-end-2
-part-forward-end-2 c = let x = c.before.before.before in omega (arith, (shown x).end, (opened x).before.before.before.if1.false)
+part-forward-end-2 c = (shown c.before.before.before).end
 
 forward-requires : tie.Need-forward-requires
 forward-requires c κs =
@@ -153,8 +166,8 @@ went c =
     ap (λ (i : Image). first_of k i (part r.from (r.to - r.from) (diskAt o)) o.«open».last.1.0) (image x)
     ∙ ap₂ (λ (l m : List ℕ). first_of k (open_of (diskAt o)).image l m) (shown x).log o.«open».ensures.1
 
-add-t13 : tie.Need-overflow-add-t13
-add-t13 c =
+add-t14 : tie.Need-overflow-add-t14
+add-t14 c =
     let f = c.before.before.before.before in
     let x = at f in
     let o = opened x in
@@ -166,6 +179,7 @@ add-t13 c =
       pass_within _ _ (part r.from (r.to - r.from) (diskAt o)) o.«open».last.1.0 f.forward.ensures.0,
       length-take (r.to - r.from) (drop r.from (diskAt o)),
       (shown x).end,
+      (shown x).short,
     )
 
 same-length-2 : tie.Need-same-length-2
@@ -178,7 +192,7 @@ returns-4 c =
     let o = opened x in
     let a = (entry o).args in
     let p = f.forward.ensures.0 ∙ ap (λ (w : Went). w.pass) (went f) in
-    as_left (groups_open a.disk.now a.memory.now a.groups o.before.before.before.if1.left o.before.before.if2.left (zero x))
+    as_left (groups_open a.disk.now a.memory.now a.groups (fit o.before.before.before) o.before.before.if2.left (zero x))
     (ap₂ told (shown x).logend p) (f.forward.ensures.1 ∙ ap (λ (w : Went). w.memory) (went f))
   where
     told : ℕ → Pass → GroupsTold
@@ -188,6 +202,7 @@ pub first-groups-spec : {M : Type 1} → statement M
 first-groups-spec =
     tie.close
     (tie.spec
+    disk-ok-requires
     refused-requires
     returns
     refused-requires-2
@@ -206,6 +221,6 @@ first-groups-spec =
     part-forward-start-2
     part-forward-end-2
     forward-requires
-    add-t13
+    add-t14
     same-length-2
     returns-4)

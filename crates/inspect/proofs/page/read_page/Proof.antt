@@ -1,9 +1,13 @@
 use Prim.Native.Nat.{ℕ, ◌<◌}
 use borrow.Author.Rules.{rules}
+use borrow.Author.Tests.{not-true, not-false}
+use mathlib.Core.Bool.{true}
 use native.Mathlib.Omega.{arith}
 use mathlib.Core.List.{List}
 use mathlib.Core.Path.{◌≡◌, refl, sym, ap, ◌∙◌}
-use lib.ListN.{length, replicate}
+use lib.ListN.{length, replicate, length-replicate}
+use Rattle.layout.specs.Parts.{disk_ok}
+use Rattle.layout.proofs.Forms.{disk_ok_lem}
 use Rattle.store.specs.Answer.{refused}
 use Rattle.disk.specs.declared.examine.Examined.{Examined}
 use Rattle.disk.specs.Examine.{examine_of}
@@ -12,25 +16,33 @@ use Rattle.inspect.proofs.Paging.{as_page, page_no_disk, page_no_buffer, page_ab
 use Rattle.inspect.proofs.page.read_page.Statement.{statement}
 use Rattle.inspect.proofs.page.read_page.Tie as tie
 
+disk-ok-requires : tie.Need-disk-ok-requires
+disk-ok-requires c κs = search rules
+
+-- the disk passed number 1
+fit : (x : tie.Else1) → disk_ok (length x.before.before.before.before.args.disk.now) ≡ true
+fit x = sym x.before.disk-ok.ensures ∙ not-false _ x.if1.false
+
 returns : tie.Need-returns
 returns c =
-    let a = c.before.before.before.args in
-    as_page (page_no_disk a.disk.now a.buffer.now a.page c.if1.true) refl refl
+    let a = c.before.before.before.before.args in
+    let n = sym c.before.disk-ok.ensures ∙ not-true _ c.if1.true in
+    as_page (page_no_disk a.disk.now a.buffer.now a.page n) refl refl
 
 returns-2 : tie.Need-returns-2
 returns-2 c =
-    let a = c.before.before.before.before.args in
+    let a = c.before.before.before.before.before.args in
     as_page (page_no_buffer a.disk.now a.buffer.now a.page (λ e. omega (arith, e, c.if2.true))) refl refl
 
 returns-3 : tie.Need-returns-3
 returns-3 c =
-    let a = c.before.before.before.before.before.args in
-    as_page (page_above a.disk.now a.buffer.now a.page c.before.before.if1.false c.before.if2.false (omega (arith, c.if3.true))) refl refl
+    let a = c.before.before.before.before.before.before.args in
+    as_page (page_above a.disk.now a.buffer.now a.page (fit c.before.before) c.before.if2.false (omega (arith, c.if3.true))) refl refl
 
 -- ---- once the disk was looked at
 
 abbrev entry : tie.After-judge → tie.Start
-entry j = j.before.before.before.before.before.before.before
+entry j = j.before.before.before.before.before.before.before.before
 
 abbrev diskAt : tie.After-judge → List ℕ
 diskAt j = (entry j).args.disk.now
@@ -45,7 +57,7 @@ slice-aggregate-judge : tie.Need-slice-aggregate-judge
 slice-aggregate-judge c = search rules
 
 judge-requires : tie.Need-judge-requires
-judge-requires c κs = search rules
+judge-requires c κs = let x = c.before.before.before in (disk_ok_lem (length x.before.before.before.before.args.disk.now) (fit x), length-replicate {A = ℕ} 4096 0)
 
 fill-zero-requires : tie.Need-fill-zero-requires
 fill-zero-requires c κs = search rules
@@ -57,7 +69,7 @@ returns-4 : tie.Need-returns-4
 returns-4 c =
     let j = c.before.before.before.before.before.before.before in
     let a = (entry j).args in
-    let d = j.before.before.before.before.if1.false in
+    let d = fit j.before.before.before.before in
     let b = j.before.before.before.if2.false in
     as_page (page_refused a.disk.now a.buffer.now a.page d b (low j) (λ z. omega (arith, z, number j, c.before.before.before.before.if4.true)))
     (ap refused (number j)) (c.before.before.fill-zero.ensures ∙ ap (λ (n : ℕ). replicate n 0) b)
@@ -88,7 +100,7 @@ returns-5 c =
     let x = c.before.before in
     let j = x.before.before.before.before.before.before.before in
     let a = (entry j).args in
-    let d = j.before.before.before.before.if1.false in
+    let d = fit j.before.before.before.before in
     let b = j.before.before.before.if2.false in
     let m = j.judge.ensures.1 in
     as_page
@@ -102,6 +114,7 @@ pub read-page-spec : {M : Type 1} → statement M
 read-page-spec =
     tie.close
     (tie.spec
+    disk-ok-requires
     returns
     returns-2
     returns-3

@@ -1,10 +1,11 @@
 use borrow.Author.Rules.{rules}
+use Prim.Native.Nat.{◌≤◌}
 use native.Mathlib.Omega.{arith}
 use mathlib.Core.Path.{◌≡◌, refl, sym, ◌∙◌}
 use lib.ListN.{length, replicate, length-replicate}
 use Rattle.store.proofs.Bare.{disk_by}
 use Rattle.store.proofs.Storing.{disk_number, disk_number_lem, disk_admitted, leaves}
-use Rattle.store.proofs.Checkpointing.{Encoded, checkpoint_refused, image_ok_lem, encoded, checkpoint_cut, checkpoint_done}
+use Rattle.store.proofs.Checkpointing.{Encoded, checkpoint_refused, image_ok_lem, encoded, encoded_within, wiped_low, checkpoint_cut, checkpoint_done}
 use Rattle.store.proofs.State.checkpoint.Statement.{statement}
 use Rattle.store.proofs.State.checkpoint.Tie as tie
 
@@ -45,42 +46,63 @@ start c = c.before.before.before.before.before.before.before.before
 passed : (c : tie.Else1) → let a = (start c).args in disk_number a.self a.disk.now a.memory.now a.tail.now ≡ 0
 passed c = number c.before.before ∙ c.if1.false
 
+switch-step-requires : tie.Need-switch-step-requires
+switch-step-requires c κs = search rules
+
 image-requires : tie.Need-image-requires
 image-requires c κs = search rules
 
-slice-aggregate-encode : tie.Need-slice-aggregate-encode
-slice-aggregate-encode c = search rules
+slice-aggregate-encode-slot : tie.Need-slice-aggregate-encode-slot
+slice-aggregate-encode-slot c = search rules
 
-encode-requires : tie.Need-encode-requires
-encode-requires c κs =
-    let x = c.before.before.before in
+encode-slot-requires : tie.Need-encode-slot-requires
+encode-slot-requires c κs =
+    let x = c.before.before.before.before in
     let a = (start x).args in
+    let next = c.before.before.before.switch-step in
     let image = c.before.before.image in (
-      image_ok_lem a.self a.disk.now a.memory.now a.tail.now a.allowed (passed x) image.result image.ensures,
-      ((disk_admitted a.self a.disk.now a.memory.now a.tail.now (passed x)).memory, omega arith),
+      image_ok_lem a.self a.disk.now a.memory.now a.tail.now a.allowed (passed x) next.result next.ensures image.result image.ensures,
+      (disk_admitted a.self a.disk.now a.memory.now a.tail.now (passed x)).memory,
+      omega arith,
     )
 
--- the buffer holds the image
+-- the buffer holds the image of the state that goes on
 
-abbrev entered : tie.After-encode → tie.Else1
-entered e = e.before.before.before.before
+abbrev entered : tie.After-encode-slot → tie.Else1
+entered e = e.before.before.before.before.before
 
-image-bytes : (e : tie.After-encode) → let a = (start (entered e)).args in
-    Encoded a.self a.disk.now a.memory.now e.encode.new.0 e.encode.result
+abbrev goesOn : tie.After-encode-slot → tie.After-switch-step
+goesOn e = e.before.before.before.before
+
+image-bytes : (e : tie.After-encode-slot) → let a = (start (entered e)).args in
+    Encoded (goesOn e).switch-step.result a.disk.now a.memory.now e.encode-slot.new.0 e.encode-slot.result
 image-bytes e =
     let a = (start (entered e)).args in
+    let next = (goesOn e).switch-step in
     let image = e.before.before.before.image in
-    encoded a.self a.disk.now a.memory.now a.tail.now a.allowed (passed (entered e)) image.result e.encode.result
-    (replicate 8653 0) e.encode.new.0 image.ensures e.encode.ensures.0 (simp length-replicate (omega arith)) e.encode.ensures.1
+    encoded a.self a.disk.now a.memory.now a.tail.now a.allowed (passed (entered e)) next.result next.ensures image.result
+    e.encode-slot.result (replicate 8654 0) e.encode-slot.new.0 image.ensures e.encode-slot.ensures.0
+    (simp length-replicate (omega arith)) e.encode-slot.ensures.1
+
+within : (e : tie.After-encode-slot) → e.encode-slot.result ≤ 8654
+within e =
+    let a = (start (entered e)).args in
+    encoded_within (goesOn e).switch-step.result a.disk.now a.memory.now e.encode-slot.new.0 e.encode-slot.result (image-bytes e)
 
 array-share-prefix-bytes : tie.Need-array-share-prefix-bytes
-array-share-prefix-bytes c = let e = image-bytes c.before.before in omega (arith, e.small, c.before.before.encode.auto.0)
+array-share-prefix-bytes c = omega (arith, within c.before.before, c.before.before.encode-slot.auto.0)
 
-slice-aggregate-store-image : tie.Need-slice-aggregate-store-image
-slice-aggregate-store-image c = sym (image-bytes c.before.before.before).counted
+slice-aggregate-store-switched : tie.Need-slice-aggregate-store-switched
+slice-aggregate-store-switched c = sym (image-bytes c.before.before.before).counted
 
-store-image-requires : tie.Need-store-image-requires
-store-image-requires c κs = let e = image-bytes c.before.before.before in (e.disk, omega (arith, e.counted, e.small))
+store-switched-requires : tie.Need-store-switched-requires
+store-switched-requires c κs = let e = image-bytes c.before.before.before in (e.disk, e.area, omega (arith, e.counted, e.small))
+
+wiped-len-requires : tie.Need-wiped-len-requires
+wiped-len-requires c κs = search rules
+
+add-if2 : tie.Need-overflow-add-if2
+add-if2 c = omega (arith, wiped_low (goesOn c.before.before.before.before.before.before.before).switch-step.result.area, c.wiped-len.ensures, within c.before.before.before.before.before.before.before)
 
 cut-off-requires : tie.Need-cut-off-requires
 cut-off-requires c κs = search rules
@@ -96,14 +118,17 @@ same-length-4 c = search rules
 
 returns-2 : tie.Need-returns-2
 returns-2 c =
-    let e = c.before.before.before.before.before.before.before.before.before.before.before.before.before.before in
+    let judged = c.before.before.before.before.before.before.before in
+    let w = judged.before.wiped-len in
+    let made = judged.before.before.before.before.store-switched in
+    let e = judged.before.before.before.before.before.before.before.before in
     let a = (start (entered e)).args in
-    let made = c.before.before.before.before.before.before.before.before.before.before.store-image in
+    let next = (goesOn e).switch-step in
     let off = c.before.before.before.before.cut_off in
     leaves
-    (checkpoint_cut a.self a.disk.now a.memory.now a.tail.now a.allowed (passed (entered e)) e.encode.result made.result
-    e.encode.new.0 made.new.0 (image-bytes e) made.ensures.0 made.ensures.1
-    c.before.before.before.before.before.before.before.if2.true)
+    (checkpoint_cut a.self a.disk.now a.memory.now a.tail.now a.allowed (passed (entered e)) next.result next.ensures
+    e.encode-slot.result made.result w.result e.encode-slot.new.0 made.new.0 (image-bytes e) w.ensures made.ensures.0 made.ensures.1
+    judged.if2.true)
     off.ensures.0 refl off.ensures.1.0 off.ensures.1.1
 
 same-length-5 : tie.Need-same-length-5
@@ -117,12 +142,15 @@ same-length-7 c = search rules
 
 returns-3 : tie.Need-returns-3
 returns-3 c =
-    let e = c.before.before.before.before.before.before.before in
+    let w = c.before.wiped-len in
+    let made = c.before.before.before.before.store-switched in
+    let e = c.before.before.before.before.before.before.before.before in
     let a = (start (entered e)).args in
-    let made = c.before.before.before.store-image in
+    let next = (goesOn e).switch-step in
     leaves
-    (checkpoint_done a.self a.disk.now a.memory.now a.tail.now a.allowed (passed (entered e)) e.encode.result made.result
-    e.encode.new.0 made.new.0 (image-bytes e) made.ensures.0 made.ensures.1 c.if2.false)
+    (checkpoint_done a.self a.disk.now a.memory.now a.tail.now a.allowed (passed (entered e)) next.result next.ensures
+    e.encode-slot.result made.result w.result e.encode-slot.new.0 made.new.0 (image-bytes e) w.ensures made.ensures.0 made.ensures.1
+    c.if2.false)
     refl refl refl refl
 
 pub checkpoint-spec : {M : Type 1} → statement M
@@ -134,12 +162,15 @@ checkpoint-spec =
     refused-requires
     same_length
     returns
+    switch-step-requires
     image-requires
-    slice-aggregate-encode
-    encode-requires
+    slice-aggregate-encode-slot
+    encode-slot-requires
     array-share-prefix-bytes
-    slice-aggregate-store-image
-    store-image-requires
+    slice-aggregate-store-switched
+    store-switched-requires
+    wiped-len-requires
+    add-if2
     cut-off-requires
     same-length-2
     same-length-3

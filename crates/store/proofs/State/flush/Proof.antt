@@ -1,5 +1,5 @@
 use borrow.Author.Rules.{rules}
-use Prim.Native.Nat.{◌≤◌}
+use Prim.Native.Nat.{ℕ, ◌+◌, ◌-◌, ◌≤◌}
 use native.Mathlib.Omega.{arith}
 use mathlib.Core.Path.{◌≡◌, refl, sym, ap, ◌∙◌}
 use mathlib.Core.List.{◌++◌}
@@ -12,7 +12,7 @@ use Rattle.store.specs.Answer.{done, tells}
 use Rattle.store.specs.Admission.{disk_admission}
 use Rattle.store.proofs.Bare.{disk_by}
 use Rattle.store.proofs.Storing.{disk_number, disk_number_lem, disk_end, leaves}
-use Rattle.store.proofs.Flushing.{Room, flush_refused, flush_fits, flush_nothing, flush_ends, flush_shift, flush_cut, flush_done}
+use Rattle.store.proofs.Flushing.{Room, area_low, flush_refused, flush_fits, flush_nothing, flush_ends, flush_shift, flush_cut, flush_done}
 use Rattle.store.proofs.State.flush.Statement.{statement}
 use Rattle.store.proofs.State.flush.Tie as tie
 
@@ -88,28 +88,43 @@ returns-2 c =
     r.read_first.ensures c.if2.true)
     refl refl refl refl
 
+log-at-requires : tie.Need-log-at-requires
+log-at-requires c κs = search rules
+
+-- where the area stands
+
+placed : (c : tie.After-log-at) → c.log-at.result ≤ 33693
+placed c = omega (arith, c.log-at.ensures, area_low (start (asked (entered c.before.before.before))).args.self.area)
+
+inside : (c : tie.After-log-at) → c.log-at.result + 16384 ≤ length (start (asked (entered c.before.before.before))).args.disk.now
+inside c = omega (arith, c.log-at.ensures, (room c.before.before.before).disk)
+
 add-copy-up : tie.Need-overflow-add-copy-up
-add-copy-up c = search rules
+add-copy-up c = omega (arith, placed c)
 
 sub-copy-up : tie.Need-overflow-sub-copy-up
-sub-copy-up c = search rules
+sub-copy-up c = omega arith
 
 part-copy-up-start : tie.Need-slice-bounds-copy-up-start
-part-copy-up-start c = search rules
+part-copy-up-start c = omega arith
 
 part-copy-up-end : tie.Need-slice-bounds-copy-up-end
-part-copy-up-end c = omega (arith, (room c.before.before).disk)
+part-copy-up-end c = omega (arith, inside c)
 
 slice-reshare-prefix-copy-up : tie.Need-slice-reshare-prefix-copy-up
-slice-reshare-prefix-copy-up c = (room c.before.before.before).tail
+slice-reshare-prefix-copy-up c = (room c.before.before.before.before).tail
 
 slice-aggregate-copy-up : tie.Need-slice-aggregate-copy-up
-slice-aggregate-copy-up c = sym (room c.before.before.before.before).bytes
+slice-aggregate-copy-up c = sym (room c.before.before.before.before.before).bytes
 
 copy-up-requires : tie.Need-copy-up-requires
 copy-up-requires c κs =
-    let r = room c.before.before.before.before in
-    simp (r.bytes, length-take, length-drop) (omega (arith, r.disk, r.log))
+    let r = room c.before.before.before.before.before in
+    simp (r.bytes, length-take, length-drop) (omega (arith, inside c.before.before, r.log))
+
+-- the part of the disk that is lent has the area's length
+lent : (at : ℕ) → at + 16384 - at ≡ 16384
+lent at = omega arith
 
 cut-off-requires : tie.Need-cut-off-requires
 cut-off-requires c κs = search rules
@@ -126,12 +141,14 @@ same-length-5 c = search rules
 returns-3 : tie.Need-returns-3
 returns-3 c =
     let up = c.before.before.before.before.before.before.before.before.before.before in
-    let r = up.before.before.before.before.before in
+    let lg = up.before.before.before.log-at in
+    let r = up.before.before.before.before.before.before in
     let a = (start (asked (entered r))).args in
     let off = c.before.before.before.before.cut_off in
     leaves
     (flush_cut a.self a.disk.now a.memory.now a.tail.now a.k a.allowed (passed (entered r)) r.read_first.result
-    r.read_first.ensures up.copy-up.result up.copy-up.new.0 up.copy-up.ensures.0 up.copy-up.ensures.1
+    r.read_first.ensures lg.result (lg.result + 16384 - lg.result) up.copy-up.result up.copy-up.new.0 lg.ensures (lent lg.result)
+    up.copy-up.ensures.0 up.copy-up.ensures.1
     c.before.before.before.before.before.before.before.if3.true)
     off.ensures.0 refl off.ensures.1.0 off.ensures.1.1
 
@@ -151,22 +168,22 @@ ends r =
     r.read_first.ensures _ (end_of r)
 
 slice-relend-prefix-shift-down : tie.Need-slice-relend-prefix-shift-down
-slice-relend-prefix-shift-down c = ends c.before.before.before.before.before.before.before.before
+slice-relend-prefix-shift-down c = ends c.before.before.before.before.before.before.before.before.before
 
 slice-aggregate-shift-down : tie.Need-slice-aggregate-shift-down
-slice-aggregate-shift-down c = sym (length-take-le _ _ (ends c.before.before.before.before.before.before.before.before.before))
+slice-aggregate-shift-down c = sym (length-take-le _ _ (ends c.before.before.before.before.before.before.before.before.before.before))
 
 shift-down-requires : tie.Need-shift-down-requires
 shift-down-requires c κs = search rules
 
 flush-step-requires : tie.Need-flush-step-requires
-flush-step-requires c κs = (room c.before.before.before.before.before.before.before.before.before.before.before.before).log
+flush-step-requires c κs = (room c.before.before.before.before.before.before.before.before.before.before.before.before.before).log
 
 same-length-6 : tie.Need-same-length-6
 same-length-6 c = search rules
 
 abbrev first : tie.After-flush-step → tie.After-read-first
-first c = c.before.before.before.before.before.before.before.before.before.before.before.before.before
+first c = c.before.before.before.before.before.before.before.before.before.before.before.before.before.before
 
 -- the tail is moved as a whole, zeros and all
 moved : (c : tie.After-flush-step)
@@ -187,9 +204,11 @@ returns-4 c =
     let r = first c in
     let a = (start (asked (entered r))).args in
     let up = c.before.before.before.before.before.before.before.before.copy-up in
+    let lg = c.before.before.before.before.before.before.before.before.before.before.before.log-at in
     leaves
     (flush_done a.self a.disk.now a.memory.now a.tail.now a.k a.allowed (passed (entered r)) r.read_first.result
-    r.read_first.ensures up.result up.new.0 up.ensures.0 up.ensures.1 c.before.before.before.before.before.if3.false)
+    r.read_first.ensures lg.result (lg.result + 16384 - lg.result) up.result up.new.0 lg.ensures (lent lg.result)
+    up.ensures.0 up.ensures.1 c.before.before.before.before.before.if3.false)
     (ap (tells done 0 up.result) c.flush-step.ensures) refl refl (moved c)
 
 pub flush-spec : {M : Type 1} → statement M
@@ -205,6 +224,7 @@ flush-spec =
     same-length-2
     returns-2
     cast-end
+    log-at-requires
     add-copy-up
     sub-copy-up
     part-copy-up-start

@@ -102,7 +102,7 @@ cast-room c = search rules
 
 -- what was measured, once both parts keep their rules
 pub record Measures (s : State) (t : List ℕ) (a b : ℕ) : Type 0 where
-  pub heads : counters_ok s.recovered s.logend s.ondisk.0 s.assigned.0 s.count ≡ true
+  pub heads : counters_ok s.recovered s.area s.logend s.ondisk.0 s.assigned.0 s.count ≡ true
   pub txs : outlines_ok s.lastid.0 s.assigned.0 (outlines_of s) && every state_ok (txs_of s) ≡ true
   pub log : tail_ok s.ondisk.0 s.assigned.0 t ≡ true
   pub end : a ≡ tail_length s.ondisk.0 t

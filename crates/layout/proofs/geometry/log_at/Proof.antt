@@ -1,0 +1,15 @@
+use borrow.Author.Tests.{ne_eqb}
+use Rattle.layout.proofs.geometry.log_at.Statement.{statement}
+use Rattle.layout.proofs.geometry.log_at.Tie as tie
+
+returns : tie.Need-returns
+returns c = rw c.if1.true
+
+returns-2 : tie.Need-returns-2
+returns-2 c = rw c.if2.true
+
+returns-3 : tie.Need-returns-3
+returns-3 c = rw (ne_eqb _ _ c.before.if1.false, ne_eqb _ _ c.if2.false)
+
+pub log-at-spec : {M : Type 1} → statement M
+log-at-spec = tie.close (tie.spec returns returns-2 returns-3)

@@ -1,0 +1,12 @@
+use borrow.Author.Tests.{ne_eqb}
+use Rattle.slots.proofs.wiped_len.Statement.{statement}
+use Rattle.slots.proofs.wiped_len.Tie as tie
+
+returns : tie.Need-returns
+returns c = rw c.if1.true
+
+returns-2 : tie.Need-returns-2
+returns-2 c = rw (ne_eqb _ _ c.if1.false)
+
+pub wiped-len-spec : {M : Type 1} → statement M
+wiped-len-spec = tie.close (tie.spec returns returns-2)
