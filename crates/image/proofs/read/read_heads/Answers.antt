@@ -1,4 +1,4 @@
-use Rattle.std.proofs.Common.{◌≡◌, ℕ, ◌≤◌, Bool, true, List, length, slice_index_or, drop, map, sym, ap, ap₂, ◌∙◌}
+use Rattle.std.proofs.Common.{◌≡◌, ℕ, Bool, true, List, slice_index_or, drop, map, sym, ap, ap₂, ◌∙◌}
 use Rattle.std.proofs.Math.Option.{Option, some}
 use borrow.Author.Tests.{not-true, not-false}
 use Rattle.redolog.specs.Number.{be16, be32}

@@ -1,4 +1,4 @@
-use Rattle.std.proofs.Common.{◌≡◌, ℕ, slice_index_or, sym, ap, ◌∙◌}
+use Rattle.std.proofs.Common.{ℕ, slice_index_or, sym, ap, ◌∙◌}
 use Rattle.redolog.specs.Record.{in_range}
 use Rattle.image.proofs.Readings.{here_short, here_range, here_cut, here_yes, size_no, size_yes}
 use Rattle.image.proofs.read.undo_size.Goals as goal

@@ -1,4 +1,4 @@
-use Rattle.std.proofs.Common.{◌≡◌, ℕ, ◌+◌, ◌-◌, ◌≤◌, length, drop, sym, ap, ◌∙◌, arith}
+use Rattle.std.proofs.Common.{◌≡◌, ℕ, ◌+◌, ◌-◌, drop, sym, ap, ◌∙◌, arith}
 use Rattle.redolog.proofs.Basics.{from}
 use Rattle.image.specs.Reading.{read_undos}
 use Rattle.image.specs.Heads.{undo_size}
