@@ -5,8 +5,8 @@ use Rattle.restart.proofs.Undos.{Undid}
 use Rattle.restart.proofs.Select.{left_by}
 use Rattle.restart.proofs.undo.undo_left.Given as goal
 
-abbrev pub invariant-loop : goal.invariant-loop
-invariant-loop l =
+abbrev pub invariant-loop-i : goal.invariant-loop-i
+invariant-loop-i l =
     record {
       codes : length l.found ≡ 8;
       whole : length l.memory ≡ 4096;
@@ -15,5 +15,5 @@ invariant-loop l =
       undid : Undid done l.initial.memory l.memory l.ids l.k;
     }
 
-abbrev pub decreases-loop : goal.decreases-loop
-decreases-loop l = length (left_by (image_by l.h l.s) l.found l.last.0)
+abbrev pub decreases-loop-i : goal.decreases-loop-i
+decreases-loop-i l = length (left_by (image_by l.h l.s) l.found l.last.0)
