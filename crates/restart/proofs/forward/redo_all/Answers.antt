@@ -1,4 +1,4 @@
-use Rattle.std.proofs.Common.{◌≡◌, ℕ, List, length, drop, refl, sym, ap, ◌∙◌, arith}
+use Rattle.std.proofs.Common.{ℕ, List, refl, sym, ap, ◌∙◌, arith}
 use Rattle.redolog.specs.Record.{read_record}
 use Rattle.redolog.proofs.Basics.{from}
 use Rattle.restart.specs.Turns.{lay_front, front_size}

@@ -1,4 +1,4 @@
-use Rattle.std.proofs.Common.{◌≡◌, ℕ, length, refl, ap, ◌∙◌, arith}
+use Rattle.std.proofs.Common.{◌≡◌, ℕ, refl, ap, ◌∙◌, arith}
 use Rattle.restart.specs.Turns.{aborts_laid}
 use Rattle.restart.proofs.Undos.{laid_none, laid_more}
 use Rattle.restart.proofs.undo.put_aborts.Goals as goal
