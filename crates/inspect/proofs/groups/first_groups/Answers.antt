@@ -12,10 +12,11 @@ use Rattle.restart.specs.declared.forward.Pass.{Pass}
 use Rattle.restart.specs.Forward.{Went, first_of}
 use Rattle.store.specs.Answer.{done}
 use Rattle.disk.specs.declared.open.Opened.{Opened}
-use Rattle.disk.specs.Open.{open_of, opened_of}
+use Rattle.disk.specs.Open.{open_of}
+use Rattle.disk.specs.Heads.{opened_of}
 use Rattle.disk.proofs.Loading.{lent}
 use Rattle.disk.proofs.Opened.{opened_rules, handed_number, Handed, handed}
-use Rattle.inspect.specs.Groups.{GroupsTold, GroupsLeft, refused_groups, pass_of, first_groups_of}
+use Rattle.inspect.specs.Groups.{GroupsLeft, refused_groups, pass_of, first_groups_of}
 use Rattle.inspect.proofs.Applying.{groups_no_disk, groups_no_memory, groups_shut, groups_open, pass_within}
 use Rattle.inspect.proofs.groups.first_groups.Goals as goal
 

@@ -1,6 +1,5 @@
-use Prim.Native.Nat.{ℕ, ◌<◌}
-use native.Mathlib.Omega.{arith}
-use mathlib.Core.Path.{◌≡◌, sym, ap, ◌∙◌}
+use Prim.Native.Nat.{ℕ}
+use mathlib.Core.Path.{sym, ap, ◌∙◌}
 use lib.ListN.{replicate}
 use Rattle.store.specs.Answer.{refused}
 use Rattle.disk.specs.declared.examine.Examined.{Examined}
@@ -37,7 +36,7 @@ returns-then-number-ne0-clause-result_value c =
     let a = c.args in
     let n = ap (λ (x : Examined). x.number) c.judge-seen.ensures.judged_as.found in
     let p = page_refused a.disk.now a.buffer.now a.page c.if-disk-ne-DISK_LEN.false c.if-buffer-ne-PAGE_LEN.false c.if-page-ge-PAGES.false
-        (λ z. c.if-number-ne0.true (n ∙ z)) in
+    (λ z. c.if-number-ne0.true (n ∙ z)) in
     ap refused n ∙ sym (ap (λ (x : PageLeft). x.says) p)
 
 pub returns-then-number-ne0-clause-buffer_after : goal.returns-then-number-ne0-clause-buffer_after
@@ -45,7 +44,7 @@ returns-then-number-ne0-clause-buffer_after c =
     let a = c.args in
     let n = ap (λ (x : Examined). x.number) c.judge-seen.ensures.judged_as.found in
     let p = page_refused a.disk.now a.buffer.now a.page c.if-disk-ne-DISK_LEN.false c.if-buffer-ne-PAGE_LEN.false c.if-page-ge-PAGES.false
-        (λ z. c.if-number-ne0.true (n ∙ z)) in
+    (λ z. c.if-number-ne0.true (n ∙ z)) in
     c.fill_zero.ensures ∙ ap (λ (k : ℕ). replicate k 0) c.if-buffer-ne-PAGE_LEN.false ∙ sym (ap (λ (x : PageLeft). x.buffer) p)
 
 pub returns-clause-result_value : goal.returns-clause-result_value
@@ -60,7 +59,7 @@ returns-clause-buffer_after c =
     let a = c.args in
     let n = ap (λ (x : Examined). x.number) c.judge-seen.ensures.judged_as.found in
     let p = page_done a.disk.now a.buffer.now a.page c.if-disk-ne-DISK_LEN.false c.if-buffer-ne-PAGE_LEN.false c.if-page-ge-PAGES.false
-        (sym n ∙ c.if-number-ne0.false) in
+    (sym n ∙ c.if-number-ne0.false) in
     c.copy.ensures
     ∙ page_copied a.page c.judge-seen.new.memory a.buffer.now c.judge-seen.auto.memory c.if-page-ge-PAGES.false c.if-buffer-ne-PAGE_LEN.false
     ∙ ap (page_in a.page) c.judge-seen.ensures.memory_after
