@@ -75,8 +75,3 @@ loop-i-preserved c =
           ∙ undo_take us (hand t) l.memory (omega (arith, (tx_records s c.requires.0.0 c.requires.0.1).count, c.loop-i-test.true))
           ∙ ap (undo_all lay_bytes (take (hand t) us)) (sym (c.lay_undo.ensures ∙ ap (λ (v : Write). lay_bytes v l.memory) w));
     }
-
-pub returns : goal.returns
-returns c =
-    let z : slice_index_or c.args.s.now 7 0 - c.loop-i.i ≡ 0 = omega (arith, c.loop-i-test.false) in
-    sym (c.loop-i.invariant.same ∙ rw z)

@@ -67,9 +67,3 @@ loop-k-preserved c =
           (ruled a.last.0 a.assigned.0 (read_txs (a.n - (l.k + 1)) (drop (l.at + x) a.s.now))))
           (sym c.be16-id.ensures) (sym c.be32-csn.ensures);
     }
-
-pub returns : goal.returns
-returns c =
-    let l = c.loop-k in
-    let z : c.args.n - l.k ≡ 0 = omega arith in
-    sym (l.invariant.same ∙ rw z)

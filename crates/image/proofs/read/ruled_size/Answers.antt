@@ -6,7 +6,7 @@ use Rattle.image.specs.Content.{Saved}
 use Rattle.image.specs.Format.{tx_size}
 use Rattle.image.specs.Reading.{read_tx}
 use Rattle.image.specs.Heads.{tx_span, ruled_span}
-use Rattle.image.proofs.TxReadings.{tx_inv, tx_kept, span_none, span_some, head_read}
+use Rattle.image.proofs.TxReadings.{tx_inv, tx_kept, span_some, head_read}
 use Rattle.image.proofs.read.ruled_size.Goals as goal
 
 -- the transaction that was read
@@ -23,11 +23,6 @@ answer s last assigned z id csn e f i n b k =
     let w = found s z e f in
     let kept = ap₂ (λ (x y : ℕ). head_ok last assigned x (slice_index_or s 2 0) y) i n ∙ head_read last assigned s w.0 w.1 in
     ap₂ (λ (t : Bool) (n : ℕ). cond t n 0) (sym k ∙ kept) w.3 ∙ sym (ap (ruled_span last assigned) w.1)
-
-pub returns-then-size-eq0 : goal.returns-then-size-eq0
-returns-then-size-eq0 c =
-    let a = c.args in
-    sym (ap (ruled_span a.last.0 a.assigned.0) (span_none (read_tx a.s.now) (sym c.tx_size-size.ensures ∙ c.if-size-eq0.true)))
 
 pub be16-id-requires : goal.be16-id-requires
 be16-id-requires c = omega (arith, (found c.args.s.now _ c.tx_size-size.ensures c.if-size-eq0.false).2)

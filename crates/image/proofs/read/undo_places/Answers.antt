@@ -1,6 +1,6 @@
-use Rattle.std.proofs.Common.{◌∙◌, sym, ap, ◌≡◌, length, drop, arith}
+use Rattle.std.proofs.Common.{◌∙◌, ap, drop, arith}
 use Rattle.image.specs.Heads.{undo_places}
-use Rattle.image.proofs.Readings.{PlaceTurn, undos_inv, place_turn, place_done}
+use Rattle.image.proofs.Readings.{PlaceTurn, undos_inv, place_turn}
 use Rattle.image.proofs.read.undo_places.Goals.{In-loop-k}
 use Rattle.image.proofs.read.undo_places.Goals as goal
 
@@ -39,9 +39,3 @@ loop-k-preserved c =
       there = t.there;
       same = c.loop-k.invariant.same ∙ t.same;
     }
-
-pub returns : goal.returns
-returns c =
-    let l = c.loop-k in
-    let z : length l.invariant.rest ≡ 0 = omega arith in
-    sym (l.invariant.same ∙ place_done l.places l.at l.k l.invariant.rest z)
