@@ -1,20 +1,10 @@
-use Rattle.std.proofs.Common.{ℕ, List, refl, sym, ap, ◌∙◌, arith}
+use Rattle.std.proofs.Common.{ℕ, List, sym, ap, ◌∙◌, arith}
 use Rattle.redolog.specs.Record.{read_record}
 use Rattle.redolog.proofs.Basics.{from}
 use Rattle.restart.specs.Turns.{lay_front, front_size}
 use Rattle.restart.proofs.RedoLaws.{body_here, RedoTurn, redo_turn, redo_done}
 use Rattle.restart.proofs.forward.redo_all.Goals.{After-redo_one-k}
 use Rattle.restart.proofs.forward.redo_all.Goals as goal
-
-pub loop-at-init : goal.loop-at-init
-loop-at-init c =
-    let r = c.requires.by_index in
-    record {
-      inside = omega arith;
-      within = omega arith;
-      same = refl;
-      rest = record { next = r.0; id = r.1; writes = r.2; read = r.3; ends = omega (arith, r.4) };
-    }
 
 pub redo_one-k-requires-clause-by_index : goal.redo_one-k-requires-clause-by_index
 redo_one-k-requires-clause-by_index c =

@@ -1,22 +1,9 @@
-use Rattle.std.proofs.Common.{◌≡◌, sym, ◌∙◌, arith}
+use Rattle.std.proofs.Common.{sym, ◌∙◌}
 use Rattle.restart.specs.Turns.{running_in}
-use Rattle.restart.proofs.SlotLaws.{first_hit, first_miss}
+use Rattle.restart.proofs.SlotLaws.{first_hit}
 use Rattle.restart.proofs.undo.first_running.Goals as goal
 
 pub returns-then-is_running : goal.returns-then-is_running
 returns-then-is_running c =
     let a = c.args in
     sym (first_hit (running_in a.csns a.found) _ c.loop-i.invariant.none_yet (sym c.is_running.ensures ∙ c.if-is_running.true) a.n c.loop-i-test.true)
-
-pub loop-i-preserved : goal.loop-i-preserved
-loop-i-preserved c =
-    let a = c.args in
-    record {
-      in_range = omega arith;
-      none_yet = first_miss (running_in a.csns a.found) _ c.loop-i.invariant.none_yet (sym c.is_running.ensures ∙ c.if-is_running.false);
-    }
-
-pub returns : goal.returns
-returns c =
-    let e : c.loop-i.i ≡ c.args.n = omega arith in
-    sym (rw e at c.loop-i.invariant.none_yet)

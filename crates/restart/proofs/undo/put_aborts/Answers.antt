@@ -1,5 +1,4 @@
-use Rattle.std.proofs.Common.{◌≡◌, ℕ, refl, ap, ◌∙◌, arith}
-use Rattle.restart.specs.Turns.{aborts_laid}
+use Rattle.std.proofs.Common.{refl, arith}
 use Rattle.restart.proofs.Undos.{laid_none, laid_more}
 use Rattle.restart.proofs.undo.put_aborts.Goals as goal
 
@@ -14,8 +13,3 @@ loop-i-preserved c =
       in_range = omega arith;
       laid = laid_more a.ids l.i _ a.tail.now _ _ (omega arith) refl l.invariant.laid c.put_abort.ensures;
     }
-
-pub returns : goal.returns
-returns c =
-    let e : c.loop-i.i ≡ c.args.n = omega arith in
-    c.loop-i.invariant.laid ∙ ap (λ (k : ℕ). aborts_laid c.args.ids k c.args.tail.now) e

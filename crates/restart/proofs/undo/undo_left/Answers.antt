@@ -1,4 +1,4 @@
-use Rattle.std.proofs.Common.{◌≡◌, ℕ, ◌<◌, ◌≤◌, List, [], ◌∷◌, ◌++◌, length, slice_index_or, set, refl, sym, ap, ◌∙◌, append_assoc, arith, length-append}
+use Rattle.std.proofs.Common.{◌≡◌, ℕ, ◌<◌, ◌≤◌, List, [], ◌∷◌, ◌++◌, length, slice_index_or, set, sym, ap, ◌∙◌, append_assoc, arith, length-append}
 use Rattle.std.proofs.Math.ListN.{length-set}
 use mathlib.Core.List.{append-nil}
 use Rattle.recovery.specs.Group.{Write}
@@ -12,7 +12,7 @@ use Rattle.image.proofs.KeyLaws.{key_id}
 use Rattle.image.proofs.HeadLaws.{shown_count, shown_keys, shown_read, shown_within, shown_undo}
 use Rattle.restart.specs.Slots.{transaction_at}
 use Rattle.restart.specs.Turns.{StatusByCsn, undone_list}
-use Rattle.restart.proofs.Undos.{undid_none, undid_more, undid_all}
+use Rattle.restart.proofs.Undos.{undid_more, undid_all}
 use Rattle.restart.proofs.Select.{left_by, left_is, left_few, next_some, next_none}
 use Rattle.restart.proofs.undo.undo_left.Goals.{In-At}
 use Rattle.restart.proofs.undo.undo_left.Goals as goal
@@ -64,9 +64,6 @@ within c =
     let a = c.args in
     let f = c.requires.heads_fit in
     shown_within a.h a.s.now f.0 (few a.h a.s.now f.0 f.1) _ (next c).0
-
-pub loop-i-init : goal.loop-i-init
-loop-i-init c = record { codes = omega arith; whole = omega arith; done = []; split = refl; undid = undid_none _ }
 
 pub next-slot-requires : goal.next-slot-requires
 next-slot-requires c = few c.args.h c.args.s.now c.requires.heads_fit.0 c.requires.heads_fit.1
