@@ -28,10 +28,10 @@ turned c =
     let i = c.loop-i.i in
     let slots : length s.txs ≡ 8 = search (rules, length_mapped) in
     elim c.if-i-lt-MAX_TXS.branch [
-      then-i-lt-MAX_TXS w ↦ (w.sum-is ∙ ap (λ (n : ℕ). c.loop-i.sum + n) w.count_of-sum.ensures.value, omega (arith, w.count_of-sum.ensures.value, w.count_of-sum.ensures.upper_bound))
-    | else-i-lt-MAX_TXS w ↦
-        let none : count_in b (tx_at s i) ≡ 0 = ap (count_in b) (get_or-eq_default s.txs no_tx (omega (arith, slots, w.if-i-lt-MAX_TXS.false))) ∙ none_counted b in
-        (w.sum-is ∙ omega (arith, none), omega (arith, none))
+      | then-i-lt-MAX_TXS w ↦ (w.sum-is ∙ ap (λ (n : ℕ). c.loop-i.sum + n) w.count_of-sum.ensures.value, omega (arith, w.count_of-sum.ensures.value, w.count_of-sum.ensures.upper_bound))
+      | else-i-lt-MAX_TXS w ↦
+          let none : count_in b (tx_at s i) ≡ 0 = ap (count_in b) (get_or-eq_default s.txs no_tx (omega (arith, slots, w.if-i-lt-MAX_TXS.false))) ∙ none_counted b in
+          (w.sum-is ∙ omega (arith, none), omega (arith, none))
     ]
 
 pub loop-i-preserved : goal.loop-i-preserved
