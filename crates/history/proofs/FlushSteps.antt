@@ -8,7 +8,6 @@ use mathlib.Core.Path.{◌≡◌, refl, sym, ap, ap₂, ◌∙◌, subst}
 use lib.ListN.{length, take, drop, replicate, length-take, length-append, take-append-drop}
 use lib.Seq.{sets, sets-eq, length-take-le, take_all, take_at, drop_at, drop-drop}
 use Rattle.recovery.specs.Group.{Group, groups_size, last_csn, fitting}
-use Rattle.recovery.specs.Ledger as ledger
 use Rattle.recovery.specs.Machine.{Disk, standing_in, number_before, Live, down, up, flushes, flush_is_cut, storing, after_flush}
 use Rattle.recovery.proofs.Groups.{groups_size_append, fitting_all}
 use Rattle.recovery.proofs.Log.{stored_before, stored_stands, stored_number}

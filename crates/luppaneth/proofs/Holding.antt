@@ -1,9 +1,8 @@
 -- A hold that was taken can be read: after read's sister is done, read hands back the whole part. A host's read rests on it (`lup_read`).
-use Prim.Native.Nat.{ℕ, zero, suc, ◌+◌, ◌≤◌, ◌<◌}
-use native.Mathlib.Omega.{arith}
-use mathlib.Core.Bool.{Bool, true, false, cond, not, ◌||◌, or-true}
+use Prim.Native.Nat.{ℕ, zero, suc, ◌<◌}
+use mathlib.Core.Bool.{Bool, true, false, cond, not, or-true}
 use mathlib.Core.List.{List, [], ◌∷◌, ◌++◌, append_assoc}
-use mathlib.Core.Path.{◌≡◌, refl, sym, ap, ap₂, ◌∙◌, subst}
+use mathlib.Core.Path.{◌≡◌, refl, sym, ap, ap₂, ◌∙◌}
 use lib.ListN.{length, take, drop}
 use lib.Dec.{eqb}
 use borrow.Author.Tests.{eq-eqb}
@@ -30,7 +29,7 @@ use Rattle.store.proofs.Admitting.{unrefused}
 use Rattle.store.proofs.Passing.{AnswerPassed, answer_passed}
 use Rattle.store.proofs.Positions.{Changed, every_intro}
 use Rattle.store.proofs.Stepping.{SizedState, same_or_other, read_slot}
-use Rattle.store.proofs.Keeping.{Kept, answer_keeps}
+use Rattle.store.proofs.Keeping.{answer_keeps}
 use Rattle.store.proofs.Calling.{answer_done, read_done}
 
 -- ---- one transaction

@@ -1,5 +1,5 @@
 -- Document 02, A.4, for the calls themselves: what happens to a store keeps a run of the machine with reads, and so the claim holds (`reads-serial`).
-use Prim.Native.Nat.{ℕ, ◌+◌}
+use Prim.Native.Nat.{ℕ}
 use native.Mathlib.Omega.{arith}
 use mathlib.Core.Logic.{◌≢◌}
 use mathlib.Core.Bool.{Bool, true, false}

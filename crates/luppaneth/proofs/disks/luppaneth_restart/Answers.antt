@@ -1,4 +1,4 @@
-use Rattle.std.proofs.Common.{ℕ, ap, arith}
+use Rattle.std.proofs.Common.{ap, arith}
 use Rattle.store.specs.Answer.{Told}
 use Rattle.luppaneth.proofs.Replies.{few_undone}
 use Rattle.luppaneth.proofs.disks.luppaneth_restart.Goals as goal

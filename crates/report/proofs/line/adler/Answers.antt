@@ -1,4 +1,4 @@
-use Rattle.std.proofs.Common.{ℕ, ◌+◌, ◌∙◌, length, drop, refl, sym, ap, arith}
+use Rattle.std.proofs.Common.{ℕ, ◌+◌, ◌∙◌, drop, refl, sym, ap, arith}
 use Rattle.report.specs.Adler.{sums, plus_byte, joined, adler_of}
 use Rattle.report.proofs.Adler.{sums_more, sums_done}
 use Rattle.report.proofs.line.adler.Goals as goal

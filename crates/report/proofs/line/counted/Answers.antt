@@ -1,4 +1,4 @@
-use Rattle.std.proofs.Common.{ℕ, ◌+◌, ◌-◌, ◌*◌, ◌≡◌, ◌≤◌, ◌∙◌, Bool, true, false, length, refl, sym, ap, arith, rules}
+use Rattle.std.proofs.Common.{ℕ, ◌+◌, ◌-◌, ◌≡◌, ◌≤◌, ◌∙◌, Bool, true, false, length, refl, sym, ap, arith, rules}
 use native.Mathlib.Nat.{sub-zero}
 use lib.ListN.{get_or-eq_default}
 use Rattle.transaction.specs.Lists.{up_from, sum_of}
