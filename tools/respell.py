@@ -9,6 +9,7 @@ folder of proofs/ declares. In pages (.md) and edits a name is respelled where i
 """
 import collections
 import glob
+import os
 import re
 import sys
 
@@ -128,6 +129,16 @@ def together(spell):
                 print("there already:", path, old, spell.names[old])
 
 
+def move_crate():
+    """The folders of the crate and of its edits, and its name in crates.txt."""
+    for folder in ("crates", "tests/edits"):
+        if os.path.isdir(f"{folder}/{CRATE[0]}"):
+            os.rename(f"{folder}/{CRATE[0]}", f"{folder}/{CRATE[1]}")
+    lines = read("crates.txt").split("\n")
+    with open("crates.txt", "w", encoding="utf-8") as f:
+        f.write("\n".join(line if line.startswith("#") else re.sub(rf"\b{CRATE[0]}\b", CRATE[1], line) for line in lines))
+
+
 def main():
     spell = Speller()
     if "--words" in sys.argv:
@@ -145,6 +156,7 @@ def main():
         if new != text:
             with open(path, "w", encoding="utf-8") as f:
                 f.write(new)
+    move_crate()
 
 
 if __name__ == "__main__":
