@@ -1,4 +1,4 @@
--- Laws of `sameBytes`.
+-- Laws of `same_bytes`.
 use Prim.Native.Nat.{ℕ, suc, ◌+◌, ◌≤◌, ◌<◌}
 use native.Mathlib.Numerals.{add-one}
 use native.Mathlib.Omega.{arith}

@@ -1,5 +1,5 @@
 -- The calls of the table M1 to M10, fast enough to be computed in long lists: the tail without its zeros, stores in one piece, lengths taken as
--- known. Where a quick way answers, it answers what the definitions do: of one call `quickly`, of a list of calls `right-run` (QuickRun).
+-- known. Where a quick way answers, it answers what the definitions do: of one call `quickly`, of a list of calls `right_run` (QuickRun).
 use Prim.Native.Nat.{ℕ, ◌+◌, ◌-◌, ◌≤◌}
 use mathlib.Core.Bool.{Bool, cond, ◌&&◌}
 use mathlib.Core.List.{List, [], ◌++◌}

@@ -1,6 +1,6 @@
--- Demand 3 for the calls themselves, of a store that opened from any memory and commit number (`survives`), and so from a fresh disk (`demand-3`).
+-- Demand 3 for the calls themselves, of a store that opened from any memory and commit number (`survives`), and so from a fresh disk (`demand_3`).
 -- A call added later hooks in here. A constructor of Call: its lines of `follows`, by a lemma that it is refused or a step of the machine;
--- `Reached`, `happens` and all below them stay. A call that is made of these calls is a list of happenings: `all-happen` keeps `Reached`.
+-- `Reached`, `happens` and all below them stay. A call that is made of these calls is a list of happenings: `all_happen` keeps `Reached`.
 use Prim.Native.Nat.{ℕ, ◌+◌, ◌*◌, ◌≤◌}
 use mathlib.Core.List.{List, [], ◌∷◌, ◌++◌, Memᴰ}
 use mathlib.Core.Path.{◌≡◌, refl, sym, ap, ◌∙◌, subst}

@@ -10,7 +10,7 @@ use Rattle.store.specs.Flush.{flush_of}
 use Rattle.store.specs.Checkpoint.{checkpoint_of}
 use Rattle.disk.specs.Restart.{restart_of}
 
--- the nine calls, read's sister (`readAnswer`), setting a savepoint and going back (document 02, A.7), with their arguments
+-- the nine calls, read's sister (`read_answer`), setting a savepoint and going back (document 02, A.7), with their arguments
 pub data Call : Type 0 where
   begin : Call
   write : (id addr : ℕ) (bytes : List ℕ) → Call

@@ -1,5 +1,5 @@
 -- Savepoints (document 02, A.7: marks) on demand 3's lists: what the undo records of a running transaction have (`UndoRecorded`), and what a return leaves
--- in memory (`ReturnsAsBefore`). That both hold: `undo-recorded`, `returns-as-before` (proofs/Savepoints.antt).
+-- in memory (`ReturnsAsBefore`). That both hold: `undo_recorded`, `returns_as_before` (proofs/Savepoints.antt).
 use Rattle.std.specs.Prelude.{ℕ, ◌≤◌, ◌<◌, Bool, true, false, cond, List, [], ◌∷◌, ◌≡◌, length, get_or, drop, eqb}
 use Rattle.std.proofs.Math.Option.{Option, none, some}
 use Rattle.layout.specs.{status_running}

@@ -15,7 +15,7 @@ abbrev pub length_by : Form → ℕ
 length_by One = disk_len
 length_by Two = disk_len2
 
--- the lengths that number 1 lets pass: 33,691 alone. What else is to be known of it says `disk-ok` (proofs/Forms.antt).
+-- the lengths that number 1 lets pass: 33,691 alone. What else is to be known of it says `disk_ok_lem` (proofs/Forms.antt).
 unfoldable pub disk_ok : ℕ → Bool
 disk_ok n = eqb n disk_len
 

@@ -13,7 +13,7 @@ groups_reply t = record { answer = answer_of t.says; number = number_of t.says; 
 abbrev pub outcomes_reply : WalkTold → OutcomesReply
 outcomes_reply t = record { answer = answer_of t.says; number = number_of t.says; groups = t.groups }
 
--- back: what a host reads in them. That it is what was told: `groups-back`, `outcomes-back` (proofs/Looking.antt)
+-- back: what a host reads in them. That it is what was told: `groups_back`, `outcomes_back` (proofs/Looking.antt)
 abbrev pub of_groups_reply : GroupsReply → GroupsTold
 of_groups_reply r = record { says = word_of r.answer r.number; end = r.end; csn = r.csn }
 

@@ -41,7 +41,7 @@ restart_reply t stopped =
 abbrev pub reply_of : Told → Reply
 reply_of t = restart_reply t Untold
 
--- ---- back: what a host reads in a reply. That it is what the call told: `Told-back`, `stop-back` (proofs/Replies.antt)
+-- ---- back: what a host reads in a reply. That it is what the call told: `told_back`, `stop_back` (proofs/Replies.antt)
 
 abbrev pub word_of : ℕ → ℕ → Word
 word_of answer number = cond (eqb answer 0) done (cond (eqb answer 1) cut (refused number))

@@ -50,7 +50,7 @@ opening_number o = go o.form
 
 -- ---- form one
 
--- The whole history stands in the log. What rests on the two meanings being equal cites this law, or `checkpoint-stands`, which it gives.
+-- The whole history stands in the log. What rests on the two meanings being equal cites this law, or `checkpoint_stands`, which it gives.
 pub form_one : (d : Disk) → d.form ≡ One → standing_before d ≡ d.before
 unfolding standing_before
 form_one d e = ap (λ (form : Form). standing_if form d.before) e

@@ -132,7 +132,7 @@ module _ (o : Opening) where
       pub return_agrees : taken_back (committed_memory k) (some n) r.redo ≡ reverse (drop n r.undo)
       return_agrees = taken_back_lem o d l k (holds run) r listed runs n
 
-      -- To the ledger a return is its writes one by one, as it is to the store (`afterGoBack`).
+      -- To the ledger a return is its writes one by one, as it is to the store (`after_go_back`).
       pub return_as_writes : (name : ℕ) → count_at name r.savepoints ≡ some n → enter_went_back r.id name k ≡ enter_writes r.id (reverse (drop n r.undo)) k
       return_as_writes name set = went_back_lem o d l k (holds run) r listed runs name n set
 

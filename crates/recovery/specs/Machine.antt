@@ -30,7 +30,7 @@ abbrev pub fresh_opening : Form → ℕ → ℕ → Opening
 fresh_opening form size capacity =
     record { form = form; size = size; capacity = capacity; memory = replicate size 0; csn = 0; last_id = 0; sized = length-replicate size 0 }
 
--- what recovery needs of a checkpoint image; csn: the last commit number on disk; lastId: the last id given, the opening's where none was since
+-- what recovery needs of a checkpoint image; csn: the last commit number on disk; last_id: the last id given, the opening's where none was since
 pub record Image : Type 0 where
   pub txs : List Tx
   pub memory : List ℕ
@@ -49,7 +49,7 @@ abbrev pub history_of : Disk → List Group
 history_of d = d.before ++ d.after
 
 -- What stands in the log: room, offsets and bytes go by it. First the part before the image's place. In form one the log is never wiped, so that
--- its whole history stands in it; what rests on that cites `form-one` (proofs/Log.antt). In form two a checkpoint goes on in an area that it has
+-- its whole history stands in it; what rests on that cites `form_one` (proofs/Log.antt). In form two a checkpoint goes on in an area that it has
 -- cleared (document 02, A.9): "the image naming it with log end 0".
 abbrev pub standing_if : Form → List Group → List Group
 standing_if One gs = gs
@@ -70,7 +70,7 @@ number_if Two opening image = image
 unfoldable pub number_before : Opening → Disk → ℕ
 number_before o d = number_if d.form o.csn d.image.csn
 
--- csn: the last commit number on disk; lastId: the last id given
+-- csn: the last commit number on disk; last_id: the last id given
 pub record Live : Type 0 where
   pub txs : List Tx
   pub memory : List ℕ

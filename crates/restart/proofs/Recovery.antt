@@ -1,4 +1,4 @@
--- Restart is recovery: what `recoverOf` leaves, in recovery's terms, for the image's transactions and the groups read.
+-- Restart is recovery: what `recover_of` leaves, in recovery's terms, for the image's transactions and the groups read.
 use Prim.Native.Nat.{ℕ, suc, ◌+◌, ◌*◌, ◌-◌, ◌≤◌, ◌<◌, max}
 use native.Mathlib.Omega.{arith}
 use mathlib.Core.Bool.{Bool, true, false, not, cond, ◌&&◌}

@@ -1,4 +1,4 @@
--- What the contracts of the inner functions cite beside the steps: what they rest on, and single turns of their loops. `restartOf` has none
+-- What the contracts of the inner functions cite beside the steps: what they rest on, and single turns of their loops. `restart_of` has none
 -- of it.
 use Rattle.std.specs.Prelude.{ℕ, zero, suc, ◌+◌, ◌≤◌, ◌<◌, Bool, cond, not, ◌&&◌, List, [], ◌∷◌, map, ◌≡◌, length, get_or, take, drop, replicate, eqb, ltb}
 use Rattle.std.proofs.Math.Option.{Option, none, some}

@@ -1,4 +1,4 @@
--- Document 02, A.4, for the calls themselves: what happens to a store keeps a run of the machine with reads, and so the claim holds (`reads-serial`).
+-- Document 02, A.4, for the calls themselves: what happens to a store keeps a run of the machine with reads, and so the claim holds (`reads_serial`).
 use Prim.Native.Nat.{ℕ}
 use native.Mathlib.Omega.{arith}
 use mathlib.Core.Logic.{◌≢◌}

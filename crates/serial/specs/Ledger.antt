@@ -1,7 +1,7 @@
 -- The ledger with reads (document 02, A.4): the ledger, and beside each transaction's writes those of its reads that handed back a part that isn't
 -- empty. A transaction's reads go with its entry from the open ones into the queue and to the durable; none is looked up there by id or commit
 -- number, since ids, commit numbers and even writes of lost transactions recur. Each rule is the ledger's, for entries that carry reads:
--- without the reads it is the ledger (`without-reads`, proofs/Plain.antt).
+-- without the reads it is the ledger (`without_reads_lem`, proofs/Plain.antt).
 use Rattle.std.specs.Prelude.{ℕ, suc, not, cond, List, [], ◌∷◌, ◌++◌, map, length, take, drop, replicate, eqb}
 use Rattle.recovery.specs.Group.{Write}
 use Rattle.recovery.specs.Lists.{filter}

@@ -37,7 +37,7 @@ room_used s tail = s.logend + tail_length s.ondisk.0 tail + sum_of room_of (txs_
 -- ---- number 2
 
 -- It is unrecovered, breaks an image rule, uses more than 16,384 bytes of log room, or has a running transaction whose redo records
--- differ from its undo records in count or ranges, or a transaction with more than it is allowed of what requests add to it (`stateOk`); or the
+-- differ from its undo records in count or ranges, or a transaction with more than it is allowed of what requests add to it (`state_ok`); or the
 -- lent tail isn't whole groups, commit numbers going on from the one on disk up to the one assigned, then zeros.
 unfoldable pub unfit : State → List ℕ → Bool
 unfit s tail =

@@ -1,6 +1,6 @@
 -- What no call tells apart. Three things in a state may differ from one correct program to another: the slots past a count (of transactions, records,
 -- read ranges, savepoints), the bytes past a record's length, and the redo records of a transaction that isn't running. All else is shown. States that show the same (`ShowsSame`) are answered
--- alike by every call that takes a state, for every input, and show the same afterwards (`AnsweredAlike`): proofs/SameStored, `answered-alike`, of
+-- alike by every call that takes a state, for every input, and show the same afterwards (`AnsweredAlike`): proofs/SameStored, `answered_alike`, of
 -- states whose arrays have their lengths, as every value of the struct has.
 use Rattle.std.specs.Prelude.{ℕ, ◌<◌, List, ◌≡◌}
 use Rattle.layout.specs.{status_running}
