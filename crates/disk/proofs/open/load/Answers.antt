@@ -8,10 +8,15 @@ use Rattle.disk.proofs.Loading.{slot_within, load_none, load_image, memory_loade
 use Rattle.disk.proofs.open.load.Goals as goal
 
 pub returns-then-pointer-eq0-clause-value : goal.returns-then-pointer-eq0-clause-value
-returns-then-pointer-eq0-clause-value c = cc (heads_none c.args.pointer c.args.disk.now c.if-pointer-eq0.true)
+returns-then-pointer-eq0-clause-value c =
+    let none : c.args.pointer ≡ 0 = omega arith in
+    cc (heads_none c.args.pointer c.args.disk.now none)
 
 pub returns-then-pointer-eq0-clause-memory_after : goal.returns-then-pointer-eq0-clause-memory_after
-returns-then-pointer-eq0-clause-memory_after c = let e = ap (λ (l : Loaded). l.memory) (load_none c.args.pointer c.args.disk.now c.if-pointer-eq0.true) in cc
+returns-then-pointer-eq0-clause-memory_after c =
+    let none : c.args.pointer ≡ 0 = omega arith in
+    let e = ap (λ (l : Loaded). l.memory) (load_none c.args.pointer c.args.disk.now none) in
+    cc
 
 pub returns-clause-value : goal.returns-clause-value
 returns-clause-value c =
@@ -20,13 +25,13 @@ returns-clause-value c =
     let z : f + 8653 - f ≡ 8653 = omega arith in
     c.read_heads.ensures
     ∙ ap heads_of (ap₂ (λ (n k : ℕ). take n (drop k c.args.disk.now)) z s)
-    ∙ sym (heads_image c.args.pointer c.args.disk.now c.if-pointer-eq0.false)
+    ∙ sym (heads_image c.args.pointer c.args.disk.now (λ e. omega arith))
 
 pub returns-clause-memory_after : goal.returns-clause-memory_after
 returns-clause-memory_after c =
     let f = c.image_at-from.result in
     let s : f ≡ image_at c.args.pointer = c.image_at-from.ensures in
-    let e = load_image c.args.pointer c.args.disk.now c.if-pointer-eq0.false in
+    let e = load_image c.args.pointer c.args.disk.now (λ z. omega arith) in
     let h : f ≤ 8654 = omega (arith, s, slot_within c.args.pointer) in
     c.copy.ensures
     ∙ memory_loaded f c.args.disk.now c.args.memory.now h c.requires.0 c.requires.1
