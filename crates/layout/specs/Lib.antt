@@ -1,6 +1,7 @@
 -- Sizes, offsets, counts and statuses of documents 01 and 02, each said once; a disk's forms and parts in Parts.
 use Rattle.std.specs.Prelude.{ℕ}
 pub mod Parts
+pub mod Refusal
 
 -- "Memory: 4,096 bytes", "Tail: 16,384 bytes", "Disk: 33,691 bytes"
 abbrev pub memory_len : ℕ

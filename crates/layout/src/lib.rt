@@ -1,6 +1,8 @@
 // Sizes, offsets, counts and statuses of documents 01 and 02, each said once. The same numbers for the definitions: specs/Lib.antt.
 #![tactic(auto)]
 
+pub mod refusal;
+
 // The buffers that are lent.
 pub const MEMORY_LEN: usize = 4096;
 
