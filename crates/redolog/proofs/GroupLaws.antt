@@ -10,19 +10,20 @@ use lib.ListN.{length, get_or, drop, length-drop}
 use lib.Seq.{drop-drop}
 use lib.Dec.{eqb}
 use borrow.Author.Tests.{eq-eqb, ne_eqb, eqb-true}
+use Rattle.std.specs.Prelude.{Result, Ok, Err}
 use Rattle.recovery.specs.Group.{Write, Group, committed, aborted, redo_size, group_size}
 use Rattle.redolog.specs.Number.{be16}
 use Rattle.redolog.specs.Record.{Record, redo, commit, abort, read_record}
 use Rattle.redolog.specs.Group.{group_by, turn_of, more, last, stop, and_then, on_turn, body_step, read_body, committed_if, group_with, read_group, end_of}
 use Rattle.redolog.specs.Stop.{stop_of}
 use Rattle.redolog.specs.declared.group.GroupEnd.{GroupEnd}
-use Rattle.redolog.specs.declared.group.GroupEnd.TheVariants.{Aborted, Committed, NoGroup}
+use Rattle.redolog.specs.declared.group.GroupEnd.TheVariants.{Aborted, Committed}
 use Rattle.redolog.specs.declared.stop.Stop.{Stop}
 use Rattle.redolog.specs.declared.stop.Stop.TheVariants.{Torn}
 use Rattle.redolog.proofs.Basics.{clash, and_left, and_right, Turned}
 use Rattle.redolog.proofs.Reader.{Shrinks, step}
-use Rattle.redolog.proofs.RecordLaws.{record_front, record_within}
-use Rattle.redolog.proofs.StopLaws.{record_torn}
+use Rattle.redolog.proofs.RecordLaws.{record_front, record_within, record_none, record_short, record_abort, record_unclosed}
+use Rattle.redolog.proofs.StopLaws.{stop_torn, record_torn}
 
 body_shrinks : (next : ℕ) → Shrinks (body_step next)
 body_shrinks next k l id s h = go (read_record s) refl
@@ -48,10 +49,10 @@ body_step_lem next id s = step (body_step next) none (body_shrinks next) id s
 -- ---- what the code answers of a body, by its first record
 
 -- of a group that starts at a place
-abbrev end_from : Stop → ℕ → Option Group → GroupEnd
-end_from why at none = NoGroup why
-end_from why at (some (committed id csn ws)) = Committed (record { 0 = id }) (record { 0 = csn }) (at + (redo_size ws + 8))
-end_from why at (some (aborted id)) = Aborted (record { 0 = id }) (at + 4)
+abbrev end_from : Stop → ℕ → Option Group → Result GroupEnd Stop
+end_from why at none = Err why
+end_from why at (some (committed id csn ws)) = Ok (Committed (record { 0 = id }) (record { 0 = csn }) (at + (redo_size ws + 8)))
+end_from why at (some (aborted id)) = Ok (Aborted (record { 0 = id }) (at + 4))
 
 -- why none goes on at a place of a group, with t left there: at its front t decides; after whole records it is torn, whatever follows
 unfoldable pub stop_from : ℕ → List ℕ → Stop
@@ -75,37 +76,37 @@ stop_record (suc at) t r e = refl
 pub body_start : (t : List ℕ) (x : Option Group) → end_of (stop_of t) x ≡ end_from (stop_from 0 t) 0 x
 unfolding stop_from
 body_start t none = refl
-body_start t (some (committed id csn ws)) = ap (λ (k : ℕ). Committed (record { 0 = id }) (record { 0 = csn }) k) (omega arith)
+body_start t (some (committed id csn ws)) = ap (λ (k : ℕ). Ok (Committed (record { 0 = id }) (record { 0 = csn }) k)) (omega arith)
 body_start t (some (aborted id)) = refl
 
-abbrev pub body_end : ℕ → ℕ → ℕ → List ℕ → GroupEnd
+abbrev pub body_end : ℕ → ℕ → ℕ → List ℕ → Result GroupEnd Stop
 body_end next id at t = end_from (stop_from at t) at (committed_if id next (read_body next id t))
 
 module _ (next id at : ℕ) (t : List ℕ) where
-  body_stop : turn_of next id (read_record t) ≡ stop → body_end next id at t ≡ NoGroup (stop_from at t)
+  body_stop : turn_of next id (read_record t) ≡ stop → body_end next id at t ≡ Err (stop_from at t)
   body_stop e = rw (body_step_lem, e)
 
-  pub body_none : read_record t ≡ none → body_end next id at t ≡ NoGroup (stop_from at t)
+  pub body_none : read_record t ≡ none → body_end next id at t ≡ Err (stop_from at t)
   body_none e = body_stop (ap (turn_of next id) e)
 
   -- a record that is none of the group's own
-  body_other : (r : Record) → read_record t ≡ some r → turn_of next id (some r) ≡ stop → body_end next id at t ≡ NoGroup Torn
-  body_other r e h = body_stop (ap (turn_of next id) e ∙ h) ∙ ap NoGroup (stop_record at t r e)
+  body_other : (r : Record) → read_record t ≡ some r → turn_of next id (some r) ≡ stop → body_end next id at t ≡ Err Torn
+  body_other r e h = body_stop (ap (turn_of next id) e ∙ h) ∙ ap Err (stop_record at t r e)
 
-  pub body_abort : (i : ℕ) → read_record t ≡ some (abort i) → body_end next id at t ≡ NoGroup Torn
+  pub body_abort : (i : ℕ) → read_record t ≡ some (abort i) → body_end next id at t ≡ Err Torn
   body_abort i e = body_other (abort i) e refl
 
-  pub body_other_redo : (i : ℕ) (w : Write) → read_record t ≡ some (redo i w) → (i ≡ id → ⊥) → body_end next id at t ≡ NoGroup Torn
+  pub body_other_redo : (i : ℕ) (w : Write) → read_record t ≡ some (redo i w) → (i ≡ id → ⊥) → body_end next id at t ≡ Err Torn
   body_other_redo i w e h = body_other (redo i w) e (simp (ne_eqb i id h))
 
-  pub body_other_commit : (i n : ℕ) → read_record t ≡ some (commit i n) → (i ≡ id → ⊥) → body_end next id at t ≡ NoGroup Torn
+  pub body_other_commit : (i n : ℕ) → read_record t ≡ some (commit i n) → (i ≡ id → ⊥) → body_end next id at t ≡ Err Torn
   body_other_commit i n e h = body_other (commit i n) e (simp (ne_eqb i id h))
 
-  pub body_other_csn : (i n : ℕ) → read_record t ≡ some (commit i n) → i ≡ id → (n ≡ next → ⊥) → body_end next id at t ≡ NoGroup Torn
+  pub body_other_csn : (i n : ℕ) → read_record t ≡ some (commit i n) → i ≡ id → (n ≡ next → ⊥) → body_end next id at t ≡ Err Torn
   body_other_csn i n e p h = body_other (commit i n) e (simp (eq-eqb i id p, ne_eqb n next h))
 
   pub body_last : (i n : ℕ) → read_record t ≡ some (commit i n) → i ≡ id → n ≡ next
-      → body_end next id at t ≡ Committed (record { 0 = id }) (record { 0 = n }) (at + 8)
+      → body_end next id at t ≡ Ok (Committed (record { 0 = id }) (record { 0 = n }) (at + 8))
   body_last i n e p q = rw (body_step_lem, e, p, q) (simp (eq-eqb id id refl, eq-eqb next next refl))
 
   body_more : (w : Write) → read_record t ≡ some (redo id w)
@@ -118,8 +119,8 @@ module _ (next id at : ℕ) (t : List ℕ) where
       go : (x : Option (List Write))
           → end_from (stop_from at t) at (committed_if id next (and_then w x))
           ≡ end_from (stop_from to (drop (7 + length w.bytes) t)) to (committed_if id next x)
-      go none = ap NoGroup (stop_record at t (redo id w) e ∙ sym (stop_inside to (drop (7 + length w.bytes) t) (omega arith)))
-      go (some ws) = ap (λ (k : ℕ). Committed (record { 0 = id }) (record { 0 = next }) k) (omega arith)
+      go none = ap Err (stop_record at t (redo id w) e ∙ sym (stop_inside to (drop (7 + length w.bytes) t) (omega arith)))
+      go (some ws) = ap (λ (k : ℕ). Ok (Committed (record { 0 = id }) (record { 0 = next }) k)) (omega arith)
 
 -- over a redo record, at a place of a list
 pub body_turn : (next id at i : ℕ) (w : Write) (s : List ℕ) (to : ℕ) → at ≤ length s → read_record (drop at s) ≡ some (redo i w) → i ≡ id
@@ -211,6 +212,9 @@ group_with_other next id s h k = go (read_record s) refl
     go (some (commit i n)) e =
         group_with_commit next s i n e ∙ ap (λ (j : ℕ). committed_if j next (read_body next j s)) ((record_front s (commit i n) e).1 ∙ k)
     go (some (abort i)) e = absurd (h (sym (record_front s (abort i) e).0))
+
+-- what the first bytes say of a group
+pub ruleset group_fronts = (record_none, record_short, record_abort, record_unclosed, stop_torn, group_with_other, group_with_abort, group_with_none)
 
 abbrev pub GroupAt : ℕ → List ℕ → Group → Type 0
 GroupAt next s (committed id n ws) = (n ≡ next) × (read_body next id s ≡ some ws)

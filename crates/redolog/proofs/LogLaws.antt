@@ -1,5 +1,5 @@
 -- Laws of `read_log_with` and `read_log`: a group at a time.
-use Prim.Native.Nat.{ℕ, suc, ◌+◌, ◌-◌, ◌≤◌, ◌<◌}
+use Prim.Native.Nat.{ℕ, suc, ◌+◌, ◌≤◌}
 use native.Mathlib.Omega.{arith}
 use mathlib.Core.List.{List, [], ◌∷◌}
 use mathlib.Core.Option.{Option, none, some}
@@ -8,7 +8,7 @@ use lib.ListN.{length, take, drop, length-drop}
 use lib.Seq.{drop-drop, take_all, take-nil}
 use Rattle.recovery.specs.Group.{Group, committed, aborted, group_size, groups_size, csn_after, last_csn}
 use Rattle.redolog.specs.Group.{group_with, read_group}
-use Rattle.redolog.specs.Log.{next_after, on_group, log_step, read_log_with, read_log, reached_of}
+use Rattle.redolog.specs.Log.{next_after, on_group, log_step, read_log_with, read_log}
 use Rattle.redolog.specs.declared.scan.Reached.{Reached}
 use Rattle.redolog.proofs.Basics.{clash, Turned}
 use Rattle.redolog.proofs.Reader.{Shrinks, step}
@@ -59,37 +59,30 @@ log_more prev s g e =
 abbrev end_from : ℕ → ℕ → List Group → Reached
 end_from at prev gs = record { end = at + groups_size gs; csn = record { 0 = last_csn prev gs } }
 
-pub first_start : (prev : ℕ) (gs : List Group) → reached_of prev gs ≡ end_from 0 prev gs
-first_start prev gs = ap (λ (k : ℕ). record { end = k; csn = record { 0 = last_csn prev gs } }) (omega arith)
-
 abbrev pub first_end : ℕ → ℕ → ℕ → List ℕ → Reached
 first_end at prev m s = end_from at prev (take m (read_log prev s))
 
 first_nil : (at prev : ℕ) → end_from at prev [] ≡ record { end = at; csn = record { 0 = prev } }
 first_nil at prev = ap (λ (k : ℕ). record { end = k; csn = record { 0 = prev } }) (omega arith)
 
--- none are asked for, or none is there
-pub first_zero : (at prev m : ℕ) (s : List ℕ) → m ≡ 0 → first_end at prev m s ≡ record { end = at; csn = record { 0 = prev } }
-first_zero at prev m s e = ap (λ (k : ℕ). first_end at prev k s) e ∙ first_nil at prev
-
+-- none is there
 pub first_none : (at prev m : ℕ) (s : List ℕ) → read_group prev s ≡ none → first_end at prev m s ≡ record { end = at; csn = record { 0 = prev } }
 first_none at prev m s e =
     ap (λ (gs : List Group). end_from at prev (take m gs)) (log_none prev s e) ∙ ap (end_from at prev) (take-nil m) ∙ first_nil at prev
 
 -- over a group, at a place of a list
-pub first_turn : (prev at : ℕ) (s : List ℕ) (k n m : ℕ) (g : Group) → at ≤ length s → read_group prev (drop at s) ≡ some g → k ≡ group_size g
-    → n ≡ csn_after prev g → 0 < m
-    → Turned s at (at + k) (first_end at prev m (drop at s)) (first_end (at + k) n (m - 1) (drop (at + k) s))
-first_turn prev at s k n m g l e h q p =
+pub first_turn : (prev at : ℕ) (s : List ℕ) (k n m r : ℕ) (g : Group) → at ≤ length s → read_group prev (drop at s) ≡ some g → k ≡ group_size g
+    → n ≡ csn_after prev g → m ≡ suc r
+    → Turned s at (at + k) (first_end at prev m (drop at s)) (first_end (at + k) n r (drop (at + k) s))
+first_turn prev at s k n m r g l e h q z =
     let i = group_within prev (drop at s) g e in
     let d = length-drop at s in
-    let z : m ≡ suc (m - 1) = omega arith in
     record {
       within = omega arith;
       less = omega arith;
       same = ap (λ (j : ℕ). first_end at prev j (drop at s)) z
-          ∙ ap (λ (gs : List Group). end_from at prev (take (suc (m - 1)) gs)) (log_more prev (drop at s) g e)
-          ∙ rw (h, q, drop-drop (group_size g) at s) (over (take (m - 1) (read_log (csn_after prev g) (drop (at + group_size g) s))));
+          ∙ ap (λ (gs : List Group). end_from at prev (take (suc r) gs)) (log_more prev (drop at s) g e)
+          ∙ rw (h, q, drop-drop (group_size g) at s) (over (take r (read_log (csn_after prev g) (drop (at + group_size g) s))));
     }
   where
     over : (gs : List Group) → end_from at prev (g ∷ gs) ≡ end_from (at + group_size g) (csn_after prev g) gs

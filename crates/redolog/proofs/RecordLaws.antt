@@ -1,6 +1,5 @@
 -- Laws of `read_record`: which of the three readings it was, and that what it reads lies within the list.
-use Prim.Native.Nat.{ℕ, suc, ◌+◌, ◌-◌, ◌≤◌, ◌<◌}
-use native.Mathlib.Decide.{dec_le}
+use Prim.Native.Nat.{ℕ, suc, ◌+◌, ◌≤◌, ◌<◌}
 use native.Mathlib.Omega.{arith}
 use mathlib.Core.Bool.{Bool, true, false, cond, ◌&&◌}
 use mathlib.Core.List.{List}
@@ -8,8 +7,8 @@ use mathlib.Core.Option.{Option, none, some}
 use mathlib.Core.Path.{◌≡◌, refl, sym, ap, ◌∙◌, subst}
 use lib.ListN.{length, get_or, take, drop, get_or-eq_default, length-drop}
 use lib.Seq.{length-take-le}
-use lib.Dec.{eqb, leb}
-use borrow.Author.Tests.{eqb-true, le-leb, lt-leb}
+use lib.Dec.{eqb}
+use borrow.Author.Tests.{eqb-true, ne_eqb}
 use Rattle.redolog.specs.Number.{be16, be32}
 use Rattle.redolog.specs.Record.{Record, redo, commit, abort, size, in_range, keep, read_redo, read_commit, read_abort, read_kind, read_record}
 use Rattle.redolog.proofs.Basics.{clash, and_left, nonzero_within}
@@ -90,9 +89,13 @@ unfolding read_record
 record_by s kind id k i n = rw (k, i, n)
 
 -- what begins as an abort is one if its last byte agrees
-pub record_abort : (s : List ℕ) (id : ℕ) → get_or s 0 0 ≡ 3 → be16 s 1 ≡ id → eqb id 0 ≡ false → read_record s ≡ keep (eqb (get_or s 3 0) 3) (abort id)
+pub record_abort : (s : List ℕ) (id : ℕ) → get_or s 0 0 ≡ 3 → be16 s 1 ≡ id → (id ≡ 0 → ⊥) → get_or s 3 0 ≡ 3 → read_record s ≡ some (abort id)
 unfolding read_abort
-record_abort s id k i n = record_by s 3 id k i n
+record_abort s id k i n e = record_by s 3 id k i (ne_eqb id 0 n) ∙ rw e
+
+pub record_unclosed : (s : List ℕ) → get_or s 0 0 ≡ 3 → (be16 s 1 ≡ 0 → ⊥) → (get_or s 3 0 ≡ 3 → ⊥) → read_record s ≡ none
+unfolding read_abort
+record_unclosed s k n e = record_by s 3 (be16 s 1) k refl (ne_eqb (be16 s 1) 0 n) ∙ rw (ne_eqb (get_or s 3 0) 3 e)
 
 -- nothing stands in fewer than 4 bytes
 pub record_short : (s : List ℕ) → length s < 4 → read_record s ≡ none
@@ -151,11 +154,3 @@ pub record_within : (s : List ℕ) (r : Record) → read_record s ≡ some r →
 record_within s r e =
     let w = record_ends s r e in
     omega (arith, w.1.sized, nonzero_within s w.0 w.1.kind w.1.closes)
-
--- the range rule's sum as the code tests it, where nothing can wrap
-pub range_end : (addr n : ℕ) → n ≤ 32 → leb addr (4096 - n) ≡ leb (addr + n) 4096
-range_end addr n h =
-    elim (dec_le (addr + n) 4096) [
-      | yes p ↦ le-leb addr (4096 - n) (omega arith) ∙ sym (le-leb (addr + n) 4096 p)
-      | no q ↦ lt-leb addr (4096 - n) (omega (arith, q)) ∙ sym (lt-leb (addr + n) 4096 (omega (arith, q)))
-    ]

@@ -6,10 +6,12 @@ use native.Mathlib.Decide.{dec_le}
 use native.Mathlib.Omega.{arith}
 use mathlib.Core.List.{List, [], ◌∷◌, ◌++◌, append-nil, append_assoc}
 use mathlib.Core.Path.{◌≡◌, refl, sym, ap, ap₂, ◌∙◌}
-use lib.ListN.{length, take, drop, get_or, set, replicate, length-set, length-append, length-drop, length-replicate, get_or-replicate, take-append-drop, replicate-append-replicate}
+use lib.ListN.{length, take, drop, get_or, set, replicate, length-set, length-append, length-drop, length-replicate, take-append-drop, replicate-append-replicate}
 use lib.ListN.{drop_of_length-le}
-use lib.Seq.{sets, sets-eq, length-sets, take-suc, take_all, take-length, take_at, length-take-le, take-set-le, drop-set-lt, drop-cons, drop-append-le, get_or-drop}
-use lib.Seq.{get_or-set_same, get_or-set_other}
+use Rattle.std.specs.List.{copy_within}
+use borrow.Rule.Slice.PartMut.{put_mid}
+use lib.Seq.{sets, sets-eq, drop-drop, take-suc, take_all, take-length, take_at, length-take-le, take-set-le, drop-set-lt, drop-cons, drop-append-le}
+use lib.Seq.{get_or-set_same}
 use Rattle.redolog.specs.Number.{bytes16}
 use Rattle.redolog.specs.Record.{redo, encode}
 use Rattle.redolog.specs.Stores.{Store, store, apply, copies, clears, shifted}
@@ -18,6 +20,12 @@ pub sets_append : (l : List ℕ) (i : ℕ) (xs ys : List ℕ) → sets l i (xs +
 sets_append l i [] ys = ap (λ (k : ℕ). sets l k ys) (omega arith)
 sets_append l i (x ∷ xs) ys =
     sets_append (set l i x) (suc i) xs ys ∙ ap (λ (k : ℕ). sets (sets (set l i x) (suc i) xs) k ys) (omega arith)
+
+-- a part written over in one piece
+pub sets_part : (b : List ℕ) (at : ℕ) (src ys : List ℕ) → at + length src ≤ length b → ys ≡ src → put_mid at (at + length src - at) b ys ≡ sets b at src
+sets_part b at src ys h e =
+    let n : at + length src - at ≡ length src = omega arith in
+    rw (e, n, drop-drop (length src) at b) (sym (sets-eq src b at h ∙ append_assoc (take at b) src (drop (at + length src) b)))
 
 -- one more byte of a copy
 pub sets_more : (l : List ℕ) (at : ℕ) (src : List ℕ) (i : ℕ) → i < length src
@@ -134,7 +142,7 @@ clears_cut allowed low from n m b ys q e h p z =
     ∙ sym (apply_clears from n b (omega arith))
     ∙ sym (ap (λ (ss : List Store). apply ss b) (first_clears allowed low k ∙ ap₂ clears f g))
 
--- ---- a whole buffer: filled, or moved to its front
+-- ---- a whole buffer: written over, or moved to its front
 
 pub sets_all : (vs l : List ℕ) → length vs ≡ length l → sets l 0 vs ≡ vs
 sets_all vs l e =
@@ -142,59 +150,31 @@ sets_all vs l e =
     ∙ ap (λ (r : List ℕ). vs ++ r) (drop_of_length-le l {i = 0 + length vs} (omega arith))
     ∙ append-nil vs
 
-sets_past : (vs l : List ℕ) (i j : ℕ) → i + length vs ≤ j → get_or (sets l i vs) j 0 ≡ get_or l j 0
-sets_past [] l i j h = refl
-sets_past (v ∷ vs) l i j h = sets_past vs (set l i v) (suc i) j (omega arith) ∙ get_or-set_other l i j v 0 (λ e. omega arith)
+-- what stands from n on, or nothing
+drop_min : (n : ℕ) (b : List ℕ) → drop (min n (length b)) b ≡ drop n b
+drop_min n b =
+    elim (dec_le n (length b)) [
+      | yes h ↦ let e : min n (length b) ≡ n = omega (arith, h) in ap (λ (x : ℕ). drop x b) e
+      | no h ↦ drop_of_length-le b {i = min n (length b)} (omega (arith, h)) ∙ sym (drop_of_length-le b {i = n} (omega (arith, h)))
+    ]
 
--- one more byte of a filling
-pub fill_more : (v : ℕ) (b : List ℕ) (i : ℕ) → i < length b
-    → set (sets b 0 (take i (replicate (length b) v))) i v ≡ sets b 0 (take (i + 1) (replicate (length b) v))
-fill_more v b i h =
-    let z : get_or (replicate (length b) v) i 0 ≡ v = get_or-replicate (length b) i v 0 h in
-    let e : 0 + i ≡ i = omega arith in
-    ap₂ (λ (j x : ℕ). set (sets b 0 (take i (replicate (length b) v))) j x) (sym e) (sym z)
-    ∙ sets_more b 0 (replicate (length b) v) i (rw length-replicate h)
-
--- one more byte of those from n on
-pub shift_more : (b : List ℕ) (n i : ℕ) → i + n < length b
-    → set (sets b 0 (take i (drop n b))) i (get_or (sets b 0 (take i (drop n b))) (i + n) 0) ≡ sets b 0 (take (i + 1) (drop n b))
-shift_more b n i h =
-    let d : i < length (drop n b) = rw (length-drop n b) (omega arith) in
-    let t : length (take i (drop n b)) ≡ i = length-take-le i (drop n b) (omega arith) in
-    let s : n + i ≡ i + n = omega arith in
-    let v : get_or (drop n b) i 0 ≡ get_or (sets b 0 (take i (drop n b))) (i + n) 0 =
-    get_or-drop n b i 0 ∙ ap (λ (j : ℕ). get_or b j 0) s ∙ sym (sets_past (take i (drop n b)) b 0 (i + n) (omega arith)) in
-    let e : 0 + i ≡ i = omega arith in
-    ap₂ (λ (j x : ℕ). set (sets b 0 (take i (drop n b))) j x) (sym e) (sym v) ∙ sets_more b 0 (drop n b) i d
-
--- what the moves leave in front of the rest
-pub shift_front : (b : List ℕ) (n : ℕ) → n ≤ length b → take (length b - n) (sets b 0 (take (length b - n) (drop n b))) ≡ drop n b
-shift_front b n h =
-    let d : length (drop n b) ≡ length b - n = length-drop n b in
-    ap (λ (vs : List ℕ). take (length b - n) (sets b 0 vs)) (take_all (length b - n) (drop n b) (omega arith))
-    ∙ ap (take (length b - n)) (sets-eq (drop n b) b 0 (omega arith))
-    ∙ take_at (drop n b) (drop (0 + length (drop n b)) b) (length b - n) d
-
--- the moves, and zeros in the rest
-pub shift_done : (b₀ b ys : List ℕ) (n i : ℕ) → n < length b₀ → i ≡ length b₀ - n → b ≡ sets b₀ 0 (take i (drop n b₀))
-    → ys ≡ replicate (length (take (length b - (length b₀ - n)) (drop (length b₀ - n) b))) 0
-    → take (length b₀ - n) b ++ (ys ++ drop (length b - (length b₀ - n)) (drop (length b₀ - n) b)) ≡ shifted n b₀
+-- m with what stood in b from k on in front, and zeros ys behind it
+pub shift_done : (n k : ℕ) (b m ys : List ℕ) → k ≡ min n (length b) → m ≡ copy_within b k (length b) 0
+    → ys ≡ replicate (length (take (length m - (length b - k)) (drop (length b - k) m))) 0
+    → put_mid (length b - k) (length m - (length b - k)) m ys ≡ shifted n b
 unfolding shifted
-shift_done b₀ b ys n i h p e z =
-    let k = length b₀ - n in
-    let l : length b ≡ length b₀ = ap length e ∙ length-sets b₀ 0 (take i (drop n b₀)) in
-    let d : length (drop k b) ≡ length b - k = length-drop k b in
-    let m : length (take (length b - k) (drop k b)) ≡ min n (length b₀) = length-take-le (length b - k) (drop k b) (omega arith) ∙ omega arith in
-    let f : take k b ≡ drop n b₀ = ap (take k) (e ∙ ap (λ (j : ℕ). sets b₀ 0 (take j (drop n b₀))) p) ∙ shift_front b₀ n (omega arith) in
-    let r : drop (length b - k) (drop k b) ≡ [] = drop_of_length-le (drop k b) {i = length b - k} (omega arith) in
-    ap₂ ◌++◌ f (ap₂ ◌++◌ (z ∙ ap (λ (j : ℕ). replicate j 0) m) r ∙ append-nil (replicate (min n (length b₀)) 0))
-
--- nothing is left of a buffer that is not longer than n
-pub shift_all : (b : List ℕ) (n : ℕ) → length b ≤ n → replicate (length b) 0 ≡ shifted n b
-unfolding shifted
-shift_all b n h =
-    let e : length b ≡ min n (length b) = omega arith in
-    sym (ap₂ ◌++◌ (drop_of_length-le b {i = n} h) (ap (λ (j : ℕ). replicate j 0) (sym e)))
+shift_done n k b m ys q e z =
+    let keep = length b - k in
+    let d : length (drop k b) ≡ keep = length-drop k b in
+    let f : m ≡ drop k b ++ drop (0 + keep) b = e ∙ ap (λ (l : List ℕ). l ++ drop (0 + keep) b) (take_all keep (drop k b) (omega arith)) in
+    let l : length m ≡ length b = ap length f ∙ simp (length-append, length-drop) (omega arith) in
+    let front : take keep m ≡ drop n b = ap (take keep) f ∙ take_at (drop k b) (drop (0 + keep) b) keep d ∙ ap (λ (x : ℕ). drop x b) q ∙ drop_min n b in
+    let c : length (take (length m - keep) (drop keep m)) ≡ min n (length b) = length-take-le (length m - keep) (drop keep m) (omega (arith, length-drop keep m)) ∙ omega arith in
+    let none : drop (length m - keep) (drop keep m) ≡ [] = drop_of_length-le (drop keep m) {i = length m - keep} (omega (arith, length-drop keep m)) in
+    let zeros : ys ≡ replicate (min n (length b)) 0 = z ∙ ap (λ (j : ℕ). replicate j 0) c in
+    let rest : ys ++ drop (length m - keep) (drop keep m) ≡ replicate (min n (length b)) 0 =
+    rw (zeros, none) (append-nil (replicate (min n (length b)) 0)) in
+    rw (front, rest)
 
 pub shift_none : (b : List ℕ) → b ≡ shifted 0 b
 unfolding shifted

@@ -1,11 +1,11 @@
 -- Groups on disk: "an abort, or zero or more redo records and one commit, all of one id, whose commit number is the previous one plus 1".
-use Rattle.std.specs.Prelude.{ℕ, ◌+◌, Bool, cond, ◌&&◌, List, [], ◌∷◌, ◌++◌, drop, eqb}
+use Rattle.std.specs.Prelude.{ℕ, ◌+◌, Bool, cond, ◌&&◌, List, [], ◌∷◌, ◌++◌, drop, eqb, Result, Ok, Err}
 use Rattle.std.proofs.Math.Option.{Option, none, some}
 use Rattle.recovery.specs.Group.{Write, Group, committed, aborted, group_size}
 use Rattle.redolog.specs.Record.{Record, redo, commit, abort, encode, size, well_formed, read_record}
 use Rattle.redolog.specs.Reader.{whole}
 use Rattle.redolog.specs.declared.group.GroupEnd.{GroupEnd}
-use Rattle.redolog.specs.declared.group.GroupEnd.TheVariants.{Aborted, Committed, NoGroup}
+use Rattle.redolog.specs.declared.group.GroupEnd.TheVariants.{Aborted, Committed}
 use Rattle.redolog.specs.declared.stop.Stop.{Stop}
 
 -- the redo records of these writes, and the commit
@@ -73,7 +73,7 @@ unfoldable pub read_group : ℕ → List ℕ → Option Group
 read_group prev s = group_with (prev + 1) s
 
 -- what the code answers of a group: its id, its commit number and where it ends; of none, why none stands there
-abbrev pub end_of : Stop → Option Group → GroupEnd
-end_of why none = NoGroup why
-end_of why (some (committed id csn ws)) = Committed (record { 0 = id }) (record { 0 = csn }) (group_size (committed id csn ws))
-end_of why (some (aborted id)) = Aborted (record { 0 = id }) (group_size (aborted id))
+abbrev pub end_of : Stop → Option Group → Result GroupEnd Stop
+end_of why none = Err why
+end_of why (some (committed id csn ws)) = Ok (Committed (record { 0 = id }) (record { 0 = csn }) (group_size (committed id csn ws)))
+end_of why (some (aborted id)) = Ok (Aborted (record { 0 = id }) (group_size (aborted id)))

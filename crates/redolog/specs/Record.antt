@@ -1,11 +1,11 @@
 -- The three log records: what each is on disk, when it is well formed, and which one stands at the front of a list of bytes.
-use Rattle.std.specs.Prelude.{ℕ, ◌+◌, Bool, true, false, cond, not, ◌&&◌, List, [], ◌∷◌, ◌++◌, length, get_or, take, drop, leb, eqb}
+use Rattle.std.specs.Prelude.{ℕ, ◌+◌, Bool, true, false, cond, not, ◌&&◌, List, [], ◌∷◌, ◌++◌, length, get_or, take, drop, leb, eqb, Result, Ok, Err}
 use Rattle.std.proofs.Math.Option.{Option, none, some}
 use Rattle.layout.specs.{memory_len, kind_redo, kind_commit, kind_abort, redo_len, commit_len, abort_len, max_write}
 use Rattle.recovery.specs.Group.{Write}
 use Rattle.redolog.specs.Number.{be16, be32, bytes16, bytes32}
-use Rattle.redolog.specs.declared.record.Head.{Head}
-use Rattle.redolog.specs.declared.record.Head.TheVariants.{Redo, Commit, Abort, Nothing}
+use Rattle.redolog.specs.declared.record.Record.{Record as Head}
+use Rattle.redolog.specs.declared.record.Record.TheVariants.{Redo, Commit, Abort}
 use Rattle.redolog.specs.declared.stop.Stop.{Stop}
 
 -- redo: id, address and new bytes; commit: id, commit number; abort: id
@@ -63,8 +63,8 @@ unfoldable pub read_record : List ℕ → Option Record
 read_record s = cond (eqb (be16 s 1) 0) none (read_kind (get_or s 0 0) (be16 s 1) s)
 
 -- what the code answers of a record: its numbers, and of a redo how many bytes it has; of none, why none stands there
-abbrev pub head_of : Stop → Option Record → Head
-head_of why none = Nothing why
-head_of why (some (redo id w)) = Redo (record { 0 = id }) w.addr (length w.bytes)
-head_of why (some (commit id csn)) = Commit (record { 0 = id }) (record { 0 = csn })
-head_of why (some (abort id)) = Abort (record { 0 = id })
+abbrev pub head_of : Stop → Option Record → Result Head Stop
+head_of why none = Err why
+head_of why (some (redo id w)) = Ok (Redo (record { 0 = id }) w.addr (length w.bytes))
+head_of why (some (commit id csn)) = Ok (Commit (record { 0 = id }) (record { 0 = csn }))
+head_of why (some (abort id)) = Ok (Abort (record { 0 = id }))

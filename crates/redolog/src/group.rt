@@ -8,96 +8,92 @@ ghost use Rattle.redolog.specs.Stop.{stop_of};
 ghost use Rattle.redolog.specs.Flat.{writes_from};
 
 use crate::number::be16;
-use crate::record::{Head, put_commit, put_redo, read_record};
+use crate::record::{Record, put_commit, put_redo, read_record};
 use crate::stop::{Stop, stop_at};
 use crate::{Csn, TxId};
 use layout::{ABORT, ABORT_LEN, COMMIT_LEN, MAX_WRITE, REDO_LEN};
 
-// The whole group at the front of a slice, and where it ends; or why none stands there.
+// A whole group as read, and where it ends.
 #[derive(Clone, Copy)]
 pub enum GroupEnd {
     Aborted { id: TxId, end: usize },
     Committed { id: TxId, csn: Csn, end: usize },
-    NoGroup(Stop),
 }
 
 // The redo records of this id at the front of s, and their commit.
-fn read_body(s: &[u8], id: TxId, next: u64) -> GroupEnd
+fn read_body(s: &[u8], id: TxId, next: u64) -> Result<GroupEnd, Stop>
     ensures { result ≡ end_of (stop_of s.now) (committed_if id.0 next (read_body next id.0 s.now)) }
 {
     let mut at: usize = 0;
-    loop {
-        let head = read_record(&s[at..]);
-        match head {
-            Head::Redo {
-                id: r,
-                addr: _,
-                len,
-            } => {
-                if r.0 != id.0 {
-                    return GroupEnd::NoGroup(Stop::Torn);
+    // Each record has its own length, and no iterator steps by what it reads.
+    while let Ok(record) = read_record(&s[at..]) {
+        match record {
+            Record::Redo { id: r, len, .. } => {
+                if r != id {
+                    return Err(Stop::Torn);
                 }
-                at = at + REDO_LEN + len as usize;
+                at += REDO_LEN + len as usize;
             }
-            Head::Commit { id: c, csn } => {
-                if c.0 != id.0 {
-                    return GroupEnd::NoGroup(Stop::Torn);
+            Record::Commit { id: c, csn } => {
+                if c != id {
+                    return Err(Stop::Torn);
                 }
                 if csn.0 as u64 != next {
-                    return GroupEnd::NoGroup(Stop::Torn);
+                    return Err(Stop::Torn);
                 }
-                return GroupEnd::Committed {
-                    id: id,
-                    csn: csn,
+                return Ok(GroupEnd::Committed {
+                    id,
+                    csn,
                     end: at + COMMIT_LEN,
-                };
+                });
             }
-            Head::Abort(_) => {
-                return GroupEnd::NoGroup(Stop::Torn);
-            }
-            Head::Nothing(stop) => {
-                // After whole records it is torn, whatever follows them.
-                if at != 0 {
-                    return GroupEnd::NoGroup(Stop::Torn);
-                }
-                return GroupEnd::NoGroup(stop);
+            Record::Abort(_) => {
+                return Err(Stop::Torn);
             }
         }
     }
+    // After whole records it is torn, whatever follows them.
+    if at != 0 {
+        return Err(Stop::Torn);
+    }
+    Err(stop_at(s, 0))
 }
 
 // next is the commit number expected. Behind the highest one it is 2^32, which no commit has.
-pub fn read_next(s: &[u8], next: u64) -> GroupEnd
+#[tactic(auto, using(crate::proofs::GroupLaws::group_fronts))]
+pub fn read_next(s: &[u8], next: u64) -> Result<GroupEnd, Stop>
     ensures { result ≡ end_of (stop_of s.now) (group_with next s.now) }
 {
     // An abort is the shortest, and told without a call: a log can have thousands.
     if s.len() < ABORT_LEN {
-        return GroupEnd::NoGroup(stop_at(s, 0));
+        return Err(stop_at(s, 0));
     }
     let id = be16(s, 1);
     if s[0] != ABORT {
         return read_body(s, TxId(id), next);
     }
     if id == 0 {
-        return GroupEnd::NoGroup(Stop::Torn);
+        return Err(Stop::Torn);
     }
     if s[3] != ABORT {
-        return GroupEnd::NoGroup(Stop::Torn);
+        return Err(Stop::Torn);
     }
-    GroupEnd::Aborted {
+    Ok(GroupEnd::Aborted {
         id: TxId(id),
         end: ABORT_LEN,
-    }
+    })
 }
 
 // prev is the commit number before the group.
-pub fn read_group(s: &[u8], prev: Csn) -> GroupEnd
+#[tactic(auto, unfolding(crate::specs::Group::read_group))]
+pub fn read_group(s: &[u8], prev: Csn) -> Result<GroupEnd, Stop>
     ensures { result ≡ end_of (stop_of s.now) (read_group prev.0 s.now) }
 {
     read_next(s, prev.0 as u64 + 1)
 }
 
 // Writes the group of the first n redo records of these arrays and their commit. The i-th record has the len[i] bytes from MAX_WRITE * i on.
+// Parallel arrays and a count, since a transaction's records are laid out as C does it.
 pub fn put_group(
     b: &mut [u8],
     at: usize,
@@ -115,13 +111,11 @@ pub fn put_group(
         ≡ sets b.old at (encode_group (committed id.0 csn.0 (writes_from addr.now len.now bytes.now n 0))) }
 {
     let mut o = at;
-    let mut i: usize = 0;
-    while i < n {
+    for i in 0..n {
         let l = len[i] as usize;
         let from = i * MAX_WRITE;
         put_redo(b, o, id, addr[i], &bytes[from..from + l]);
-        o = o + (REDO_LEN + l);
-        i = i + 1;
+        o += REDO_LEN + l;
     }
     put_commit(b, o, id, csn);
 }

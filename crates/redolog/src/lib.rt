@@ -11,10 +11,10 @@ pub mod stores;
 
 // A transaction id. 0 is never given.
 #[repr(C)]
-#[derive(Clone, Copy)]
+#[derive(Clone, Copy, PartialEq, Eq, PartialOrd, Ord)]
 pub struct TxId(pub u16);
 
 // A commit sequence number (document 01: commit number). 0 stands for "none yet".
 #[repr(C)]
-#[derive(Clone, Copy)]
+#[derive(Clone, Copy, PartialEq, Eq, PartialOrd, Ord)]
 pub struct Csn(pub u32);

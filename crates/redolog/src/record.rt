@@ -12,102 +12,97 @@ use crate::stores::copy;
 use crate::{Csn, TxId};
 use layout::{ABORT, ABORT_LEN, COMMIT, COMMIT_LEN, MAX_WRITE, MEMORY_LEN, REDO, REDO_LEN};
 
-// The well-formed record at the front of a slice, or why none stands there. The new bytes of a redo record are the len bytes at 6.
+// A record as read. The new bytes of a redo record are the len bytes at 6.
 #[derive(Clone, Copy)]
-pub enum Head {
+pub enum Record {
     Redo { id: TxId, addr: u16, len: u8 },
     Commit { id: TxId, csn: Csn },
     Abort(TxId),
-    Nothing(Stop),
 }
 
 // The range rule of redo and undo records. Any two numbers may be asked about: nothing wraps.
 pub fn in_range(addr: usize, len: usize) -> bool
     ensures { result ≡ in_range addr len }
 {
-    if len < 1 {
-        return false;
-    }
-    if MAX_WRITE < len {
-        return false;
-    }
-    addr <= MEMORY_LEN - len
+    0 < len && len <= MAX_WRITE && addr <= MEMORY_LEN - len
 }
 
 // Of the three below: the rest of a record of this kind and id.
-fn read_redo(s: &[u8], id: TxId) -> Head
+#[tactic(auto, unfolding(crate::specs::Record::read_redo))]
+fn read_redo(s: &[u8], id: TxId) -> Result<Record, Stop>
     ensures { result ≡ head_of Torn (read_redo id.0 s.now) }
 {
     if s.len() < REDO_LEN {
-        return Head::Nothing(Stop::Torn);
+        return Err(Stop::Torn);
     }
     let len = s[5];
     let last = 6 + len as usize;
     if s.len() <= last {
-        return Head::Nothing(Stop::Torn);
+        return Err(Stop::Torn);
     }
     if s[last] != REDO {
-        return Head::Nothing(Stop::Torn);
+        return Err(Stop::Torn);
     }
     let addr = be16(s, 3);
     if !in_range(addr as usize, len as usize) {
-        return Head::Nothing(Stop::Torn);
+        return Err(Stop::Torn);
     }
-    Head::Redo { id, addr, len }
+    Ok(Record::Redo { id, addr, len })
 }
 
-fn read_commit(s: &[u8], id: TxId) -> Head
+#[tactic(auto, unfolding(crate::specs::Record::read_commit))]
+fn read_commit(s: &[u8], id: TxId) -> Result<Record, Stop>
     ensures { result ≡ head_of Torn (read_commit id.0 s.now) }
 {
     if s.len() < COMMIT_LEN {
-        return Head::Nothing(Stop::Torn);
+        return Err(Stop::Torn);
     }
     if s[7] != COMMIT {
-        return Head::Nothing(Stop::Torn);
+        return Err(Stop::Torn);
     }
     let csn = be32(s, 3);
-    Head::Commit { id, csn: Csn(csn) }
+    Ok(Record::Commit { id, csn: Csn(csn) })
 }
 
-fn read_abort(s: &[u8], id: TxId) -> Head
+#[tactic(auto, unfolding(crate::specs::Record::read_abort))]
+fn read_abort(s: &[u8], id: TxId) -> Result<Record, Stop>
     ensures { result ≡ head_of Torn (read_abort id.0 s.now) }
 {
     if s.len() < ABORT_LEN {
-        return Head::Nothing(Stop::Torn);
+        return Err(Stop::Torn);
     }
     if s[3] != ABORT {
-        return Head::Nothing(Stop::Torn);
+        return Err(Stop::Torn);
     }
-    Head::Abort(id)
+    Ok(Record::Abort(id))
 }
 
-pub fn read_record(s: &[u8]) -> Head
+// The well-formed record at the front of a slice, or why none stands there.
+#[tactic(auto, using(crate::proofs::StopLaws::record_fronts), unfolding(crate::specs::Record::read_record))]
+pub fn read_record(s: &[u8]) -> Result<Record, Stop>
     ensures { result ≡ head_of (stop_of s.now) (read_record s.now) }
 {
     // An abort is the shortest.
     if s.len() < ABORT_LEN {
-        return Head::Nothing(stop_at(s, 0));
+        return Err(stop_at(s, 0));
     }
     let kind = s[0];
     if kind == 0 {
-        return Head::Nothing(Stop::Zero);
+        return Err(Stop::Zero);
     }
     let id = be16(s, 1);
     if id == 0 {
-        return Head::Nothing(Stop::Torn);
+        return Err(Stop::Torn);
     }
-    if kind == REDO {
-        return read_redo(s, TxId(id));
+    match kind {
+        REDO => read_redo(s, TxId(id)),
+        COMMIT => read_commit(s, TxId(id)),
+        ABORT => read_abort(s, TxId(id)),
+        _ => Err(Stop::Torn),
     }
-    if kind == COMMIT {
-        return read_commit(s, TxId(id));
-    }
-    if kind == ABORT {
-        return read_abort(s, TxId(id));
-    }
-    Head::Nothing(Stop::Torn)
 }
 
+#[tactic(auto, using(crate::proofs::StoreLaws::redo_stores))]
 pub(crate) fn put_redo(b: &mut [u8], at: usize, id: TxId, addr: u16, src: &[u8])
     requires src_len_bound { length src.now < 256 }
     requires src_in_bounds { at + (redo_len + length src.now) ≤ length b.old }

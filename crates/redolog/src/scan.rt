@@ -27,37 +27,29 @@ pub fn read_first(s: &[u8], prev: Csn, k: usize) -> Reached
 {
     let mut at: usize = 0;
     let mut csn = prev;
-    let mut left = k;
-    while 0 < left {
-        left = left - 1;
-        let found = read_group(&s[at..], csn);
+    for _ in 0..k {
+        let Ok(found) = read_group(&s[at..], csn) else {
+            break;
+        };
         match found {
-            GroupEnd::Aborted { id: _, end } => {
-                at = at + end;
+            GroupEnd::Aborted { end, .. } => {
+                at += end;
             }
-            GroupEnd::Committed { id: _, csn: n, end } => {
-                at = at + end;
+            GroupEnd::Committed { csn: n, end, .. } => {
+                at += end;
                 csn = n;
-            }
-            GroupEnd::NoGroup(_) => {
-                return Reached { end: at, csn: csn };
             }
         }
     }
-    Reached { end: at, csn: csn }
+    Reached { end: at, csn }
 }
 
 // The whole log: it can't have more groups than bytes.
+#[tactic(auto, using(crate::proofs::LogLaws::log_whole), unfolding(crate::specs::Log::log_stop))]
 pub fn read_log(s: &[u8], prev: Csn) -> LogEnd
     ensures { result ≡ log_end_of prev.0 s.now }
 {
-    let all = read_first(s, prev, s.len());
-    let end = all.end;
-    let csn = all.csn;
+    let Reached { end, csn } = read_first(s, prev, s.len());
     let stop = stop_at(s, end);
-    LogEnd {
-        end: end,
-        csn: csn,
-        stop: stop,
-    }
+    LogEnd { end, csn, stop }
 }

@@ -11,10 +11,10 @@ pub fn put_decimal(out: &mut [u8], at: usize, n: u32) -> usize
     ensures { Put out.old at (decimal n) result out.new }
 {
     if n < 10 {
-        out[at] = (48 + n) as u8;
+        out[at] = b'0' + n as u8;
         return at + 1;
     }
     let end = put_decimal(out, at, n / 10);
-    out[end] = (48 + n % 10) as u8;
+    out[end] = b'0' + (n % 10) as u8;
     end + 1
 }

@@ -33,8 +33,8 @@ put_redo-requires-clause-src_in_bounds c =
       c.requires.n_in_bounds_2,
     )
 
-pub overflow_add-o-in-loop-i : goal.overflow_add-o-in-loop-i
-overflow_add-o-in-loop-i c =
+pub overflow_add-o : goal.overflow_add-o
+overflow_add-o c =
     let a = c.args in
     let i = c.loop-i.i in
     let h = c.loop-i-test.true in

@@ -14,6 +14,3 @@ invariant-loop-i l =
       size : l.at + redo_size all ≡ l.o + redo_size rest;
       stores : sets l.fn.b l.at (encode_body l.id.0 l.csn.0 all) ≡ sets l.b l.o (encode_body l.id.0 l.csn.0 rest);
     }
-
-abbrev pub decreases-loop-i : goal.decreases-loop-i
-decreases-loop-i l = l.n - l.i
