@@ -9,10 +9,10 @@ use lib.Dec.{leb, ltb}
 use borrow.Author.Tests.{leb-true, ltb-true, le-leb, lt-ltb}
 use Rattle.recovery.specs.Lists.{any}
 use Rattle.redolog.proofs.Basics.{and_left, and_right}
-use Rattle.transaction.specs.Lists.{up_from, every}
+use Rattle.transaction.specs.Lists.{every}
 use Rattle.transaction.specs.View.{Range, range}
 use Rattle.transaction.specs.Rules.{has_byte, covered, onward, reach}
-use Rattle.transaction.proofs.Lists.{up_turn, up_done, every_good, every_bad}
+use Rattle.transaction.proofs.Lists.{up_done, every_good, every_bad}
 
 -- ---- a byte of a range
 
@@ -74,9 +74,6 @@ reach_stuck (r ∷ rs) at e =
 pub reach_append : (rs qs : List Range) (at : ℕ) → reach at (rs ++ qs) ≡ reach (reach at rs) qs
 reach_append [] qs at = refl
 reach_append (r ∷ rs) qs at = reach_append rs qs (onward at r)
-
-pub reach_turn : (f : ℕ → Range) (n i at : ℕ) → i < n → reach at (up_from f (n - i) i) ≡ reach (onward at (f i)) (up_from f (n - (i + 1)) (i + 1))
-reach_turn f n i at h = ap (reach at) (up_turn f n i h)
 
 -- ---- cover
 

@@ -1,6 +1,7 @@
 -- Laws that belong to no one function.
 pub mod Lists
 pub mod First
+pub mod Pairs
 pub mod RangeLaws
 pub mod Writes
 pub mod Pushed

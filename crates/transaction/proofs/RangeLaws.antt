@@ -1,19 +1,19 @@
 -- Laws of the range rule, and of ranges compared one by one.
-use Prim.Native.Nat.{ℕ, suc, ◌+◌, ◌*◌, ◌-◌, ◌≤◌, ◌<◌}
+use Prim.Native.Nat.{ℕ, suc, ◌+◌, ◌*◌, ◌≤◌, ◌<◌}
 use native.Mathlib.Omega.{arith}
 use mathlib.Core.Bool.{Bool, true, false, ◌&&◌}
 use mathlib.Core.List.{List, [], ◌∷◌}
-use mathlib.Core.Path.{◌≡◌, refl, sym, ap, ap₂, ◌∙◌}
+use mathlib.Core.Path.{◌≡◌, refl, sym, ap}
 use lib.ListN.{length, get_or}
 use lib.Dec.{leb, eqb}
 use borrow.Author.Tests.{leb-true, le-leb, lt-leb, eqb-true}
 use Rattle.redolog.specs.Record.{in_range}
 use Rattle.redolog.proofs.Basics.{and_left, and_right}
 use Rattle.transaction.specs.declared.ranges.Ranges.{Ranges}
-use Rattle.transaction.specs.Lists.{up_from, every}
+use Rattle.transaction.specs.Lists.{every}
 use Rattle.transaction.specs.View.{Range, range, range_at, ranges_of}
 use Rattle.transaction.specs.Rules.{range_ok, records_ok, ranges_size, same_range, same_ranges}
-use Rattle.transaction.proofs.Lists.{length_up, up_turn, every_at}
+use Rattle.transaction.proofs.Lists.{length_up, every_at}
 
 -- what the range rule says of a length and an address
 pub in_range_lem : (a n : ℕ) → in_range a n ≡ true → (1 ≤ n) × (n ≤ 32) × (a + n ≤ 4096)
@@ -78,16 +78,3 @@ equal_ranges (range a n ∷ rs) (range b m ∷ qs) e =
     let j : n ≡ m = eqb-true n m (and_right (eqb a b) (eqb n m) h) in
     let k : rs ≡ qs = equal_ranges rs qs (and_right (same_range (range a n) (range b m)) (same_ranges rs qs) e) in
     cc
-
-module _ (r q : Ranges) (n i : ℕ) (h : i < n) where
-  turn : same_ranges (up_from (range_at r) (n - i) i) (up_from (range_at q) (n - i) i)
-      ≡ same_range (range_at r i) (range_at q i) && same_ranges (up_from (range_at r) (n - (i + 1)) (i + 1)) (up_from (range_at q) (n - (i + 1)) (i + 1))
-  turn = ap₂ (λ (x y : List Range). same_ranges x y) (up_turn (range_at r) n i h) (up_turn (range_at q) n i h)
-
-  pub same_bad : same_range (range_at r i) (range_at q i) ≡ false → same_ranges (up_from (range_at r) (n - i) i) (up_from (range_at q) (n - i) i) ≡ false
-  same_bad e = turn ∙ ap (λ (b : Bool). b && same_ranges (up_from (range_at r) (n - (i + 1)) (i + 1)) (up_from (range_at q) (n - (i + 1)) (i + 1))) e
-
-  pub same_good : same_range (range_at r i) (range_at q i) ≡ true
-      → same_ranges (up_from (range_at r) (n - i) i) (up_from (range_at q) (n - i) i)
-      ≡ same_ranges (up_from (range_at r) (n - (i + 1)) (i + 1)) (up_from (range_at q) (n - (i + 1)) (i + 1))
-  same_good e = turn ∙ ap (λ (b : Bool). b && same_ranges (up_from (range_at r) (n - (i + 1)) (i + 1)) (up_from (range_at q) (n - (i + 1)) (i + 1))) e

@@ -1,16 +1,20 @@
 -- Laws of savepoints: a name looked up and set in the flat arrays, and the rule that number 2 has for them.
 use Prim.Native.Nat.{ℕ, zero, suc, ◌+◌, ◌-◌, ◌≤◌, ◌<◌}
-use native.Mathlib.Nat.{sub-zero}
 use native.Mathlib.Numerals.{add-one}
 use native.Mathlib.Omega.{arith}
 use mathlib.Core.Bool.{Bool, true, false, cond, not, ◌&&◌, ◌||◌}
 use mathlib.Core.List.{List, [], ◌∷◌}
 use mathlib.Core.Option.{none, some}
 use mathlib.Core.Path.{◌≡◌, refl, sym, ap, ap₂, ◌∙◌}
-use lib.ListN.{length, get_or, set, length-set}
+use lib.ListN.{length, get_or, take, set, length-set}
 use lib.Seq.{get_or-set_same, get_or-set_other}
-use lib.Dec.{eqb, leb}
-use borrow.Author.Tests.{eqb-true, eqb-false, eq-eqb, ne_eqb, leb-true, le-leb, lt-leb, not-true}
+use lib.Dec.{eqb, leb, ltb}
+use borrow.Author.Tests.{eqb-true, eqb-false, eq-eqb, ne_eqb, leb-true, le-leb, lt-leb, lt-ltb, not-true}
+use native.Mathlib.Decide.{dec_lt}
+use Rattle.std.proofs.Common.{Option, None, Some}
+use Rattle.std.specs.Option.{unwrap_or}
+use Rattle.std.proofs.lemmas.Bool.Decides.{nat_tests}
+use Rattle.std.specs.List.{list_any, position_or_len}
 use Rattle.recovery.specs.Savepoint.{Savepoint, set_name, count_at}
 use Rattle.recovery.proofs.Bool.{opposed, or_left, or_right}
 use Rattle.redolog.proofs.Basics.{and_left, and_right, and_both}
@@ -63,12 +67,73 @@ module _ (p : Savepoints) (name : ℕ) where
   pub place : First (savepoint_at p) (has_name name) 0 p.count (place_of p name) (is_set name (savepoints_in p))
   place = first (savepoint_at p) (has_name name) p.count 0
 
-  -- what the loop from the first place on has found
-  pub place_found : (r : ℕ) → r ≡ first_in (has_name name) 0 (up_from (savepoint_at p) (p.count - 0) 0) → r ≡ place_of p name
-  place_found r e = e ∙ ap (λ (k : ℕ). first_in (has_name name) 0 (up_from (savepoint_at p) k 0)) (sub-zero p.count)
-
   pub place_set : is_set name (savepoints_in p) ≡ true → place_of p name < p.count
   place_set e = let h = first_within (savepoint_at p) (has_name name) p.count 0 e in omega arith
+
+turned : (a b : ℕ) → eqb a b ≡ eqb b a
+turned a b = grind (arith, nat_tests)
+
+later_on : (a b : ℕ) → ltb (1 + a) (suc b) ≡ ltb a b
+later_on a b = grind (arith, nat_tests)
+
+-- the first place of a name, and whether it is there, as a walk over the names tells them
+pub record Walked (name : ℕ) (f : ℕ → Savepoint) (ns : List ℕ) (k i : ℕ) : Type 0 where
+  pub first : first_in (has_name name) i (up_from f k i) ≡ i + position_or_len (eqb name) (take k ns)
+  pub passed : is_set name (up_from f k i) ≡ ltb (position_or_len (eqb name) (take k ns)) (length (take k ns))
+  pub there : is_set name (up_from f k i) ≡ list_any (λ x. eqb x name) (take k ns)
+
+pub walked : (name : ℕ) (f : ℕ → Savepoint) (ns : List ℕ) (k i : ℕ) → k ≤ length ns → ((j : ℕ) → j < k → (f (i + j)).name ≡ get_or ns j 0)
+    → Walked name f ns k i
+walked name f ns zero i h e = record { first = omega arith; passed = refl; there = refl }
+walked name f [] (suc k) i h e = absurd (omega arith)
+walked name f (n ∷ ns) (suc k) i h e =
+    go (eqb name n) refl
+    (walked name f ns k (suc i) (omega arith)
+    (λ j l. let z : suc i + j ≡ i + suc j = omega arith in ap (λ (x : ℕ). (f x).name) z ∙ e (suc j) (omega arith)))
+  where
+    at_front : (f i).name ≡ n
+    at_front = let z : i ≡ i + 0 = omega arith in ap (λ (j : ℕ). (f j).name) z ∙ e 0 (omega arith)
+
+    go : (b : Bool) → eqb name n ≡ b → Walked name f ns k (suc i) → Walked name f (n ∷ ns) (suc k) i
+    go true q r =
+        record { first = rw (at_front, q) (omega arith); passed = rw (at_front, q) (sym (lt-ltb 0 (suc (length (take k ns))) (omega arith))); there = rw (at_front, turned n name, q) }
+    go false q r =
+        record {
+          first = rw (at_front, q) (omega (arith, r.first));
+          passed = rw (at_front, q) (r.passed ∙ sym (later_on (position_or_len (eqb name) (take k ns)) (length (take k ns))));
+          there = rw (at_front, turned n name, q) r.there;
+        }
+
+-- what looking a name up has found
+module _ (p : Savepoints) (name : ℕ) where
+  abbrev pub looked_up : Option ℕ
+  looked_up = cond (is_set name (savepoints_in p)) (Some (place_of p name)) None
+
+  pub place_unset : is_set name (savepoints_in p) ≡ false → place_of p name ≡ p.count
+  place_unset e =
+      let x = place p name in
+      elim (dec_lt (place_of p name) p.count) [ yes h ↦ absurd (opposed (x.listed (omega arith)) e) | no h ↦ omega (arith, h, x.high) ]
+
+  pub found_some : (at : ℕ) → Some at ≡ looked_up → (at ≡ place_of p name) × (at < p.count)
+  found_some at e = go (is_set name (savepoints_in p)) refl e
+    where
+      go : (b : Bool) → is_set name (savepoints_in p) ≡ b → Some at ≡ cond b (Some (place_of p name)) None → (at ≡ place_of p name) × (at < p.count)
+      go true q h = let z : at ≡ place_of p name = cc in (z, omega (arith, z, place_set p name q))
+      go false q h = cc
+
+  pub found_none : None ≡ looked_up → place_of p name ≡ p.count
+  found_none e = go (is_set name (savepoints_in p)) refl e
+    where
+      go : (b : Bool) → is_set name (savepoints_in p) ≡ b → None ≡ cond b (Some (place_of p name)) None → place_of p name ≡ p.count
+      go true q h = cc
+      go false q h = place_unset q
+
+  pub found_or : (r : Option ℕ) → r ≡ looked_up → unwrap_or r p.count ≡ place_of p name
+  found_or r e = ap (λ (o : Option ℕ). unwrap_or o p.count) e ∙ go (is_set name (savepoints_in p)) refl
+    where
+      go : (b : Bool) → is_set name (savepoints_in p) ≡ b → unwrap_or (cond b (Some (place_of p name)) None) p.count ≡ place_of p name
+      go true q = refl
+      go false q = sym (place_unset q)
 
 -- a name that is set has a count
 pub set_count : (name : ℕ) (ps : List Savepoint) → is_set name ps ≡ true → count_at name ps ≡ some (or_zero (count_at name ps))

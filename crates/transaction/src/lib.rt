@@ -19,7 +19,7 @@ ghost use Rattle.transaction.specs.Steps.{fresh_tx, written, with_read, savepoin
 use crate::ranges::Ranges;
 use crate::records::Records;
 use crate::savepoints::Savepoints;
-use layout::{COMMIT_LEN, COMMITTING, MAX_SAVEPOINTS, MAX_WRITE, RUNNING};
+use layout::{COMMIT_LEN, COMMITTING, MAX_SAVEPOINTS, MAX_WRITE, MEMORY_LEN, RUNNING};
 use redolog::group::put_group;
 use redolog::stores::copy;
 use redolog::{Csn, TxId};
@@ -37,16 +37,14 @@ impl Extras {
     pub(crate) fn empty() -> Self
         ensures { result ≡ empty_extras }
     {
-        let none = Ranges::empty();
-        let unset = Savepoints::empty();
         Extras {
-            reads: none,
-            savepoints: unset,
+            reads: Ranges::empty(),
+            savepoints: Savepoints::empty(),
         }
     }
 }
 
-// A transaction. Its status is RUNNING or COMMITTING.
+// A transaction. Its status is RUNNING or COMMITTING: a byte and no enum, since a host may hand in any.
 #[repr(C)]
 #[derive(Clone, Copy)]
 pub struct Tx {
@@ -58,40 +56,35 @@ pub struct Tx {
     pub extras: Extras,
 }
 
-// Whether two transactions have one id, or one commit number where that is one.
-pub fn alike(id: TxId, csn: Csn, other: TxId, number: Csn) -> bool
-    ensures { result ≡ alike id.0 csn.0 (outline other.0 0 number.0 []) }
-{
-    if id.0 == other.0 {
-        return true;
-    }
-    if csn.0 == 0 {
-        return false;
-    }
-    csn.0 == number.0
+// The id and the commit number that tell a transaction apart; or the last id given and the last number assigned.
+#[derive(Clone, Copy)]
+pub struct Key {
+    pub id: TxId,
+    pub csn: Csn,
 }
 
-// The image rules of id, status and commit number.
-#[tactic(auto, unfolding(crate::specs::Rules::head_ok))]
-pub fn head_ok(id: TxId, status: u8, number: Csn, last: TxId, assigned: Csn) -> bool
-    ensures { result ≡ head_ok last.0 assigned.0 id.0 status number.0 }
-{
-    if id.0 == 0 {
-        return false;
+impl Key {
+    // Whether two transactions have one id, or one commit number where that is one.
+    pub fn alike(self, other: Key) -> bool
+        ensures { result ≡ alike self.id.0 self.csn.0 (outline other.id.0 0 other.csn.0 []) }
+    {
+        self.id == other.id || (self.csn != Csn(0) && self.csn == other.csn)
     }
-    if last.0 < id.0 {
-        return false;
+
+    // The image rules of id, status and commit number.
+    #[tactic(auto, unfolding(crate::specs::Rules::head_ok))]
+    pub fn head_ok(self, status: u8, last: Key) -> bool
+        ensures { result ≡ head_ok last.id.0 last.csn.0 self.id.0 status self.csn.0 }
+    {
+        if self.id == TxId(0) || last.id < self.id {
+            return false;
+        }
+        match status {
+            RUNNING => self.csn == Csn(0),
+            COMMITTING => self.csn != Csn(0) && self.csn <= last.csn,
+            _ => false,
+        }
     }
-    if status == RUNNING {
-        return number.0 == 0;
-    }
-    if status != COMMITTING {
-        return false;
-    }
-    if number.0 == 0 {
-        return false;
-    }
-    number.0 <= assigned.0
 }
 
 // A transaction without the bytes of its records: the rules look at no more, and handing on the bytes takes time.
@@ -106,39 +99,33 @@ pub struct TxExtents {
 }
 
 impl TxExtents {
-    // The image rules of one transaction.
-    pub fn image_ok(self, last: TxId, assigned: Csn) -> bool
-        ensures { result ≡ outline_ok last.0 assigned.0 (outline_of (bare_tx self)) }
+    pub fn key(self) -> Key
+        ensures { result ≡ record { id = self.id; csn = self.csn } }
     {
-        if !head_ok(self.id, self.status, self.csn, last, assigned) {
-            return false;
+        Key {
+            id: self.id,
+            csn: self.csn,
         }
-        let undo = self.undo;
-        undo.ok()
+    }
+
+    // The image rules of one transaction.
+    pub fn image_ok(self, last: Key) -> bool
+        ensures { result ≡ outline_ok last.id.0 last.csn.0 (outline_of (bare_tx self)) }
+    {
+        self.key().head_ok(self.status, last) && self.undo.ok()
     }
 
     // The rules that number 2 adds to those of an image.
     #[tactic(auto, unfolding(crate::specs::Rules::state_ok))]
     pub fn state_ok(self) -> bool
-        requires { self.undo.count ≤ max_records }
         ensures { result ≡ state_ok (bare_tx self) }
     {
-        let reads = self.extras.reads;
-        let saved = self.extras.savepoints;
         if self.status != RUNNING {
-            if reads.count != 0 {
-                return false;
-            }
-            return saved.count == 0;
+            return self.extras.reads.count == 0 && self.extras.savepoints.count == 0;
         }
-        let undo = self.undo;
-        if !undo.same_ranges(self.redo) {
-            return false;
-        }
-        if !reads.ok() {
-            return false;
-        }
-        saved.ok(undo.count)
+        self.undo.same_ranges(self.redo)
+            && self.extras.reads.ok()
+            && self.extras.savepoints.ok(self.undo.count)
     }
 
     // The log room that it has reserved.
@@ -149,49 +136,34 @@ impl TxExtents {
         if self.status != RUNNING {
             return 0;
         }
-        let redo = self.redo;
-        redo.size(0) + COMMIT_LEN
+        self.redo.size(0) + COMMIT_LEN
     }
 
     // Whether it holds one of the len bytes from addr on against the transaction of this id, which wants to read or write them.
     #[tactic(auto, unfolding(crate::specs::Rules::held_against))]
     pub fn holds_against(self, writing: bool, id: TxId, addr: usize, len: usize) -> bool
-        requires { (self.undo.count ≤ max_records) × (self.extras.reads.count ≤ max_records) × (addr ≤ memory_len) × (len ≤ max_write) }
+        requires { (addr ≤ memory_len) × (len ≤ max_write) }
         ensures { result ≡ held_against writing id.0 addr len (bare_tx self) }
     {
-        if id.0 == self.id.0 {
+        if id == self.id || self.status != RUNNING {
             return false;
         }
-        if self.status != RUNNING {
-            return false;
-        }
-        let undo = self.undo;
-        if undo.meets(addr, len) {
-            return true;
-        }
-        if !writing {
-            return false;
-        }
-        let reads = self.extras.reads;
-        reads.meets(addr, len)
+        self.undo.meets(addr, len) || (writing && self.extras.reads.meets(addr, len))
     }
 
     // How far the bytes from a place on lie in ranges that it has written or read, each looked at once.
     #[tactic(auto, using(crate::proofs::Cover::reach_append))]
     fn reach(self, at: usize) -> usize
-        requires { (self.undo.count ≤ max_records) × (self.extras.reads.count ≤ max_records) }
         ensures { result ≡ reach at (used_by (bare_tx self)) }
     {
-        let undo = self.undo;
-        let reads = self.extras.reads;
-        let to = undo.reach(at);
-        reads.reach(to)
+        self.extras.reads.reach(self.undo.reach(at))
     }
 
-    // Whether each of the len bytes from addr on lies in a range that it has written or read.
+    // Whether each of the len bytes from addr on lies in a range that it has written or read. Each turn goes on where the last one came to, by
+    // more than one byte: no range of a `for`.
     #[tactic(auto, using(crate::proofs::Cover::reach_above, crate::proofs::Cover::covered_stuck, crate::proofs::Cover::covered_reach))]
     pub fn covers(self, addr: usize, len: usize) -> bool
-        requires { (self.undo.count ≤ max_records) × (self.extras.reads.count ≤ max_records) × (addr + len ≤ memory_len) }
+        requires { addr + len ≤ memory_len }
         ensures { result ≡ covered (used_by (bare_tx self)) addr len }
     {
         let end = addr + len;
@@ -212,14 +184,8 @@ impl TxExtents {
         requires { self.extras.savepoints.count ≤ max_savepoints }
         ensures { result ≡ name_refused name (savepoints_of (bare_tx self)) }
     {
-        if name == 0 {
-            return true;
-        }
         let saved = self.extras.savepoints;
-        if saved.is_set(name) {
-            return false;
-        }
-        saved.count as usize == MAX_SAVEPOINTS
+        name == 0 || (!saved.is_set(name) && saved.count as usize == MAX_SAVEPOINTS)
     }
 
     // Number 18, if not.
@@ -227,8 +193,7 @@ impl TxExtents {
         requires { self.extras.savepoints.count ≤ max_savepoints }
         ensures { result ≡ is_set name (savepoints_of (bare_tx self)) }
     {
-        let saved = self.extras.savepoints;
-        saved.is_set(name)
+        self.extras.savepoints.is_set(name)
     }
 
     // How many writes it has made since a savepoint.
@@ -236,8 +201,7 @@ impl TxExtents {
         requires { savepoints_ok self.undo.count (savepoints_of (bare_tx self)) ≡ true }
         ensures { result ≡ length (later_ranges name (bare_tx self)) }
     {
-        let saved = self.extras.savepoints;
-        let n = saved.stood(name);
+        let n = self.extras.savepoints.stood(name);
         self.undo.count as usize - n
     }
 
@@ -246,10 +210,8 @@ impl TxExtents {
         requires { (records_ok (ranges_of self.undo) ≡ true) × (savepoints_ok self.undo.count (savepoints_of (bare_tx self)) ≡ true) }
         ensures { result ≡ ranges_size (later_ranges name (bare_tx self)) }
     {
-        let saved = self.extras.savepoints;
-        let n = saved.stood(name);
-        let undo = self.undo;
-        undo.size(n)
+        let n = self.extras.savepoints.stood(name);
+        self.undo.size(n)
     }
 }
 
@@ -258,15 +220,13 @@ impl Tx {
     pub fn empty() -> Self
         ensures { result ≡ empty_tx }
     {
-        let none = Records::empty();
-        let extras = Extras::empty();
         Tx {
             id: TxId(0),
             status: 0,
             csn: Csn(0),
-            undo: none,
-            redo: none,
-            extras: extras,
+            undo: Records::empty(),
+            redo: Records::empty(),
+            extras: Extras::empty(),
         }
     }
 
@@ -275,33 +235,26 @@ impl Tx {
     pub fn fresh(id: TxId) -> Self
         ensures { result ≡ fresh_tx id }
     {
-        let none = Records::empty();
-        let extras = Extras::empty();
         Tx {
-            id: id,
+            id,
             status: RUNNING,
             csn: Csn(0),
-            undo: none,
-            redo: none,
-            extras: extras,
+            undo: Records::empty(),
+            redo: Records::empty(),
+            extras: Extras::empty(),
         }
     }
 
     pub fn extents(self) -> TxExtents
         ensures { result ≡ extents_of self }
     {
-        let own = self.id;
-        let csn = self.csn;
-        let undo = self.undo.ranges;
-        let redo = self.redo.ranges;
-        let extras = self.extras;
         TxExtents {
-            id: own,
+            id: self.id,
             status: self.status,
-            csn: csn,
-            undo: undo,
-            redo: redo,
-            extras: extras,
+            csn: self.csn,
+            undo: self.undo.ranges,
+            redo: self.redo.ranges,
+            extras: self.extras,
         }
     }
 
@@ -311,10 +264,8 @@ impl Tx {
         requires { (length old.now ≤ max_write) × (length new.now ≤ max_write) × (self.undo.ranges.count < max_records) × (self.redo.ranges.count < max_records) }
         ensures { result ≡ written self addr old.now new.now }
     {
-        let undo = self.undo;
-        let redo = self.redo;
-        self.undo = undo.push(addr, old);
-        self.redo = redo.push(addr, new);
+        self.undo = self.undo.push(addr, old);
+        self.redo = self.redo.push(addr, new);
         self
     }
 
@@ -324,14 +275,7 @@ impl Tx {
         requires { self.extras.reads.count < max_records }
         ensures { result ≡ with_read self addr len }
     {
-        let reads = self.extras.reads;
-        let saved = self.extras.savepoints;
-        let more = reads.push(addr, len);
-        let extras = Extras {
-            reads: more,
-            savepoints: saved,
-        };
-        self.extras = extras;
+        self.extras.reads = self.extras.reads.push(addr, len);
         self
     }
 
@@ -341,20 +285,13 @@ impl Tx {
         requires { (self.extras.savepoints.count ≤ max_savepoints) × (place_of self.extras.savepoints name < max_savepoints) }
         ensures { result ≡ savepointed self name }
     {
-        let reads = self.extras.reads;
-        let saved = self.extras.savepoints;
-        let moved = saved.set(name, self.undo.ranges.count);
-        let extras = Extras {
-            reads: reads,
-            savepoints: moved,
-        };
-        self.extras = extras;
+        self.extras.savepoints = self.extras.savepoints.set(name, self.undo.ranges.count);
         self
     }
 
     // A write with what stands in memory as its old bytes; then memory has the new ones.
-    pub fn lay(self, memory: &mut [u8], addr: usize, bytes: &[u8]) -> Self
-        requires memory_len { (length memory.old ≡ memory_len) × (length bytes.now ≤ max_write) × (addr + length bytes.now ≤ memory_len) }
+    pub fn lay(self, memory: &mut [u8; MEMORY_LEN], addr: usize, bytes: &[u8]) -> Self
+        requires in_range { (length bytes.now ≤ max_write) × (addr + length bytes.now ≤ memory_len) }
         requires count_lt_max_records { (self.undo.ranges.count < max_records) × (self.redo.ranges.count < max_records) }
         ensures value { result ≡ written self addr (take (length bytes.now) (drop addr memory.old)) bytes.now }
         ensures memory_after { memory.new ≡ sets memory.old addr bytes.now }
@@ -366,26 +303,23 @@ impl Tx {
     }
 
     // The old bytes of every write since a savepoint, the newest first, as writes.
-    pub fn go_back(self, memory: &mut [u8], name: u8) -> Self
-        requires ranges_value { (records_ok (ranges_of self.undo.ranges) ≡ true) × (self.redo.ranges.count ≡ self.undo.ranges.count) × (length memory.old ≡ memory_len) }
+    pub fn go_back(self, memory: &mut [u8; MEMORY_LEN], name: u8) -> Self
+        requires ranges_value { (records_ok (ranges_of self.undo.ranges) ≡ true) × (self.redo.ranges.count ≡ self.undo.ranges.count) }
         requires self_value { (savepoints_ok self.undo.ranges.count (savepoints_of self) ≡ true) × (self.undo.ranges.count + length (later_ranges name self) ≤ max_records) }
         ensures value { result ≡ gone_back self memory.old name }
         ensures memory_after { memory.new ≡ redo_all lay_bytes (return_writes self name) memory.old }
     {
-        let saved = self.extras.savepoints;
-        let kept = saved.stood(name);
-        let bytes = self.undo.bytes;
+        let kept = self.extras.savepoints.stood(name);
         let ranges = self.undo.ranges;
-        let later = ranges.count as usize - kept;
-        let mut i: usize = 0;
+        let bytes = self.undo.bytes;
         let mut t = self;
-        while i < later {
-            i += 1;
-            let k = kept + (later - i);
-            let at = ranges.addr[k] as usize;
-            let l = ranges.len[k] as usize;
+        for k in (kept..ranges.count as usize).rev() {
             let from = k * MAX_WRITE;
-            t = t.lay(memory, at, &bytes[from..from + l]);
+            t = t.lay(
+                memory,
+                ranges.addr[k] as usize,
+                &bytes[from..from + ranges.len[k] as usize],
+            );
         }
         t
     }
@@ -408,10 +342,15 @@ impl Tx {
         ensures { tail.new ≡ sets tail.old at (encode_group (committed self.id.0 csn.0 (writes_of self.redo))) }
     {
         let ranges = self.redo.ranges;
-        let n = ranges.count as usize;
-        let addr = ranges.addr;
-        let len = ranges.len;
-        let bytes = self.redo.bytes;
-        put_group(tail, at, self.id, csn, n, &addr, &len, &bytes);
+        put_group(
+            tail,
+            at,
+            self.id,
+            csn,
+            ranges.count as usize,
+            &ranges.addr,
+            &ranges.len,
+            &self.redo.bytes,
+        );
     }
 }

@@ -1,16 +1,15 @@
 // The savepoints of a transaction in flat arrays (document 02, A.7: marks).
-ghost use Rattle.std.specs.Prelude.{◌≡◌, ◌-◌, ◌≤◌, ◌<◌};
+ghost use Rattle.std.specs.Prelude.{◌≡◌, ◌≤◌, ◌<◌, cond, None, Some};
 ghost use Rattle.layout.specs.{max_savepoints};
 ghost use Rattle.recovery.specs.Savepoint.{count_at};
-ghost use Rattle.transaction.specs.Lists.{up_from, first_in};
 ghost use Rattle.transaction.specs.Flat.{empty_savepoints};
-ghost use Rattle.transaction.specs.View.{savepoint_at, savepoints_in};
-ghost use Rattle.transaction.specs.Rules.{has_name, is_set, savepoints_ok, place_of, or_zero};
+ghost use Rattle.transaction.specs.View.{savepoints_in};
+ghost use Rattle.transaction.specs.Rules.{is_set, savepoints_ok, place_of, or_zero};
 ghost use Rattle.transaction.specs.Steps.{name_set};
 
 use layout::MAX_SAVEPOINTS;
 
-// The i-th has names[i] and was set when counts[i] writes stood.
+// The i-th has names[i] and was set when counts[i] writes stood. Laid out as C does it, and of any count: a host may hand in any bytes, and `ok` tells.
 #[repr(C)]
 #[derive(Clone, Copy)]
 pub struct Savepoints {
@@ -30,20 +29,14 @@ impl Savepoints {
         }
     }
 
-    // The first place of a name, from a place on; the count if it is not there.
-    fn find(self, from: usize, name: u8) -> usize
-        requires { (from ≤ self.count) × (self.count ≤ max_savepoints) }
-        ensures { result ≡ first_in (has_name name) from (up_from (savepoint_at self) (self.count - from) from) }
+    // The place of a name, if it is set.
+    fn find(self, name: u8) -> Option<usize>
+        requires { self.count ≤ max_savepoints }
+        ensures { result ≡ cond (is_set name (savepoints_in self)) (Some (place_of self name)) None }
     {
-        let n = self.count as usize;
-        let mut i = from;
-        while i < n {
-            if name == self.names[i] {
-                return i;
-            }
-            i += 1;
-        }
-        n
+        self.names[..self.count as usize]
+            .iter()
+            .position(|x| name == *x)
     }
 
     // At most MAX_SAVEPOINTS; no name is 0 or there twice, no count is above the writes.
@@ -54,19 +47,17 @@ impl Savepoints {
         if MAX_SAVEPOINTS < n {
             return false;
         }
-        let mut i: usize = 0;
-        while i < n {
-            if self.names[i] == 0 {
+        for i in 0..n {
+            let name = self.names[i];
+            if name == 0 {
                 return false;
             }
             if writes < self.counts[i] {
                 return false;
             }
-            let next = self.find(i + 1, self.names[i]);
-            if next != n {
+            if self.names[i + 1..n].contains(&name) {
                 return false;
             }
-            i += 1;
         }
         true
     }
@@ -75,11 +66,7 @@ impl Savepoints {
         requires { self.count ≤ max_savepoints }
         ensures { result ≡ is_set name (savepoints_in self) }
     {
-        let at = self.find(0, name);
-        if at == self.count as usize {
-            return false;
-        }
-        true
+        self.find(name).is_some()
     }
 
     // How many writes stood when a name was set; 0 if it is not set.
@@ -87,11 +74,10 @@ impl Savepoints {
         requires { self.count ≤ max_savepoints }
         ensures { result ≡ or_zero (count_at name (savepoints_in self)) }
     {
-        let at = self.find(0, name);
-        if at == self.count as usize {
-            return 0;
+        match self.find(name) {
+            Some(at) => self.counts[at] as usize,
+            None => 0,
         }
-        self.counts[at] as usize
     }
 
     // A name that is set moves, another goes last.
@@ -99,14 +85,13 @@ impl Savepoints {
         requires { (self.count ≤ max_savepoints) × (place_of self name < max_savepoints) }
         ensures { result ≡ name_set self name writes }
     {
-        let at = self.find(0, name);
         let n = self.count as usize;
+        let at = self.find(name).unwrap_or(n);
         self.names[at] = name;
         self.counts[at] = writes;
-        if at != n {
-            return self;
+        if at == n {
+            self.count += 1;
         }
-        self.count = self.count + 1;
         self
     }
 }

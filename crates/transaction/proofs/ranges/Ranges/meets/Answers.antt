@@ -1,17 +1,14 @@
-use Rattle.std.proofs.Common.{◌≡◌, false, refl, ◌∙◌, arith}
-use borrow.Author.Tests.{lt-ltb, le-ltb}
-use Rattle.transaction.specs.View.{range_at}
+use Rattle.std.proofs.Common.{◌∙◌, arith, rules}
+use Rattle.std.proofs.lemmas.Iterator.Search.{any_from_yields_List}
+use borrow.Author.Tests.{tests}
 use Rattle.transaction.specs.Rules.{meets}
-use Rattle.transaction.proofs.Lists.{any_miss}
+use Rattle.transaction.proofs.Pairs.{pairs_given, on_pair, any_pairs, empty_meets}
 use Rattle.transaction.proofs.ranges.Ranges.meets.Goals as goal
-use Rattle.transaction.proofs.ranges.Ranges.meets.Goals.{then-from-addr+else-addr-to, else-from-addr}
 
-pub loop-i-preserved : goal.loop-i-preserved
-loop-i-preserved c =
-    let r = c.args.self in
-    let missed : meets c.args.addr c.args.len (range_at r c.loop-i.i) ≡ false =
-    elim c.if-from-addr.branch [
-      | then-from-addr+else-addr-to w ↦ rw (lt-ltb _ _ w.if-from-addr.true, le-ltb _ _ w.if-addr-to.false) refl
-      | else-from-addr w ↦ rw (le-ltb _ _ w.if-from-addr.false) refl
-    ] in
-    (omega arith, c.loop-i.invariant.1 ∙ any_miss (range_at r) _ _ c.loop-i-test.true (meets _ _) missed)
+pub returns : goal.returns
+returns c =
+    let a = c.args in
+    any_from_yields_List (on_pair (meets a.addr a.len)) c.any.new.self _ c.any.result c.any.ensures.ran
+    (pairs_given a.self c.iter.result c.iter.ensures.addr_value c.iter.ensures.len_value c.iter.ensures.count_value)
+    (λ x b q k. search (rules, tests))
+    ∙ any_pairs (meets a.addr a.len) (empty_meets a.addr a.len) a.self.addr a.self.len a.self.count (omega (arith, c.well_formed))

@@ -3,4 +3,4 @@ use Rattle.transaction.proofs.records.Records.empty.Goals as goal
 
 pub returns : goal.returns
 unfolding empty_records
-returns c = rw c.empty-none.ensures
+returns c = rw c.empty.ensures

@@ -1,4 +1,4 @@
-use Rattle.std.proofs.Common.{◌≡◌, ℕ, suc, ◌+◌, ◌-◌, ◌*◌, ◌≤◌, ◌<◌, true, List, length, get_or, take, drop, length-take, sym, ap, ◌∙◌, arith, rules}
+use Rattle.std.proofs.Common.{◌≡◌, ℕ, suc, ◌+◌, ◌-◌, ◌*◌, ◌≤◌, ◌<◌, true, List, get_or, take, drop, length-take, sym, ap, ◌∙◌, arith}
 use Rattle.std.proofs.lemmas.List.Edits.{sets}
 use Rattle.recovery.specs.Replay.{undo_all, lay_bytes}
 use Rattle.redolog.specs.Flat.{write_at, writes_from}
@@ -31,29 +31,24 @@ laid r k m n h =
     (sym (h ∙ ap (λ (j : ℕ). sets m (get_or r.ranges.addr k 0) (take j (drop (k * 32) r.bytes))) e))
 
 pub bounds-ranges-k : goal.bounds-ranges-k
-bounds-ranges-k c = omega (arith, counted c.args.self.ranges c.requires.0)
+bounds-ranges-k c = omega (arith, counted c.args.self.ranges c.requires)
 
-pub bounds-ranges-k-in-loop-i : goal.bounds-ranges-k-in-loop-i
-bounds-ranges-k-in-loop-i c = omega (arith, counted c.args.self.ranges c.requires.0)
+pub bounds-ranges-k-in-loop-k : goal.bounds-ranges-k-in-loop-k
+bounds-ranges-k-in-loop-k c = omega (arith, counted c.args.self.ranges c.requires)
 
-pub slice_bounds-copy-end : goal.slice_bounds-copy-end
-slice_bounds-copy-end c =
+pub slice_bounds-copy-end-in-loop-k : goal.slice_bounds-copy-end-in-loop-k
+slice_bounds-copy-end-in-loop-k c =
     let r = c.args.self in
-    let l : length r.bytes ≡ 512 = search rules in
-    let h = placed r c.requires.0 (r.ranges.count - (c.loop-i.i + 1)) (omega arith) in
-    omega (arith, h.few, h.short)
+    let h = placed r c.requires (c.loop-k.k - 1) (omega arith) in
+    omega (arith, h.few, h.short, c.well_formed)
 
 pub copy-requires : goal.copy-requires
 copy-requires c =
-    let r = c.args.self in
-    let h = placed r c.requires.0 (r.ranges.count - (c.loop-i.i + 1)) (omega arith) in
-    omega (arith, length-take {A = ℕ}, h.within, c.loop-i.auto.memory, c.requires.1)
+    let h = placed c.args.self c.requires (c.loop-k.k - 1) (omega arith) in
+    omega (arith, length-take {A = ℕ}, h.within)
 
-pub loop-i-preserved : goal.loop-i-preserved
-loop-i-preserved c =
-    let r = c.args.self in
-    let k = r.ranges.count - (c.loop-i.i + 1) in
-    let h : r.ranges.count - c.loop-i.i ≡ suc k = omega arith in (
-      omega arith,
-      c.loop-i.invariant.1 ∙ undo_turn _ _ _ _ _ _ h ∙ laid r k c.loop-i.memory c.copy.new.b c.copy.ensures,
-    )
+pub loop-k-preserved : goal.loop-k-preserved
+loop-k-preserved c =
+    let k = c.loop-k.k - 1 in
+    let h : c.loop-k.k ≡ suc k = omega arith in
+    c.loop-k.invariant ∙ undo_turn _ _ _ _ _ _ h ∙ laid c.args.self k c.loop-k.memory c.copy.new.b c.copy.ensures

@@ -1,22 +1,22 @@
-use Rattle.std.proofs.Common.{◌*◌, ap, ◌∙◌, arith}
-use Rattle.std.proofs.lemmas.List.Edits.{sets}
+use Rattle.std.proofs.Common.{◌≡◌, ℕ, ◌+◌, ◌-◌, ◌*◌, ◌≤◌, List, length, sym, ap, ◌∙◌, arith}
+use Rattle.std.proofs.lemmas.List.Edits.{sets, sets-eq}
+use Rattle.std.proofs.lemmas.Slice.{put_mid-paste}
+use borrow.Rule.Slice.PartMut.{put_mid}
 use lib.Seq.{take_all}
-use Rattle.redolog.proofs.StoreLaws.{sets_more}
-use Rattle.transaction.specs.Steps.{pushed}
-use Rattle.transaction.proofs.Pushed.{holding}
+use Rattle.transaction.specs.Steps.{pushed_range, pushed}
 use Rattle.transaction.proofs.records.Records.push.Goals as goal
 
-pub loop-i-preserved : goal.loop-i-preserved
-loop-i-preserved c =
-    let r = c.args.self in (
-      omega arith,
-      rw c.loop-i.invariant.1
-          (ap (holding r) (sets_more r.bytes (r.ranges.count * 32) c.args.src.now c.loop-i.i c.loop-i-test.true)),
-    )
+-- bytes copied over a part are set there
+copied : (xs ys zs : List ℕ) (a k : ℕ) → ys ≡ zs → k ≡ length zs → a + length zs ≤ length xs → put_mid a k xs ys ≡ sets xs a zs
+copied xs ys zs a k e f h =
+    put_mid-paste a k xs ys zs (length zs) e (sym f) (omega arith)
+    ∙ rw (take_all (length zs) zs (omega arith)) (sym (sets-eq zs xs a h))
 
 pub returns : goal.returns
 unfolding pushed
 returns c =
     let r = c.args.self in
-    let bytes = ap (sets r.bytes (r.ranges.count * 32)) (take_all c.loop-i.i c.args.src.now c.loop-i-test.false) in
-    rw (c.push-self.ensures, c.loop-i.invariant.1 ∙ ap (holding r) bytes)
+    let n = length c.args.src.now in
+    let at = r.ranges.count * 32 in
+    let e = copied r.bytes c.copy_from_slice.new.self c.args.src.now at (at + n - at) (cc) (omega arith) (omega (arith, c.well_formed)) in
+    rw c.push-self.ensures (ap (λ (bs : List ℕ). record { ranges = pushed_range r.ranges c.args.addr n; bytes = bs }) e)

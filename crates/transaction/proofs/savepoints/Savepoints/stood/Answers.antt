@@ -1,19 +1,16 @@
-use Rattle.std.proofs.Common.{ℕ, ◌<◌, get_or, sym, ap, ◌∙◌, arith}
-use Rattle.transaction.specs.Rules.{place_of, or_zero}
-use Rattle.transaction.proofs.SavepointLaws.{place, place_found, count_there, count_none}
+use Rattle.std.proofs.Common.{ℕ, get_or, sym, ap, ◌∙◌, arith}
+use Rattle.transaction.specs.Rules.{or_zero}
+use Rattle.transaction.proofs.SavepointLaws.{found_some, found_none, count_there, count_none}
 use Rattle.transaction.proofs.savepoints.Savepoints.stood.Goals as goal
 
-pub returns-then-at-self : goal.returns-then-at-self
-returns-then-at-self c =
-    let a = c.args in
-    sym (ap or_zero (count_none a.self a.name (sym (place_found a.self a.name _ c.find-at.ensures) ∙ c.if-at-self.true)))
-
 pub bounds-self-at : goal.bounds-self-at
-bounds-self-at c = omega (arith, (place c.args.self c.args.name).high, place_found c.args.self c.args.name _ c.find-at.ensures, c.if-at-self.false)
+bounds-self-at c = omega (arith, found_some c.args.self c.args.name c.in-Some.at c.in-Some.ensures)
 
-pub returns : goal.returns
-returns c =
+pub returns-in-Some : goal.returns-in-Some
+returns-in-Some c =
     let a = c.args in
-    let found = place_found a.self a.name _ c.find-at.ensures in
-    let within : place_of a.self a.name < a.self.count = omega (arith, (place a.self a.name).high, found, c.if-at-self.false) in
-    ap (λ (j : ℕ). get_or a.self.counts j 0) found ∙ sym (ap or_zero (count_there a.self a.name within))
+    let found = found_some a.self a.name c.in-Some.at c.in-Some.ensures in
+    ap (λ (j : ℕ). get_or a.self.counts j 0) found.0 ∙ sym (ap or_zero (count_there a.self a.name (omega (arith, found))))
+
+pub returns-in-None : goal.returns-in-None
+returns-in-None c = sym (ap or_zero (count_none c.args.self c.args.name (found_none c.args.self c.args.name c.in-None.ensures)))
