@@ -2,14 +2,15 @@
 use Prim.Native.Nat.{ℕ, zero, suc, ◌+◌, ◌-◌, ◌≤◌, ◌<◌}
 use native.Mathlib.Numerals.{add-one}
 use native.Mathlib.Omega.{arith}
-use mathlib.Core.Bool.{Bool, true, false, cond, ◌&&◌, and-false}
+use mathlib.Core.Bool.{Bool, true, false, cond}
 use mathlib.Core.List.{List, [], ◌∷◌, map}
 use mathlib.Core.Option.{Option, none, some}
 use mathlib.Core.Path.{◌≡◌, refl, sym, ap, ap₂, ◌∙◌, subst}
 use lib.ListN.{length, get_or, set, take, drop, length-drop}
 use lib.Seq.{sets, drop-drop, length-take-le}
-use lib.Dec.{leb}
-use borrow.Author.Tests.{le-leb, lt-leb, leb-true}
+use borrow.Author.Tests.{le-leb, leb-true}
+use Rattle.std.specs.Prelude.{Option as Maybe, Some, None}
+use Rattle.std.proofs.lemmas.Option.{cond_some}
 use Rattle.recovery.specs.Group.{Write}
 use Rattle.recovery.specs.Replay.{undo_all, lay_bytes}
 use Rattle.redolog.specs.Number.{be16}
@@ -21,7 +22,7 @@ use Rattle.transaction.specs.Rules.{range_ok}
 use Rattle.transaction.specs.View.{range_of}
 use Rattle.image.specs.Format.{undos_size}
 use Rattle.image.specs.Reading.{undo_here, first_undo, read_undos}
-use Rattle.image.specs.Heads.{undo_size, undos_end, undo_starts}
+use Rattle.image.specs.Heads.{undo_size, undo_starts}
 use Rattle.image.proofs.Lists.{byte_at}
 
 abbrev pub no_write : Write
@@ -30,18 +31,6 @@ no_write = record { addr = 0; bytes = [] }
 -- ---- one undo record
 
 module _ (t : List ℕ) where
-  pub here_short : length t < 3 → undo_here t ≡ false
-  unfolding undo_here
-  here_short h = rw (lt-leb (3 + get_or t 2 0) (length t) (omega arith), and-false)
-
-  pub here_range : in_range (be16 t 0) (get_or t 2 0) ≡ false → undo_here t ≡ false
-  unfolding undo_here
-  here_range e = ap (λ (b : Bool). b && leb (3 + get_or t 2 0) (length t)) e
-
-  pub here_cut : length t < 3 + get_or t 2 0 → undo_here t ≡ false
-  unfolding undo_here
-  here_cut h = rw (lt-leb _ _ h, and-false)
-
   pub here_yes : in_range (be16 t 0) (get_or t 2 0) ≡ true → 3 + get_or t 2 0 ≤ length t → undo_here t ≡ true
   unfolding undo_here
   here_yes e h = and_both _ _ e (le-leb _ _ h)
@@ -57,29 +46,22 @@ module _ (t : List ℕ) where
   pub first_length : undo_here t ≡ true → length (first_undo t).bytes ≡ get_or t 2 0
   first_length e = let w = here_within e in length-take-le (get_or t 2 0) (drop 3 t) (simp length-drop (omega arith))
 
--- its size, 0 if none stands there
+-- its size, if one stands there
 module _ (t : List ℕ) where
-  pub size_no : undo_here t ≡ false → undo_size t ≡ 0
-  unfolding undo_size
-  size_no e = rw e
-
-  pub size_yes : undo_here t ≡ true → undo_size t ≡ 3 + get_or t 2 0
+  pub size_yes : undo_here t ≡ true → undo_size t ≡ Some (3 + get_or t 2 0)
   unfolding undo_size
   size_yes e = rw e
 
-  size_here : (undo_size t ≡ 0 → ⊥) → undo_here t ≡ true
-  size_here z = go (undo_here t) refl
-    where
-      go : (b : Bool) → undo_here t ≡ b → undo_here t ≡ true
-      go true e = e
-      go false e = absurd (z (size_no e))
+  size_some : (z : ℕ) → undo_size t ≡ Some z → (undo_here t ≡ true) × (3 + get_or t 2 0 ≡ z)
+  unfolding undo_size
+  size_some z e = cond_some _ _ _ e
 
-  size_none : undo_size t ≡ 0 → undo_here t ≡ false
-  size_none z = go (undo_here t) refl
+  size_none : undo_size t ≡ None → undo_here t ≡ false
+  size_none e = go (undo_here t) refl
     where
       go : (b : Bool) → undo_here t ≡ b → undo_here t ≡ false
-      go true e = absurd (omega (arith, z, size_yes e))
-      go false e = e
+      go true q = let f = sym (size_yes q) ∙ e in clash (cc)
+      go false q = q
 
 -- ---- a turn of the loop
 
@@ -88,44 +70,40 @@ undos_turn : (t : List ℕ) (n k : ℕ) → k < n
 undos_turn t n k h = let e : n - k ≡ suc (n - (k + 1)) = omega arith in ap (λ (j : ℕ). read_undos j t) e
 
 -- where records that begin at this place end
-abbrev pub end_from : ℕ → Option (List Write) → ℕ
-end_from at none = 0
-end_from at (some us) = at + undos_size us
-
-pub end_start : (x : Option (List Write)) → undos_end x ≡ end_from 8 x
-end_start none = refl
-end_start (some us) = refl
+abbrev pub end_from : ℕ → Option (List Write) → Maybe ℕ
+end_from at none = None
+end_from at (some us) = Some (at + undos_size us)
 
 end_next : (at n : ℕ) (u : Write) (x : Option (List Write)) → length u.bytes ≡ n → end_from at (and_then u x) ≡ end_from (at + (3 + n)) x
 end_next at n u none l = refl
-end_next at n u (some us) l = omega arith
+end_next at n u (some us) l = let e : at + (3 + length u.bytes + undos_size us) ≡ at + (3 + n) + undos_size us = omega arith in ap (λ (m : ℕ). Some m) e
 
-module _ (s : List ℕ) (at n k : ℕ) (h : k < n) (z : ℕ) (e : z ≡ undo_size (drop at s)) where
+module _ (s : List ℕ) (at n k : ℕ) (h : k < n) where
   -- a turn that finds no record answers for the whole
-  pub undos_stop : z ≡ 0 → 0 ≡ end_from at (read_undos (n - k) (drop at s))
-  undos_stop f =
-      let w : read_undos (n - k) (drop at s) ≡ none = undos_turn (drop at s) n k h ∙ rw (size_none (drop at s) (sym e ∙ f)) in
+  pub undos_stop : undo_size (drop at s) ≡ None → None ≡ end_from at (read_undos (n - k) (drop at s))
+  undos_stop e =
+      let w : read_undos (n - k) (drop at s) ≡ none = undos_turn (drop at s) n k h ∙ rw (size_none (drop at s) e) in
       ap (end_from at) (sym w)
 
-  here : (z ≡ 0 → ⊥) → undo_here (drop at s) ≡ true
-  here f = size_here (drop at s) (λ y. f (e ∙ y))
+  module _ (z : ℕ) (e : undo_size (drop at s) ≡ Some z) where
+    here : (undo_here (drop at s) ≡ true) × (3 + get_or (drop at s) 2 0 ≡ z)
+    here = size_some (drop at s) z e
 
-  pub undos_within : at ≤ length s → (z ≡ 0 → ⊥) → at + z ≤ length s
-  undos_within b f =
-      let w : 3 + get_or (drop at s) 2 0 ≤ length s - at = rw length-drop at (here_within (drop at s) (here f)) in
-      omega (arith, e, size_yes (drop at s) (here f), w)
+    pub undos_within : at ≤ length s → at + z ≤ length s
+    undos_within b =
+        let w : 3 + get_or (drop at s) 2 0 ≤ length s - at = rw length-drop at (here_within (drop at s) here.0) in
+        omega (arith, here.1, w)
 
-  pub undos_go : (z ≡ 0 → ⊥) → end_from at (read_undos (n - k) (drop at s)) ≡ end_from (at + z) (read_undos (n - (k + 1)) (drop (at + z) s))
-  undos_go f =
-      let t = drop at s in
-      let g = here f in
-      let q : 3 + get_or t 2 0 ≡ z = sym (e ∙ size_yes t g) in
-      let rest = read_undos (n - (k + 1)) (drop (3 + get_or t 2 0) t) in
-      let w : read_undos (n - k) t ≡ and_then (first_undo t) rest = undos_turn t n k h ∙ rw g in
-      ap (end_from at) w
-      ∙ end_next at (get_or t 2 0) (first_undo t) rest (first_length t g)
-      ∙ ap (λ (l : List ℕ). end_from (at + (3 + get_or t 2 0)) (read_undos (n - (k + 1)) l)) (drop-drop (3 + get_or t 2 0) at s)
-      ∙ ap (λ (m : ℕ). end_from (at + m) (read_undos (n - (k + 1)) (drop (at + m) s))) q
+    pub undos_go : end_from at (read_undos (n - k) (drop at s)) ≡ end_from (at + z) (read_undos (n - (k + 1)) (drop (at + z) s))
+    undos_go =
+        let t = drop at s in
+        let g = here.0 in
+        let rest = read_undos (n - (k + 1)) (drop (3 + get_or t 2 0) t) in
+        let w : read_undos (n - k) t ≡ and_then (first_undo t) rest = undos_turn t n k h ∙ rw g in
+        ap (end_from at) w
+        ∙ end_next at (get_or t 2 0) (first_undo t) rest (first_length t g)
+        ∙ ap (λ (l : List ℕ). end_from (at + (3 + get_or t 2 0)) (read_undos (n - (k + 1)) l)) (drop-drop (3 + get_or t 2 0) at s)
+        ∙ ap (λ (m : ℕ). end_from (at + m) (read_undos (n - (k + 1)) (drop (at + m) s))) here.1
 
 -- ---- a reading, a record at a time
 
@@ -187,16 +165,16 @@ module _ (s : List ℕ) (at : ℕ) (u : Write) (us : List Write) (a : UndosAt (d
 
 -- a turn of the loop that lists them
 pub record PlaceTurn (s places : List ℕ) (at k n : ℕ) (us : List Write) : Type 0 where
-  pub within : at + 3 + get_or s (at + 2) 0 ≤ length s
+  pub within : at + (3 + get_or s (at + 2) 0) ≤ length s
   pub rest : List Write
   pub count : length rest ≡ n - (k + 1)
-  pub there : UndosAt (drop (at + 3 + get_or s (at + 2) 0) s) rest
-  pub same : sets places k (undo_starts at us) ≡ sets (set places k at) (k + 1) (undo_starts (at + 3 + get_or s (at + 2) 0) rest)
+  pub there : UndosAt (drop (at + (3 + get_or s (at + 2) 0)) s) rest
+  pub same : sets places k (undo_starts at us) ≡ sets (set places k at) (k + 1) (undo_starts (at + (3 + get_or s (at + 2) 0)) rest)
 
 pub place_turn : (s places : List ℕ) (at k n : ℕ) (us : List Write) → k < n → length us ≡ n - k → UndosAt (drop at s) us → PlaceTurn s places at k n us
 place_turn s places at k n [] h l a = absurd (omega (arith, h, l))
 place_turn s places at k n (u ∷ us) h l a =
-    let e : at + (3 + length u.bytes) ≡ at + 3 + get_or s (at + 2) 0 = omega (arith, long s at u us a) in
+    let e : at + (3 + length u.bytes) ≡ at + (3 + get_or s (at + 2) 0) = omega (arith, long s at u us a) in
     record {
       within = omega (arith, e, place_within s at u us a);
       rest = us;

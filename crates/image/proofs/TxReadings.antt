@@ -7,30 +7,30 @@ use mathlib.Core.List.{List, [], ◌∷◌, map}
 use mathlib.Core.Option.{Option, none, some}
 use mathlib.Core.Path.{◌≡◌, refl, sym, ap, ap₂, ◌∙◌, subst}
 use lib.ListN.{length, get_or, drop, set, replicate, length-drop, length-map}
-use lib.Seq.{sets, drop-drop}
+use lib.Seq.{sets, drop-drop, length-take-le}
 use lib.Dec.{leb}
 use borrow.Author.Tests.{le-leb, lt-leb, leb-true, leb-false}
+use Rattle.std.specs.Prelude.{Option as Maybe, Some, None}
+use Rattle.std.proofs.lemmas.Option.{cond_some}
 use Rattle.recovery.specs.Group.{Write}
-use Rattle.redolog.specs.declared.TxId.{TxId}
-use Rattle.redolog.specs.declared.Csn.{Csn}
 use Rattle.redolog.specs.Number.{be16, be32}
 use Rattle.redolog.specs.Group.{and_then}
 use Rattle.redolog.proofs.Basics.{clash, and_right, and_both}
+use Rattle.transaction.specs.declared.Key.{Key}
 use Rattle.transaction.specs.Lists.{every}
 use Rattle.transaction.specs.View.{range_of}
 use Rattle.transaction.specs.Rules.{range_ok, head_ok, outline_ok}
-use Rattle.image.specs.declared.keys.Keys.{Keys}
-use Rattle.image.specs.declared.read.KeysRead.{KeysRead}
+use Rattle.image.specs.declared.read.TxHead.{TxHead}
 use Rattle.image.specs.Rules.{distinct, outlines_ok, bounds_ok}
-use Rattle.image.specs.Keys.{no_keys}
+use Rattle.image.specs.Keys.{no_head}
 use Rattle.image.specs.Content.{Saved, saved, Content, outline_in, content_ok}
 use Rattle.image.specs.Format.{undos_in, undos_size, tx_size, txs_size}
 use Rattle.image.specs.Reading.{undo_here, first_undo, read_undos, saved_if, read_tx, on_tx, read_txs, content_if, read_content, keeping_rules, read_image}
 use Rattle.image.specs.Pack.{packed}
 use Rattle.image.specs.Decode.{decoded_of, decode_of}
-use Rattle.image.specs.Heads.{undos_end, tx_span, ruled_span, ruled, saved_id, saved_csn, keys_in, starts_from, places_of, no_list, listed_of, undo_starts, undo_places, undos_read}
+use Rattle.image.specs.Heads.{undos_end, tx_span, ruled_span, ruled, saved_key, heads_from, tx_heads, listed_of, undo_starts, undo_places, undos_read}
 use Rattle.image.proofs.Readings.{no_write, and_then_inv, UndosAt, undos_inv, undos_kept, place_of, starts_length}
-use Rattle.image.proofs.Lists.{be16_at, be32_at, laid_at}
+use Rattle.image.proofs.Lists.{laid_at}
 use Rattle.image.proofs.Pushing.{UndosOk}
 use Rattle.image.proofs.Packing.{TxsOk}
 
@@ -110,6 +110,15 @@ tx_records s (saved id status csn us) e =
     records none f = clash (cc)
     records (some vs) f = cc
 
+-- what a loop over them asks first
+pub tx_head_within : (s : List ℕ) (t : Saved) → read_tx s ≡ some t → 8 ≤ length s
+tx_head_within s t e = (tx_records s t e).head
+
+pub tx_few : (s : List ℕ) (t : Saved) → read_tx s ≡ some t → get_or s 7 0 ≤ 16
+tx_few s t e = (tx_records s t e).few
+
+pub ruleset few_records = (tx_head_within, tx_few, length-take-le)
+
 -- what stands where the k-th of them begins
 pub place_at : (s ps : List ℕ) (k : ℕ) → RecordsAt s → ps ≡ undo_places (read_undos (get_or s 7 0) (drop 8 s)) → k < get_or s 7 0
     → let at = get_or ps k 0 in (undo_here (drop at s) ≡ true) × (first_undo (drop at s) ≡ get_or (undos_read (read_tx s)) k no_write)
@@ -122,18 +131,14 @@ place_at s ps k r e h =
     subst (λ (j : ℕ). (undo_here (drop j s) ≡ true) × (first_undo (drop j s) ≡ get_or us k no_write)) at
     (place_of s 8 us k r.there (omega (arith, r.count, h)))
 
--- its size, 0 if none stands there
+-- its size, if one stands there
 pub span_of : (id status csn : ℕ) (y : Option (List Write)) → tx_span (saved_if id status csn y) ≡ undos_end y
 span_of id status csn none = refl
 span_of id status csn (some us) = refl
 
-pub span_none : (y : Option Saved) → tx_span y ≡ 0 → y ≡ none
-span_none none e = refl
-span_none (some t) e = absurd (omega (arith, e))
-
-pub span_some : (y : Option Saved) → (tx_span y ≡ 0 → ⊥) → (t : Saved) × (y ≡ some t)
-span_some none f = absurd (f refl)
-span_some (some t) f = (t, refl)
+pub span_some : (y : Option Saved) (z : ℕ) → tx_span y ≡ Some z → (t : Saved) × (y ≡ some t) × (tx_size t ≡ z)
+span_some none z e = clash (cc)
+span_some (some t) z e = (t, refl, cc)
 
 -- one that is read keeps the rules if its head does
 pub head_read : (last assigned : ℕ) (s : List ℕ) (t : Saved) → read_tx s ≡ some t
@@ -171,97 +176,70 @@ ruled_not last assigned t none e = refl
 ruled_not last assigned t (some ts) e = rw e
 
 -- the answer of transactions from slot k on, the first of them at this place
-abbrev pub listed_from : Keys → List ℕ → ℕ → ℕ → Option (List Saved) → KeysRead
-listed_from keys places at k none = no_list
-listed_from keys places at k (some ts) =
-    record {
-      ok = true;
-      keys = record { ids = sets keys.ids k (map saved_id ts); csns = sets keys.csns k (map saved_csn ts) };
-      at = sets places k (starts_from at ts);
-    }
+abbrev pub listed_from : List TxHead → ℕ → ℕ → Option (List Saved) → Maybe (List TxHead)
+listed_from hs at k none = None
+listed_from hs at k (some ts) = Some (sets hs k (heads_from at ts))
 
-pub list_start : (y : Option (List Saved)) → listed_of y ≡ listed_from no_keys (replicate 8 0) 0 0 y
-unfolding keys_in places_of no_keys
+pub list_start : (y : Option (List Saved)) → listed_of y ≡ listed_from (replicate 8 no_head) 0 0 y
+unfolding tx_heads
 list_start none = refl
 list_start (some ts) = refl
 
-abbrev keys_with : Keys → ℕ → Saved → Keys
-keys_with keys k t = record { ids = set keys.ids k (saved_id t); csns = set keys.csns k (saved_csn t) }
+list_laid : (hs : List TxHead) (at k : ℕ) (t : Saved) (y : Option (List Saved))
+    → listed_from hs at k (and_then t y) ≡ listed_from (set hs k (record { key = saved_key t; at = at })) (at + tx_size t) (k + 1) y
+list_laid hs at k t none = refl
+list_laid hs at k t (some ts) = ap (λ (j : ℕ). Some (sets (set hs k (record { key = saved_key t; at = at })) j (heads_from (at + tx_size t) ts))) (sym (add-one k))
 
-list_laid : (keys : Keys) (places : List ℕ) (at k : ℕ) (t : Saved) (y : Option (List Saved))
-    → listed_from keys places at k (and_then t y) ≡ listed_from (keys_with keys k t) (set places k at) (at + tx_size t) (k + 1) y
-list_laid keys places at k t none = refl
-list_laid keys places at k t (some ts) = ap (λ (j : ℕ). laid j) (sym (add-one k))
-  where
-    laid : ℕ → KeysRead
-    laid j =
-        record {
-          ok = true;
-          keys = record {
-            ids = sets (set keys.ids k (saved_id t)) j (map saved_id ts);
-            csns = sets (set keys.csns k (saved_csn t)) j (map saved_csn ts);
-          };
-          at = sets (set places k at) j (starts_from (at + tx_size t) ts);
-        }
-
-module _ (last assigned : ℕ) (s : List ℕ) (at n k : ℕ) (h : k < n) (z : ℕ) (e : z ≡ ruled_span last assigned (read_tx (drop at s))) where
-  -- what a turn found
-  found : (z ≡ 0 → ⊥) → (t : Saved) × (read_tx (drop at s) ≡ some t) × (outline_ok last assigned (outline_in t) ≡ true) × (z ≡ tx_size t)
-  found f = go (read_tx (drop at s)) refl e
-    where
-      kept : (t : Saved) → read_tx (drop at s) ≡ some t → (b : Bool) → outline_ok last assigned (outline_in t) ≡ b → z ≡ cond b (tx_size t) 0
-          → (t : Saved) × (read_tx (drop at s) ≡ some t) × (outline_ok last assigned (outline_in t) ≡ true) × (z ≡ tx_size t)
-      kept t q true p w = (t, q, p, w)
-      kept t q false p w = absurd (f w)
-
-      go : (y : Option Saved) → read_tx (drop at s) ≡ y → z ≡ ruled_span last assigned y
-          → (t : Saved) × (read_tx (drop at s) ≡ some t) × (outline_ok last assigned (outline_in t) ≡ true) × (z ≡ tx_size t)
-      go none q w = absurd (f w)
-      go (some t) q w = kept t q (outline_ok last assigned (outline_in t)) refl w
-
-  pub list_stop : z ≡ 0 → ruled last assigned (read_txs (n - k) (drop at s)) ≡ none
-  list_stop f = ap (ruled last assigned) (txs_turn (drop at s) n k h) ∙ go (read_tx (drop at s)) refl
+module _ (last assigned : ℕ) (s : List ℕ) (at n k : ℕ) (h : k < n) where
+  pub list_stop : ruled_span last assigned (read_tx (drop at s)) ≡ None → ruled last assigned (read_txs (n - k) (drop at s)) ≡ none
+  list_stop e = ap (ruled last assigned) (txs_turn (drop at s) n k h) ∙ go (read_tx (drop at s)) refl
     where
       broken : (t : Saved) → read_tx (drop at s) ≡ some t → (b : Bool) → outline_ok last assigned (outline_in t) ≡ b
           → ruled last assigned (on_tx (read_txs (n - (k + 1))) (drop at s) (some t)) ≡ none
       broken t q false p = ruled_not last assigned t (read_txs (n - (k + 1)) (drop (tx_size t) (drop at s))) p
       broken t q true p =
-          let w : z ≡ tx_size t = e ∙ ap (ruled_span last assigned) q ∙ ap (λ (b : Bool). cond b (tx_size t) 0) p in
-          absurd (omega (arith, w, f))
+          let w : Some (tx_size t) ≡ None = sym (ap (ruled_span last assigned) q ∙ ap (λ (b : Bool). cond b (Some (tx_size t)) None) p) ∙ e in
+          clash (cc)
 
       go : (y : Option Saved) → read_tx (drop at s) ≡ y → ruled last assigned (on_tx (read_txs (n - (k + 1))) (drop at s) y) ≡ none
       go none q = refl
       go (some t) q = broken t q (outline_ok last assigned (outline_in t)) refl
 
-  module _ (f : z ≡ 0 → ⊥) where
+  module _ (z : ℕ) (e : ruled_span last assigned (read_tx (drop at s)) ≡ Some z) where
+    -- what a turn found
+    found : (t : Saved) × (read_tx (drop at s) ≡ some t) × (outline_ok last assigned (outline_in t) ≡ true) × (tx_size t ≡ z)
+    found = go (read_tx (drop at s)) refl e
+      where
+        go : (y : Option Saved) → read_tx (drop at s) ≡ y → ruled_span last assigned y ≡ Some z
+            → (t : Saved) × (read_tx (drop at s) ≡ some t) × (outline_ok last assigned (outline_in t) ≡ true) × (tx_size t ≡ z)
+        go none q w = clash (cc)
+        go (some t) q w = let k = cond_some _ _ _ w in (t, q, k.0, k.1)
+
     pub list_within : at ≤ length s → (at + z ≤ length s) × (at + 8 ≤ length s)
     list_within b =
-        let w = found f in
+        let w = found in
         let d : tx_size w.0 ≤ length s - at = rw length-drop at (tx_kept (drop at s) w.0 (tx_inv (drop at s) w.0 w.1)).0 in
         (omega (arith, w.3, d, b), omega (arith, d, b))
 
-    -- the keys that the code reads there
-    keys_read : (t : Saved) → TxAt (drop at s) t → (saved_id t ≡ record { 0 = be16 s at }) × (saved_csn t ≡ record { 0 = be32 s (at + 3) })
-    keys_read (saved id status csn us) a =
-        (ap (λ (x : ℕ). record { 0 = x }) (a.2 ∙ be16_at s at 0 at (omega arith)), ap (λ (x : ℕ). record { 0 = x }) (a.4 ∙ be32_at s at 3 (at + 3) refl))
+    -- the key that the code reads there
+    key_read : (key : Key) (t : Saved) → TxAt (drop at s) t → key.id.0 ≡ be16 (drop at s) 0 → key.csn.0 ≡ be32 (drop at s) 3 → saved_key t ≡ key
+    key_read key (saved id status csn us) a i m =
+        ap₂ (λ (x y : ℕ). record { id = record { 0 = x }; csn = record { 0 = y } }) (a.2 ∙ sym i) (a.4 ∙ sym m)
 
-    pub list_go : (keys : Keys) (places : List ℕ) → listed_from keys places at k (ruled last assigned (read_txs (n - k) (drop at s)))
-        ≡ listed_from (record { ids = set keys.ids k (record { 0 = be16 s at }); csns = set keys.csns k (record { 0 = be32 s (at + 3) }) })
-        (set places k at) (at + z) (k + 1) (ruled last assigned (read_txs (n - (k + 1)) (drop (at + z) s)))
-    list_go keys places =
-        let w = found f in
+    pub list_go : (hs : List TxHead) (key : Key) → key.id.0 ≡ be16 (drop at s) 0 → key.csn.0 ≡ be32 (drop at s) 3
+        → listed_from hs at k (ruled last assigned (read_txs (n - k) (drop at s)))
+        ≡ listed_from (set hs k (record { key = key; at = at })) (at + z) (k + 1) (ruled last assigned (read_txs (n - (k + 1)) (drop (at + z) s)))
+    list_go hs key i m =
+        let w = found in
         let t = w.0 in
-        let r = keys_read t (tx_inv (drop at s) t w.1) in
+        let r = key_read key t (tx_inv (drop at s) t w.1) i m in
         let rest = read_txs (n - (k + 1)) in
-        ap (λ (y : Option (List Saved)). listed_from keys places at k (ruled last assigned y))
-        (txs_turn (drop at s) n k h ∙ ap (on_tx rest (drop at s)) w.1)
-        ∙ ap (listed_from keys places at k) (ruled_then last assigned t (rest (drop (tx_size t) (drop at s))) w.2)
-        ∙ list_laid keys places at k t (ruled last assigned (rest (drop (tx_size t) (drop at s))))
-        ∙ ap₂ (λ (x : Keys) (l : List ℕ). listed_from x (set places k at) (at + tx_size t) (k + 1) (ruled last assigned (rest l)))
-        (ap₂ (λ (x : TxId) (y : Csn). record { ids = set keys.ids k x; csns = set keys.csns k y }) r.0 r.1) (drop-drop (tx_size t) at s)
-        ∙ ap (λ (m : ℕ).
-        listed_from (record { ids = set keys.ids k (record { 0 = be16 s at }); csns = set keys.csns k (record { 0 = be32 s (at + 3) }) })
-        (set places k at) (at + m) (k + 1) (ruled last assigned (rest (drop (at + m) s)))) (sym w.3)
+        ap (λ (y : Option (List Saved)). listed_from hs at k (ruled last assigned y)) (txs_turn (drop at s) n k h ∙ ap (on_tx rest (drop at s)) w.1)
+        ∙ ap (listed_from hs at k) (ruled_then last assigned t (rest (drop (tx_size t) (drop at s))) w.2)
+        ∙ list_laid hs at k t (ruled last assigned (rest (drop (tx_size t) (drop at s))))
+        ∙ ap₂ (λ (x : Key) (l : List ℕ). listed_from (set hs k (record { key = x; at = at })) (at + tx_size t) (k + 1) (ruled last assigned (rest l))) r
+        (drop-drop (tx_size t) at s)
+        ∙ ap (λ (m : ℕ). listed_from (set hs k (record { key = key; at = at })) (at + m) (k + 1) (ruled last assigned (rest (drop (at + m) s)))) w.3
 
 -- ---- a reading of transactions, one at a time
 
@@ -374,15 +352,13 @@ module _ (s : List ℕ) where
               ∙ both ts (every (outline_ok (be16 s 10) (be32 s 6)) (map outline_in ts)) refl
 
 -- what was listed
-pub list_none : (y : Option (List Saved)) (x : KeysRead) → x ≡ listed_of y → x.ok ≡ false → y ≡ none
-list_none none x e f = refl
-list_none (some ts) x e f = let g : true ≡ false = sym (ap (λ (u : KeysRead). u.ok) e) ∙ f in clash (cc)
+pub list_none : (y : Option (List Saved)) → listed_of y ≡ None → y ≡ none
+list_none none e = refl
+list_none (some ts) e = clash (cc)
 
-pub list_some : (y : Option (List Saved)) (x : KeysRead) → x ≡ listed_of y → x.ok ≡ true
-    → (ts : List Saved) × (y ≡ some ts) × (x.keys ≡ keys_in ts) × (x.at ≡ places_of ts)
-unfolding no_list
-list_some none x e f = let g : false ≡ true = sym (ap (λ (u : KeysRead). u.ok) e) ∙ f in clash (cc)
-list_some (some ts) x e f = (ts, refl, ap (λ (u : KeysRead). u.keys) e, ap (λ (u : KeysRead). u.at) e)
+pub list_some : (y : Option (List Saved)) (x : List TxHead) → listed_of y ≡ Some x → (ts : List Saved) × (y ≡ some ts) × (x ≡ tx_heads ts)
+list_some none x e = clash (cc)
+list_some (some ts) x e = (ts, refl, cc)
 
 -- of those, the rules are kept
 pub ruled_some : (last assigned : ℕ) (y : Option (List Saved)) (ts : List Saved) → ruled last assigned y ≡ some ts → y ≡ some ts

@@ -15,19 +15,11 @@ use Rattle.transaction.specs.declared.Tx.{Tx}
 use Rattle.transaction.specs.Lists.{up_from}
 use Rattle.transaction.proofs.Lists.{up_turn}
 use Rattle.image.specs.Content.{Saved, saved, Content, saved_at}
-use Rattle.image.specs.Format.{head_bytes, encode_head, encode_tx_head, encode_undo, encode_undos, encode_tx, encode_txs, encode_content, undos_size, tx_size}
+use Rattle.image.specs.Format.{encode_head, encode_tx_head, encode_undo, encode_undos, encode_tx, encode_txs, encode_content, undos_size, tx_size}
 use Rattle.image.specs.Format.{txs_size}
 use Rattle.image.proofs.Sizes.{length_undo, length_tx}
 
 -- ---- stores one after the other
-
-pub undo_stores : (b₀ b₁ b₂ : List ℕ) (at a : ℕ) (src : List ℕ) → b₁ ≡ sets b₀ at (bytes16 a) → b₂ ≡ sets (set b₁ (at + 2) (length src)) (at + 3) src
-    → b₂ ≡ sets b₀ at (encode_undo (record { addr = a; bytes = src }))
-undo_stores b₀ b₁ b₂ at a src e₁ e₂ = rw (e₂, e₁) (simp towards_suc)
-
-pub head_stores : (b₀ b₁ b₂ b₃ b₄ : List ℕ) (logend ondisk assigned lastid count : ℕ) → b₁ ≡ sets b₀ 0 (bytes16 logend) → b₂ ≡ sets b₁ 2 (bytes32 ondisk)
-    → b₃ ≡ sets b₂ 6 (bytes32 assigned) → b₄ ≡ sets b₃ 10 (bytes16 lastid) → set b₄ 12 count ≡ sets b₀ 0 (head_bytes logend ondisk assigned lastid count)
-head_stores b₀ b₁ b₂ b₃ b₄ logend ondisk assigned lastid count e₁ e₂ e₃ e₄ = rw (e₄, e₃, e₂, e₁)
 
 tx_head_stores : (b₀ b₁ b₂ : List ℕ) (at id status csn n : ℕ) (us : List Write) → b₁ ≡ sets b₀ at (bytes16 id)
     → b₂ ≡ sets (set b₁ (at + 2) status) (at + 3) (bytes32 csn) → length us ≡ n → set b₂ (at + 7) n ≡ sets b₀ at (encode_tx_head (saved id status csn us))

@@ -12,6 +12,27 @@ use layout::{LOG_LEN, MAX_TXS};
 use redolog::{Csn, TxId};
 use transaction::Tx;
 
+// What an image begins with, and a state too.
+#[derive(Clone, Copy)]
+pub struct Counters {
+    pub logend: u16,
+    pub ondisk: Csn,
+    pub assigned: Csn,
+    pub lastid: TxId,
+    pub count: u8,
+}
+
+impl Counters {
+    // The image rules of the counters.
+    pub fn ok(self) -> bool
+        ensures { result ≡ bounds_ok self.logend self.ondisk.0 self.assigned.0 self.count }
+    {
+        self.logend as usize <= LOG_LEN
+            && self.ondisk <= self.assigned
+            && self.count as usize <= MAX_TXS
+    }
+}
+
 // Transactions in order of begin, in the first count slots.
 #[derive(Clone, Copy)]
 pub struct Image {
@@ -21,17 +42,4 @@ pub struct Image {
     pub lastid: TxId,
     pub count: u8,
     pub txs: [Tx; MAX_TXS],
-}
-
-// The image rules of the counters, for an image and for a state.
-pub fn bounds_ok(logend: u16, ondisk: Csn, assigned: Csn, count: u8) -> bool
-    ensures { result ≡ bounds_ok logend ondisk.0 assigned.0 count }
-{
-    if LOG_LEN < logend as usize {
-        return false;
-    }
-    if assigned.0 < ondisk.0 {
-        return false;
-    }
-    count as usize <= MAX_TXS
 }

@@ -1,11 +1,7 @@
-use Rattle.std.proofs.Common.{◌≡◌, ◌-◌, ◌≤◌}
-use Rattle.transaction.specs.Lists.{up_from}
-use Rattle.image.specs.Keys.{key_at}
+use Rattle.std.proofs.Common.{◌≡◌, map, drop}
+use Rattle.image.specs.Keys.{outline_by}
 use Rattle.image.specs.Rules.{distinct}
 use Rattle.image.proofs.keys.distinct.Given as goal
 
 abbrev pub invariant-loop-i : goal.invariant-loop-i
-invariant-loop-i l = (l.i ≤ l.n) × (distinct (up_from (key_at l.keys) l.n 0) ≡ distinct (up_from (key_at l.keys) (l.n - l.i) l.i))
-
-abbrev pub decreases-loop-i : goal.decreases-loop-i
-decreases-loop-i l = l.n - l.i
+invariant-loop-i l = distinct (map outline_by l.txs) ≡ distinct (map outline_by (drop l.i l.txs))

@@ -1,69 +1,92 @@
-use Rattle.std.proofs.Common.{◌≡◌, ℕ, ◌+◌, ◌-◌, ◌≤◌, List, length, take, drop, set, replicate, sym, ap, ap₂, ◌∙◌, arith}
+use Rattle.std.proofs.Common.{◌≡◌, ℕ, ◌+◌, ◌-◌, ◌≤◌, ◌<◌, List, ◌++◌, Some, None, length, take, drop, replicate, sym, ap, ap₂, ◌∙◌, arith}
+use Rattle.std.proofs.Math.ListN.{length-drop}
+use Rattle.std.proofs.lemmas.List.{take-append-drop, length-take-le, set-append_left}
 use Rattle.redolog.proofs.Basics.{from}
-use Rattle.image.specs.declared.keys.Keys.{Keys}
+use Rattle.redolog.specs.Number.{be16, be32}
+use Rattle.image.specs.declared.read.TxHead.{TxHead}
+use Rattle.image.specs.Keys.{no_head}
 use Rattle.image.specs.Reading.{read_tx, read_txs}
 use Rattle.image.specs.Heads.{ruled_span, ruled}
 use Rattle.image.proofs.TxReadings.{listed_from, list_start, list_stop, list_within, list_go}
-use Rattle.image.proofs.read.list_txs.Goals.{Else-size-eq0}
+use Rattle.image.proofs.read.list_txs.Goals.{In_ok-size}
 use Rattle.image.proofs.read.list_txs.Goals as goal
 
--- what was read at `at`
-read_at : (s : List ℕ) (at last assigned z : ℕ) → z ≡ ruled_span last assigned (read_tx (take (length s - at) (drop at s)))
-    → z ≡ ruled_span last assigned (read_tx (drop at s))
-read_at s at last assigned z e = e ∙ ap (λ (l : List ℕ). ruled_span last assigned (read_tx l)) (from s at)
+-- so many slots are used
+used : (h : TxHead) (n : ℕ) → n ≤ 8 → length (take n (replicate 8 h)) ≡ n
+used h n few = length-take-le n (replicate 8 h) few
 
-within : (c : Else-size-eq0) → (c.loop-k.at + c.ruled_size-size.result ≤ length c.args.s.now) × (c.loop-k.at + 8 ≤ length c.args.s.now)
+-- all slots as they stand, those not used behind those listed
+abbrev whole : List TxHead → ℕ → List TxHead
+whole items n = items ++ drop n (replicate 8 no_head)
+
+-- what was read at `at`
+size : (c : In_ok-size) → ruled_span c.args.last.id.0 c.args.last.csn.0 (read_tx (drop c.loop-tx.at c.args.s.now)) ≡ Some c.in_ok-size.size
+size c =
+    let a = c.args in
+    sym (c.ruled_size.ensures ∙ ap (λ (l : List ℕ). ruled_span a.last.id.0 a.last.csn.0 (read_tx l)) (from a.s.now c.loop-tx.at)) ∙ c.in_ok-size.was
+
+below : (c : In_ok-size) → c.loop-tx.tx-index < c.args.n
+below c = omega (arith, used c.empty-txs.result c.args.n c.requires, c.loop-tx-test.true)
+
+within : (c : In_ok-size) → (c.loop-tx.at + c.in_ok-size.size ≤ length c.args.s.now) × (c.loop-tx.at + 8 ≤ length c.args.s.now)
 within c =
     let a = c.args in
-    let l = c.loop-k in
-    let r = read_at a.s.now l.at a.last.0 a.assigned.0 _ c.ruled_size-size.ensures in
-    list_within a.last.0 a.assigned.0 a.s.now l.at a.n l.k c.loop-k-test.true _ r c.if-size-eq0.false l.invariant.within
+    list_within a.last.id.0 a.last.csn.0 a.s.now c.loop-tx.at a.n c.loop-tx.tx-index (below c) _ (size c) c.loop-tx.invariant.within
 
-pub loop-k-init : goal.loop-k-init
-loop-k-init c =
+pub loop-tx-init : goal.loop-tx-init
+loop-tx-init c =
     let a = c.args in
     let z : a.n ≡ a.n - 0 = omega arith in
+    let e : replicate 8 no_head ≡ whole (take a.n (replicate 8 c.empty-txs.result)) a.n =
+    sym (take-append-drop a.n (replicate 8 no_head)) ∙ ap (λ (h : TxHead). whole (take a.n (replicate 8 h)) a.n) (sym c.empty-txs.ensures) in
     record {
-      in_range = omega arith;
-      few = c.requires;
       within = omega arith;
-      same = list_start (ruled a.last.0 a.assigned.0 (read_txs a.n a.s.now))
-          ∙ ap₂ (λ (x : Keys) (m : ℕ). listed_from x (replicate 8 0) 0 0 (ruled a.last.0 a.assigned.0 (read_txs m a.s.now))) (sym c.no_keys-keys.ensures) z;
+      same = list_start (ruled a.last.id.0 a.last.csn.0 (read_txs a.n a.s.now))
+          ∙ ap₂ (λ (hs : List TxHead) (m : ℕ). listed_from hs 0 0 (ruled a.last.id.0 a.last.csn.0 (read_txs m a.s.now))) e z;
     }
 
-pub returns-then-size-eq0 : goal.returns-then-size-eq0
-returns-then-size-eq0 c =
+pub returns-in_err-size : goal.returns-in_err-size
+returns-in_err-size c =
     let a = c.args in
-    let l = c.loop-k in
-    let r = read_at a.s.now l.at a.last.0 a.assigned.0 _ c.ruled_size-size.ensures in
-    c.no_list.ensures
-    ∙ sym (l.invariant.same ∙ ap (listed_from l.keys l.places l.at l.k)
-    (list_stop a.last.0 a.assigned.0 a.s.now l.at a.n l.k c.loop-k-test.true _ r c.if-size-eq0.true))
+    let l = c.loop-tx in
+    let b : l.tx-index < a.n = omega (arith, used c.empty-txs.result a.n c.requires, c.loop-tx-test.true) in
+    let e : ruled_span a.last.id.0 a.last.csn.0 (read_tx (drop l.at a.s.now)) ≡ None =
+    sym (c.ruled_size.ensures ∙ ap (λ (l : List ℕ). ruled_span a.last.id.0 a.last.csn.0 (read_tx l)) (from a.s.now l.at)) ∙ c.in_err-size.was in
+    c.from_residual.ensures
+    ∙ sym (l.invariant.same ∙ ap (listed_from (whole l.tx-items a.n) l.at l.tx-index) (list_stop a.last.id.0 a.last.csn.0 a.s.now l.at a.n l.tx-index b e))
 
-pub be16-id-requires : goal.be16-id-requires
-be16-id-requires c = omega (arith, (within (goal.at.be16-id-requires c).Else-size-eq0).1)
+pub read_key-key-requires : goal.read_key-key-requires
+read_key-key-requires c =
+    let w = within (goal.at.read_key-key-requires c).In_ok-size in
+    rw (from c.args.s.now c.loop-tx.at) (rw length-drop (omega (arith, w.1)))
 
-pub be32-csn-requires : goal.be32-csn-requires
-be32-csn-requires c = omega (arith, (within (goal.at.be32-csn-requires c).Else-size-eq0).1)
+pub overflow_add-at : goal.overflow_add-at
+overflow_add-at c = let w = within (goal.at.overflow_add-at c).In_ok-size in omega (arith, w.0, c.well_formed)
 
-pub overflow_add-at-in-loop-k : goal.overflow_add-at-in-loop-k
-overflow_add-at-in-loop-k c = let w = within (goal.at.overflow_add-at-in-loop-k c).Else-size-eq0 in omega (arith, w.0, c.well_formed)
-
-pub loop-k-preserved : goal.loop-k-preserved
-loop-k-preserved c =
+pub loop-tx-preserved : goal.loop-tx-preserved
+loop-tx-preserved c =
     let a = c.args in
-    let l = c.loop-k in
-    let r = read_at a.s.now l.at a.last.0 a.assigned.0 _ c.ruled_size-size.ensures in
-    let x = c.ruled_size-size.result in
+    let l = c.loop-tx in
+    let t = (goal.at.loop-tx-preserved c).In_ok-size in
+    let k = c.read_key-key.ensures in
+    let n = l.tx-index in
+    let long : n < length l.tx-items = omega (arith, l.auto.tx-items, c.loop-tx-test.true) in
+    let rest = ruled a.last.id.0 a.last.csn.0 (read_txs (a.n - (n + 1)) (drop (l.at + c.in_ok-size.size) a.s.now)) in
     record {
-      in_range = omega arith;
-      few = l.invariant.few;
-      within = (within (goal.at.loop-k-preserved c).Else-size-eq0).0;
+      within = (within t).0;
       same = l.invariant.same
-          ∙ list_go a.last.0 a.assigned.0 a.s.now l.at a.n l.k c.loop-k-test.true _ r c.if-size-eq0.false l.keys l.places
-          ∙ ap₂ (λ (i m : ℕ).
-          listed_from (record { ids = set l.keys.ids l.k (record { 0 = i }); csns = set l.keys.csns l.k (record { 0 = m }) })
-          (set l.places l.k l.at) (l.at + x) (l.k + 1)
-          (ruled a.last.0 a.assigned.0 (read_txs (a.n - (l.k + 1)) (drop (l.at + x) a.s.now))))
-          (sym c.be16-id.ensures) (sym c.be32-csn.ensures);
+          ∙ list_go a.last.id.0 a.last.csn.0 a.s.now l.at a.n n (below t) _ (size t) (whole l.tx-items a.n) c.read_key-key.result
+          (k.id_value ∙ ap (λ (s : List ℕ). be16 s 0) (from a.s.now l.at)) (k.csn_value ∙ ap (λ (s : List ℕ). be32 s 3) (from a.s.now l.at))
+          ∙ ap (λ (hs : List TxHead). listed_from hs (l.at + c.in_ok-size.size) (n + 1) rest)
+          (set-append_left l.tx-items (drop a.n (replicate 8 no_head)) n (record { key = c.read_key-key.result; at = l.at }) long);
     }
+
+pub returns : goal.returns
+returns c =
+    let a = c.args in
+    let l = c.loop-tx in
+    let z : a.n - l.tx-index ≡ 0 = omega (arith, used c.empty-txs.result a.n c.requires, c.loop-tx-test.false) in
+    ap (λ (h : TxHead). Some (l.tx-items ++ drop a.n (replicate 8 h))) c.empty-txs.ensures
+    ∙ sym
+    (l.invariant.same
+    ∙ ap (λ (m : ℕ). listed_from (whole l.tx-items a.n) l.at l.tx-index (ruled a.last.id.0 a.last.csn.0 (read_txs m (drop l.at a.s.now)))) z)

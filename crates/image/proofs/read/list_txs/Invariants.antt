@@ -1,18 +1,17 @@
-use Rattle.std.proofs.Common.{◌≡◌, ◌-◌, ◌≤◌, length, drop}
+use Rattle.std.proofs.Common.{◌≡◌, ◌-◌, ◌≤◌, ◌++◌, length, drop, replicate}
+use Rattle.image.specs.Keys.{no_head}
 use Rattle.image.specs.Reading.{read_txs}
 use Rattle.image.specs.Heads.{ruled, listed_of}
 use Rattle.image.proofs.TxReadings.{listed_from}
 use Rattle.image.proofs.read.list_txs.Given as goal
 
-abbrev pub invariant-loop-k : goal.invariant-loop-k
-invariant-loop-k l =
+abbrev pub invariant-loop-tx : goal.invariant-loop-tx
+invariant-loop-tx l =
+    let last = l.last.id.0 in
+    let assigned = l.last.csn.0 in
+    let txs = l.tx-items ++ drop l.n (replicate 8 no_head) in
     record {
-      in_range : l.k ≤ l.n;
-      few : l.n ≤ 8;
       within : l.at ≤ length l.s;
-      same : listed_of (ruled l.last.0 l.assigned.0 (read_txs l.n l.s))
-          ≡ listed_from l.keys l.places l.at l.k (ruled l.last.0 l.assigned.0 (read_txs (l.n - l.k) (drop l.at l.s)));
+      same : listed_of (ruled last assigned (read_txs l.n l.s))
+          ≡ listed_from txs l.at l.tx-index (ruled last assigned (read_txs (l.n - l.tx-index) (drop l.at l.s)));
     }
-
-abbrev pub decreases-loop-k : goal.decreases-loop-k
-decreases-loop-k l = l.n - l.k

@@ -1,4 +1,4 @@
-use Rattle.std.proofs.Common.{◌≡◌, ◌-◌, ◌≤◌, List, length, drop}
+use Rattle.std.proofs.Common.{◌≡◌, ◌-◌, List, ◌++◌, length, drop, replicate}
 use Rattle.std.proofs.lemmas.List.Edits.{sets}
 use Rattle.recovery.specs.Group.{Write}
 use Rattle.image.specs.Reading.{read_undos}
@@ -6,16 +6,11 @@ use Rattle.image.specs.Heads.{undo_starts, undo_places}
 use Rattle.image.proofs.Readings.{UndosAt}
 use Rattle.image.proofs.read.undo_places.Given as goal
 
-abbrev pub invariant-loop-k : goal.invariant-loop-k
-invariant-loop-k l =
+abbrev pub invariant-loop-place : goal.invariant-loop-place
+invariant-loop-place l =
     record {
-      in_range : l.k ≤ l.n;
-      few : l.n ≤ 16;
       rest : List Write;
-      count : length rest ≡ l.n - l.k;
+      count : length rest ≡ l.n - l.place-index;
       there : UndosAt (drop l.at l.s) rest;
-      same : undo_places (read_undos l.n (drop 8 l.s)) ≡ sets l.places l.k (undo_starts l.at rest);
+      same : undo_places (read_undos l.n (drop 8 l.s)) ≡ sets (l.place-items ++ drop l.n (replicate 16 0)) l.place-index (undo_starts l.at rest);
     }
-
-abbrev pub decreases-loop-k : goal.decreases-loop-k
-decreases-loop-k l = l.n - l.k

@@ -4,13 +4,9 @@ use Rattle.image.specs.Heads.{undos_end}
 use Rattle.image.proofs.Readings.{end_from}
 use Rattle.image.proofs.read.undos_end.Given as goal
 
-abbrev pub invariant-loop-k : goal.invariant-loop-k
-invariant-loop-k l =
+abbrev pub invariant-loop : goal.invariant-loop
+invariant-loop l =
     record {
-      in_range : l.k ≤ l.n;
       within : l.at ≤ length l.s;
-      same : undos_end (read_undos l.n (drop 8 l.s)) ≡ end_from l.at (read_undos (l.n - l.k) (drop l.at l.s));
+      same : undos_end (read_undos l.n (drop 8 l.s)) ≡ end_from l.at (read_undos (l.n - l.counter) (drop l.at l.s));
     }
-
-abbrev pub decreases-loop-k : goal.decreases-loop-k
-decreases-loop-k l = l.n - l.k

@@ -1,15 +1,15 @@
-use Rattle.std.proofs.Common.{◌≡◌, ◌+◌, ◌-◌, ◌≤◌}
+use Rattle.std.proofs.Common.{◌≡◌, ◌+◌, ◌-◌}
 use Rattle.std.proofs.lemmas.List.Edits.{sets}
 use Rattle.transaction.specs.Lists.{up_from}
 use Rattle.image.specs.Content.{saved_at, saved_in}
 use Rattle.image.specs.Format.{encode_txs, txs_size}
 use Rattle.image.proofs.write.put_txs.Given as goal
 
-abbrev pub invariant-loop-i : goal.invariant-loop-i
-invariant-loop-i l =
-    (l.i ≤ l.n)
-    × (l.at + txs_size (saved_in l.image.txs l.image.count) ≡ l.o + txs_size (up_from (saved_at l.image.txs) (l.n - l.i) l.i))
-    × (sets l.initial.b l.at (encode_txs (saved_in l.image.txs l.image.count)) ≡ sets l.b l.o (encode_txs (up_from (saved_at l.image.txs) (l.n - l.i) l.i)))
-
-abbrev pub decreases-loop-i : goal.decreases-loop-i
-decreases-loop-i l = l.n - l.i
+abbrev pub invariant-loop-t : goal.invariant-loop-t
+invariant-loop-t l =
+    let i = l.fn.image in
+    let rest = up_from (saved_at i.txs) (i.count - l.t-index) l.t-index in
+    record {
+      size : l.at + txs_size (saved_in i.txs i.count) ≡ l.o + txs_size rest;
+      same : sets l.initial.b l.at (encode_txs (saved_in i.txs i.count)) ≡ sets l.b l.o (encode_txs rest);
+    }

@@ -27,12 +27,6 @@ placed r i e l h =
       lent = length-take-le _ _ (rw length-drop (omega arith));
     }
 
-pub bounds-len-i : goal.bounds-len-i
-bounds-len-i c = omega (arith, counted c.args.undo.ranges c.requires.ranges_value)
-
-pub bounds-addr-i : goal.bounds-addr-i
-bounds-addr-i c = omega (arith, counted c.args.undo.ranges c.requires.ranges_value)
-
 pub slice_bounds-put_undo-end : goal.slice_bounds-put_undo-end
 slice_bounds-put_undo-end c =
     let h = placed c.args.undo c.loop-i.i c.requires.ranges_value (search rules) c.loop-i-test.true in
@@ -43,7 +37,7 @@ put_undo-requires-clause-src_in_bounds c =
     let r = c.args.undo in
     let h = placed r c.loop-i.i c.requires.ranges_value (search rules) c.loop-i-test.true in
     let z = undo_size_lem r.ranges.addr r.ranges.len r.bytes r.ranges.count c.loop-i.i c.loop-i-test.true h.lent in
-    omega (arith, h.lent, z, c.loop-i.invariant.1, c.requires.undo_in_bounds)
+    omega (arith, h.lent, z, c.loop-i.invariant.size, c.requires.undo_in_bounds)
 
 pub loop-i-preserved : goal.loop-i-preserved
 loop-i-preserved c =
@@ -52,4 +46,4 @@ loop-i-preserved c =
     let h = placed r l.i c.requires.ranges_value (search rules) c.loop-i-test.true in
     let z = undo_size_lem r.ranges.addr r.ranges.len r.bytes r.ranges.count l.i c.loop-i-test.true h.lent in
     let t = undo_turn r.ranges.addr r.ranges.len r.bytes r.ranges.count l.i c.loop-i-test.true h.lent l.o l.b c.put_undo.new.b c.put_undo.ensures in
-    (omega arith, omega (arith, z, l.invariant.1), l.invariant.2 ∙ t)
+    record { size = omega (arith, z, l.invariant.size); same = l.invariant.same ∙ t }
