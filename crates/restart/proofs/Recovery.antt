@@ -5,7 +5,7 @@ use mathlib.Core.Bool.{Bool, true, false, not, cond, ◌&&◌}
 use mathlib.Core.List.{List, [], ◌∷◌, ◌++◌}
 use mathlib.Core.Path.{◌≡◌, refl, sym, ap, ap₂, ◌∙◌}
 use lib.ListN.{length, get_or, drop, replicate, length-replicate, length-append}
-use lib.Dec.{eqb, ltb}
+use lib.Dec.{ltb}
 use lib.Seq.{sets, sets-eq}
 use borrow.Author.Tests.{ne_eqb}
 use Rattle.recovery.specs.Group.{groups_size, last_csn}
@@ -26,13 +26,16 @@ use Rattle.image.proofs.Rules.{image_count, ruled_at}
 use Rattle.restart.specs.declared.forward.Pass.{Pass}
 use Rattle.image.specs.Content.{transactions_in}
 use Rattle.restart.specs.Slots.{transaction_at, filter_below}
-use Rattle.restart.specs.Forward.{start_of, groups_of, forward_of}
+use Rattle.std.specs.Prelude.{Option as Maybe, None}
+use Rattle.std.specs.Option.{option_or}
+use Rattle.restart.specs.declared.forward.Ending.{Ending}
+use Rattle.restart.specs.Forward.{Endings, open_at, start_of, groups_of, forward_of}
 use Rattle.restart.specs.Undo.{is_running, is_lost, running_at, lost_at, lost_by, running_of, lost_of, undone_of}
 use Rattle.restart.specs.Restart.{recover_of}
 use Rattle.restart.specs.Turns.{undone_list, undone_ids, aborts_laid}
 use Rattle.restart.proofs.SlotLaws.{filter_up, txs_up}
 use Rattle.restart.proofs.Undos.{aborts_length, laid_all}
-use Rattle.restart.proofs.Passed.{zero_at, highest_id, ids_below, counted, first_code, codes_from, unused_codes, Marks, Seen, started}
+use Rattle.restart.proofs.Passed.{none_at, highest_id, ids_below, counted, first_ending, endings_from, unused_endings, Marks, Seen, started}
 
 abbrev pub zeros : ℕ → List ℕ
 zeros n = replicate n 0
@@ -78,9 +81,9 @@ undone_few image log =
     )
 
 module _ (image : Image) (ok : keeps_rules image ≡ true) where
-  -- ---- step 4, for codes that mark the finished ids
+  -- ---- step 4, for endings that mark the finished ids
 
-  module _ (found f : List ℕ) (marks : Marks image ok found f) where
+  module _ (found : Endings) (f : List ℕ) (marks : Marks image ok found f) where
     abbrev open? : Tx → Bool
     open? t = not (has t.id f)
 
@@ -91,7 +94,7 @@ module _ (image : Image) (ok : keeps_rules image ≡ true) where
     unfolding is_running
     running_is =
         filter_up (running_at image found) runs (transaction_at image) image.count
-        (λ j h. one (eqb (get_or found j 0) 0) (transaction_at image j).committing _ _ (marks j h) (ruled_at image ok j h).kind)
+        (λ j h. one (open_at found j) (transaction_at image j).committing _ _ (marks j h) (ruled_at image ok j h).kind)
         ∙ ap (filter runs) (sym (txs_up image))
         ∙ sym (filter_filter open? (λ t. not t.committing) runs (λ t. refl) (transactions_in image))
       where
@@ -112,7 +115,7 @@ module _ (image : Image) (ok : keeps_rules image ≡ true) where
       unfolding is_lost
       lost_is =
           filter_up (lost_at image found n) lost (transaction_at image) image.count
-          (λ j h. one (eqb (get_or found j 0) 0) (transaction_at image j).committing (ltb n (transaction_at image j).csn) _ (marks j h))
+          (λ j h. one (open_at found j) (transaction_at image j).committing (ltb n (transaction_at image j).csn) _ (marks j h))
           ∙ ap (filter lost) (sym (txs_up image))
           ∙ sym
           (ap (filter open?) (filter_filter (λ t. ltb n t.csn) (λ t. t.committing) high (λ t. refl) (transactions_in image))
@@ -182,17 +185,17 @@ module _ (image : Image) (ok : keeps_rules image ≡ true) where
       pub last_above_groups : All (λ g. group_id g ≤ (recover_of image log m tail).answer.last.0) (groups_of image log)
       last_above_groups = let l = last_is in all_map (λ g h. omega arith) (ids_below (groups_of image log))
 
-      -- the codes: the first group of the transaction's id decides; 0 in slots that are not used
-      pub code_is : (i : ℕ) → i < image.count
-          → get_or (recover_of image log m tail).answer.found i 0 ≡ first_code (transaction_at image i).id (groups_of image log)
+      -- how each transaction ends: the first group of its id decides; none in slots that are not used
+      pub ending_is : (i : ℕ) → i < image.count
+          → get_or (recover_of image log m tail).answer.found i None ≡ first_ending (transaction_at image i).id (groups_of image log)
       unfolding recover_of forward_of
-      code_is i h =
-          codes_from image ok (groups_of image log) (start_of image m) i refl h
-          ∙ ap (λ (x : ℕ). cond (eqb x 0) (first_code (transaction_at image i).id (groups_of image log)) x) (zero_at 8 i)
+      ending_is i h =
+          endings_from image ok (groups_of image log) (start_of image m) i refl h
+          ∙ ap (λ (x : Maybe Ending). option_or x (first_ending (transaction_at image i).id (groups_of image log))) (none_at 8 i)
 
-      pub code_unused : (i : ℕ) → image.count ≤ i → get_or (recover_of image log m tail).answer.found i 0 ≡ 0
+      pub ending_unused : (i : ℕ) → image.count ≤ i → get_or (recover_of image log m tail).answer.found i None ≡ None
       unfolding recover_of forward_of
-      code_unused i h = unused_codes image (groups_of image log) (start_of image m) i h ∙ zero_at 8 i
+      ending_unused i h = unused_endings image (groups_of image log) (start_of image m) i h ∙ none_at 8 i
 
       -- the abort records of the ids handed on make the tail
       pub laid_tail : aborts_laid (undone_ids image log m) (recover_of image log m tail).answer.undone tail ≡ (recover_of image log m tail).tail

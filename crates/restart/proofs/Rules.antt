@@ -20,7 +20,7 @@ use Rattle.image.specs.declared.Image.{Image}
 use Rattle.image.specs.Slots.{outline_at}
 use Rattle.image.specs.Rules.{keeps_rules}
 use Rattle.image.proofs.Rules.{image_count, image_distinct_lem, head_at, distinct_at}
-use Rattle.restart.specs.declared.forward.Slot.TheVariants.{At, Nowhere}
+use Rattle.std.specs.Prelude.{Some, None}
 use Rattle.image.specs.Content.{transactions_in}
 use Rattle.restart.specs.Slots.{transaction_at, has_id_at, image_slot}
 use Rattle.restart.specs.Turns.{StatusByCsn}
@@ -75,7 +75,7 @@ module _ (image : Image) (ok : keeps_rules image ≡ true) where
           (go k (suc i) (λ a b l m u. h a b (omega arith) m (omega arith)))
 
   -- the list has under an id what the slot has
-  pub lookup_at : (id k : ℕ) → image_slot image id ≡ At k → lookup id (transactions_in image) ≡ some (transaction_at image k)
+  pub lookup_at : (id k : ℕ) → image_slot image id ≡ Some k → lookup id (transactions_in image) ≡ some (transaction_at image k)
   lookup_at id k q =
       let f = first_at (has_id_at image id) image.count k q in
       let own : All (λ t. lookup t.id (transactions_in image) ≡ some t) (up_from (transaction_at image) image.count 0) =
@@ -83,7 +83,7 @@ module _ (image : Image) (ok : keeps_rules image ≡ true) where
       subst (λ (x : ℕ). lookup x (transactions_in image) ≡ some (transaction_at image k)) (eqb-true _ id f.1)
       (all_at (transaction_at image) image.count 0 own k (omega arith) (omega (arith, f.0)))
 
-  pub lookup_nowhere : (id : ℕ) → image_slot image id ≡ Nowhere → lookup id (transactions_in image) ≡ none
+  pub lookup_nowhere : (id : ℕ) → image_slot image id ≡ None → lookup id (transactions_in image) ≡ none
   lookup_nowhere id q =
       lookup_none {i = id} {txs = transactions_in image}
       (rw txs_up (all_up (transaction_at image) image.count 0

@@ -14,25 +14,28 @@ use Rattle.recovery.specs.Restart.{sort_desc}
 use Rattle.recovery.proofs.Lists.{all_map, all_append}
 use Rattle.recovery.proofs.Sorting.{AllLe, AllLt, sort_pick, sort_length}
 use Rattle.redolog.specs.declared.Csn.{Csn}
+use Rattle.transaction.specs.declared.Key.{Key}
 use Rattle.redolog.proofs.Basics.{clash, and_left, and_right}
 use Rattle.image.specs.declared.Image.{Image}
-use Rattle.image.specs.declared.keys.Keys.{Keys}
-use Rattle.image.specs.Keys.{keys_of}
+use Rattle.image.specs.declared.read.TxHead.{TxHead}
+use Rattle.image.specs.Keys.{no_head}
 use Rattle.image.specs.Slots.{slot_at}
-use Rattle.image.proofs.KeyLaws.{key_csn}
 use Rattle.restart.specs.declared.forward.Pass.{Pass}
-use Rattle.restart.specs.declared.forward.Slot.{Slot}
-use Rattle.restart.specs.declared.forward.Slot.TheVariants.{At, Nowhere}
-use Rattle.restart.specs.declared.undo.Best.{Best}
-use Rattle.restart.specs.Slots.{transaction_at, one_if, first_below, filter_below}
+use Rattle.std.specs.Prelude.{Some, None}
+use Rattle.restart.specs.Slots.{Slot, transaction_at, one_if, first_below, filter_below}
 use Rattle.restart.specs.Undo.{is_running, is_lost, running_at, lost_at, lost_by, running_of, lost_of, undone_of}
-use Rattle.restart.specs.Turns.{StatusByCsn, running_in, better_of, best_of, or_best, next_of}
-use Rattle.restart.proofs.SlotLaws.{first_at, first_none, first_same, filter_both, filter_same, filter_none, filter_first}
+use Rattle.restart.specs.Forward.{Endings, open_at}
+use Rattle.restart.specs.Turns.{Best, StatusByCsn, running_in, first_running, better_of, best_of, or_best, next_of}
+use Rattle.restart.specs.declared.forward.Ending.TheVariants.{Abort}
+use Rattle.std.specs.Prelude.{zip}
+use Rattle.std.proofs.lemmas.Slice.Zip.{length-zip, get_or-zip}
+use Rattle.restart.proofs.Shown.{Shown}
+use Rattle.restart.proofs.SlotLaws.{position_first, first_at, first_none, first_same, filter_both, filter_same, filter_none, filter_first}
 
-module _ (image : Image) (found : List ℕ) where
+module _ (image : Image) (found : Endings) where
   -- unfinished and committing
   abbrev pending : ℕ → Bool
-  pending i = eqb (get_or found i 0) 0 && eqb (slot_at image.txs i).status 2
+  pending i = open_at found i && eqb (slot_at image.txs i).status 2
 
   lost_raise : (m n i : ℕ) → m ≤ n → lost_at image found n i ≡ true → (lost_at image found m i ≡ true) × (n < (transaction_at image i).csn)
   unfolding is_lost
@@ -48,14 +51,14 @@ module _ (image : Image) (found : List ℕ) where
       ltb-false n (transaction_at image i).csn (rw o at e)
 
 -- the best of the first n slots, by the image
-abbrev best_at : Image → List ℕ → Csn → ℕ → Best
-best_at image found csn zero = record { at = Nowhere; top = csn }
+abbrev best_at : Image → Endings → Csn → ℕ → Best
+best_at image found csn zero = record { at = None; top = csn }
 best_at image found csn (suc n) =
-    cond (lost_at image found (best_at image found csn n).top.0 n) (record { at = At n; top = (slot_at image.txs n).csn }) (best_at image found csn n)
+    cond (lost_at image found (best_at image found csn n).top.0 n) (record { at = Some n; top = (slot_at image.txs n).csn }) (best_at image found csn n)
 
 -- what the search up to n has: with the test of those sought, a list of which the one in slot i is the first of the highest, and how the
 -- list is without it, by any test that differs at i alone
-module _ (image : Image) (found : List ℕ) (csn : Csn) where
+module _ (image : Image) (found : Endings) (csn : Csn) where
   abbrev sought : ℕ → Bool
   sought i = lost_at image found csn.0 i
 
@@ -71,8 +74,8 @@ module _ (image : Image) (found : List ℕ) (csn : Csn) where
     pub without : (q : ℕ → Bool) → q i ≡ false → ((j : ℕ) → (j ≡ i → ⊥) → q j ≡ sought j) → those q n ≡ before ++ after
 
   abbrev Good : ℕ → Slot → ℕ → Type 0
-  Good n Nowhere top = (top ≡ csn.0) × (those sought n ≡ [])
-  Good n (At i) top = (top ≡ (transaction_at image i).csn) × (csn.0 ≤ top) × (i < n) × Picked n i
+  Good n None top = (top ≡ csn.0) × (those sought n ≡ [])
+  Good n (Some i) top = (top ≡ (transaction_at image i).csn) × (csn.0 ≤ top) × (i < n) × Picked n i
 
   -- the one in slot n is the new highest
   new_best : (n : ℕ) → sought n ≡ true → AllLt (transaction_at image n).csn (those sought n) → Picked (suc n) n
@@ -116,44 +119,44 @@ module _ (image : Image) (found : List ℕ) (csn : Csn) where
   good (suc n) = go (best_at image found csn n).at (best_at image found csn n).top (good n) (lost_at image found (best_at image found csn n).top.0 n) refl
     where
       go : (f : Slot) (top : Csn) → Good n f top.0 → (b : Bool) → lost_at image found top.0 n ≡ b
-          → Good (suc n) (cond {A = Best} b (record { at = At n; top = (slot_at image.txs n).csn }) (record { at = f; top = top })).at
-          (cond {A = Best} b (record { at = At n; top = (slot_at image.txs n).csn }) (record { at = f; top = top })).top.0
-      go Nowhere top g true e =
+          → Good (suc n) (cond {A = Best} b (record { at = Some n; top = (slot_at image.txs n).csn }) (record { at = f; top = top })).at
+          (cond {A = Best} b (record { at = Some n; top = (slot_at image.txs n).csn }) (record { at = f; top = top })).top.0
+      go None top g true e =
           let r = lost_raise image found csn.0 top.0 n (omega (arith, g.0)) e in
           (refl, omega (arith, r.1, g.0), omega arith, new_best n r.0 (rw g.1 nil))
-      go Nowhere top g false e =
+      go None top g false e =
           let k : sought n ≡ false = ap (λ (x : ℕ). lost_at image found x n) (sym g.0) ∙ e in
           (g.0, ap₂ (λ (xs : List Tx) (b : Bool). xs ++ one_if b (transaction_at image n)) g.1 k)
-      go (At i) top g true e =
+      go (Some i) top g true e =
           let r = lost_raise image found csn.0 top.0 n g.1 e in
           (refl, omega (arith, r.1, g.1), omega arith, new_best n r.0 (higher n i (transaction_at image n).csn (omega (arith, r.1, g.0)) g.3))
-      go (At i) top g false e =
+      go (Some i) top g false e =
           (g.0, g.1, omega (arith, g.2), old_best n i g.2 (λ k. omega (arith, lost_lower image found csn.0 top.0 n e k, g.0)) g.3)
 
 -- marking a transaction takes it, and no other, off the lists of step 4
-module _ (image : Image) (found : List ℕ) (i : ℕ) where
-  lost_self : (n : ℕ) → i < length found → lost_at image (set found i 2) n i ≡ false
+module _ (image : Image) (found : Endings) (i : ℕ) where
+  lost_self : (n : ℕ) → i < length found → lost_at image (set found i (Some Abort)) n i ≡ false
   unfolding is_lost
-  lost_self n h = rw (get_or-set_same found i 2 0 h)
+  lost_self n h = rw (get_or-set_same found i (Some Abort) None h)
 
-  lost_other : (n j : ℕ) → (j ≡ i → ⊥) → lost_at image (set found i 2) n j ≡ lost_at image found n j
+  lost_other : (n j : ℕ) → (j ≡ i → ⊥) → lost_at image (set found i (Some Abort)) n j ≡ lost_at image found n j
   unfolding is_lost
-  lost_other n j h = rw (get_or-set_other found i j 2 0 h)
+  lost_other n j h = rw (get_or-set_other found i j (Some Abort) None h)
 
-  running_self : i < length found → running_at image (set found i 2) i ≡ false
+  running_self : i < length found → running_at image (set found i (Some Abort)) i ≡ false
   unfolding is_running
-  running_self h = rw (get_or-set_same found i 2 0 h)
+  running_self h = rw (get_or-set_same found i (Some Abort) None h)
 
-  running_other : (j : ℕ) → (j ≡ i → ⊥) → running_at image (set found i 2) j ≡ running_at image found j
+  running_other : (j : ℕ) → (j ≡ i → ⊥) → running_at image (set found i (Some Abort)) j ≡ running_at image found j
   unfolding is_running
-  running_other j h = rw (get_or-set_other found i j 2 0 h)
+  running_other j h = rw (get_or-set_other found i j (Some Abort) None h)
 
   -- a running one is not lost
   not_both : (n : ℕ) → running_at image found i ≡ true → lost_at image found n i ≡ false
   unfolding is_running is_lost
   not_both n e =
-      let s : (slot_at image.txs i).status ≡ 1 = eqb-true _ _ (and_right (eqb (get_or found i 0) 0) (eqb (slot_at image.txs i).status 1) e) in
-      go (eqb (get_or found i 0) 0) (rw s)
+      let s : (slot_at image.txs i).status ≡ 1 = eqb-true _ _ (and_right (open_at found i) (eqb (slot_at image.txs i).status 1) e) in
+      go (open_at found i) (rw s)
     where
       go : (b : Bool) → eqb (slot_at image.txs i).status 2 ≡ false
           → (b && eqb (slot_at image.txs i).status 2 && ltb n (slot_at image.txs i).csn.0) ≡ false
@@ -168,21 +171,30 @@ same_but p q i n a b h j l = go (eqb j i) refl
     go true e = let s = eqb-true j i e in ap q s ∙ b ∙ sym (ap p s ∙ a)
     go false e = h j (eqb-false j i e)
 
--- ---- by the keys as by the image
+-- ---- by the heads as by the image
 
-module _ (image : Image) (u : StatusByCsn image) (keys : Keys) (same : keys ≡ keys_of image.txs) (found : List ℕ) where
-  number_at : (j : ℕ) → j < image.count → get_or keys.csns j (record { 0 = 0 }) ≡ (slot_at image.txs j).csn
-  number_at j h = key_csn image.txs keys same j (omega (arith, u.few))
+module _ (image : Image) (u : StatusByCsn image) (s : List ℕ) (txs : List TxHead) (v : Shown image s txs) (found : Endings)
+    (long : image.count ≤ length found) where
+  number_at : (j : ℕ) → j < image.count → (get_or txs j no_head).key.csn ≡ (slot_at image.txs j).csn
+  number_at j h = ap (λ (k : Key). k.csn) (v.keys j h)
 
-  running_same : (j : ℕ) → j < image.count → running_in keys.csns found j ≡ running_at image found j
+  running_same : (j : ℕ) → j < image.count → running_in (get_or (zip txs found) j (no_head, None)) ≡ running_at image found j
   unfolding is_running
   running_same j h =
-      ap (λ (x : Csn). eqb (get_or found j 0) 0 && eqb x.0 0) (number_at j h)
-      ∙ ap (λ (b : Bool). eqb (get_or found j 0) 0 && b) (sym (u.running j h))
+      ap running_in (get_or-zip txs found j (no_head, None) (omega (arith, v.count)) (omega arith))
+      ∙ ap (λ (x : Csn). open_at found j && eqb x.0 0) (number_at j h)
+      ∙ ap (λ (b : Bool). open_at found j && b) (sym (u.running j h))
 
-  lost_same : (n j : ℕ) → j < image.count → (eqb (get_or found j 0) 0 && ltb n (slot_at image.txs j).csn.0) ≡ lost_at image found n j
+  first_running_same : first_running txs found ≡ first_below (running_at image found) image.count
+  first_running_same =
+      let l : length (zip txs found) ≡ image.count = omega (arith, length-zip txs found, v.count) in
+      position_first running_in (zip txs found) (no_head, None)
+      ∙ ap (first_below (λ i. running_in (get_or (zip txs found) i (no_head, None)))) l
+      ∙ first_same (running_at image found) (λ i. running_in (get_or (zip txs found) i (no_head, None))) image.count running_same
+
+  lost_same : (n j : ℕ) → j < image.count → (open_at found j && ltb n (slot_at image.txs j).csn.0) ≡ lost_at image found n j
   unfolding is_lost
-  lost_same n j h = go (eqb (get_or found j 0) 0) (eqb (slot_at image.txs j).csn.0 0) refl (u.committing j h)
+  lost_same n j h = go (open_at found j) (eqb (slot_at image.txs j).csn.0 0) refl (u.committing j h)
     where
       go : (a z : Bool) → eqb (slot_at image.txs j).csn.0 0 ≡ z → eqb (slot_at image.txs j).status 2 ≡ not z
           → (a && ltb n (slot_at image.txs j).csn.0) ≡ (a && eqb (slot_at image.txs j).status 2 && ltb n (slot_at image.txs j).csn.0)
@@ -192,26 +204,26 @@ module _ (image : Image) (u : StatusByCsn image) (keys : Keys) (same : keys ≡ 
       go true false e s = rw s
       go false z e s = refl
 
-  best_same : (csn : Csn) (n : ℕ) → n ≤ image.count → best_of keys.csns found csn n ≡ best_at image found csn n
+  best_same : (csn : Csn) (n : ℕ) → n ≤ image.count → best_of txs found csn n ≡ best_at image found csn n
   unfolding better_of
   best_same csn zero h = refl
   best_same csn (suc n) h =
       let b = best_at image found csn n in
-      ap₂ (λ (x : Csn) (y : Best). cond (eqb (get_or found n 0) 0 && ltb y.top.0 x.0) (record { at = At n; top = x }) y)
+      ap₂ (λ (x : Csn) (y : Best). cond (open_at found n && ltb y.top.0 x.0) (record { at = Some n; top = x }) y)
       (number_at n h) (best_same csn n (omega arith))
-      ∙ ap (λ (t : Bool). cond {A = Best} t (record { at = At n; top = (slot_at image.txs n).csn }) b) (lost_same b.top.0 n h)
+      ∙ ap (λ (t : Bool). cond {A = Best} t (record { at = Some n; top = (slot_at image.txs n).csn }) b) (lost_same b.top.0 n h)
 
 -- ---- a turn of the code's loop
 
--- what step 4 undoes, for these codes
-abbrev pub left_by : Image → List ℕ → ℕ → List Tx
+-- what step 4 undoes, for these endings
+abbrev pub left_by : Image → Endings → ℕ → List Tx
 left_by image found n = filter_below (running_at image found) (transaction_at image) image.count ++ sort_desc (lost_by image found n)
 
 pub left_is : (image : Image) (p : Pass) → undone_of image p ≡ left_by image p.found p.csn.0
 unfolding running_of lost_of
 left_is image p = refl
 
-pub left_few : (image : Image) (found : List ℕ) (n : ℕ) → length (left_by image found n) ≤ image.count
+pub left_few : (image : Image) (found : Endings) (n : ℕ) → length (left_by image found n) ≤ image.count
 left_few image found n =
     let rs = filter_below (running_at image found) (transaction_at image) image.count in
     omega (
@@ -221,68 +233,68 @@ left_few image found n =
       filter_both (running_at image found) (lost_at image found n) (transaction_at image) image.count (λ j. not_both image found j n),
     )
 
-module _ (image : Image) (u : StatusByCsn image) (keys : Keys) (same : keys ≡ keys_of image.txs) (found : List ℕ) (csn : Csn)
-    (long : image.count ≤ length found) where
+module _ (image : Image) (u : StatusByCsn image) (s : List ℕ) (txs : List TxHead) (v : Shown image s txs) (found : Endings)
+    (long : image.count ≤ length found) (csn : Csn) where
   abbrev runs : ℕ → Bool
   runs = running_at image found
 
   abbrev Next : ℕ → Type 0
-  Next i = (i < image.count) × (left_by image found csn.0 ≡ transaction_at image i ∷ left_by image (set found i 2) csn.0)
+  Next i = (i < image.count) × (left_by image found csn.0 ≡ transaction_at image i ∷ left_by image (set found i (Some Abort)) csn.0)
 
   -- the first running one
-  next_running : (i : ℕ) → first_below runs image.count ≡ At i → Next i
+  next_running : (i : ℕ) → first_below runs image.count ≡ Some i → Next i
   next_running i e =
       let f = first_at runs image.count i e in
-      let here = filter_first runs (running_at image (set found i 2)) (transaction_at image) image.count i e
+      let here = filter_first runs (running_at image (set found i (Some Abort))) (transaction_at image) image.count i e
       (running_self image found i (omega (arith, f.0))) (running_other image found i) in
-      let lost = filter_same (lost_at image found csn.0) (lost_at image (set found i 2) csn.0) (transaction_at image) image.count
-      (same_but (lost_at image found csn.0) (lost_at image (set found i 2) csn.0) i image.count (not_both image found i csn.0 f.1)
+      let lost = filter_same (lost_at image found csn.0) (lost_at image (set found i (Some Abort)) csn.0) (transaction_at image) image.count
+      (same_but (lost_at image found csn.0) (lost_at image (set found i (Some Abort)) csn.0) i image.count (not_both image found i csn.0 f.1)
       (lost_self image found i csn.0 (omega (arith, f.0))) (lost_other image found i csn.0)) in
       (f.0, ap₂ (λ (xs ys : List Tx). xs ++ sort_desc ys) here (sym lost))
 
   -- none is left, and the one with the highest number
-  next_lost : (i : ℕ) → first_below runs image.count ≡ Nowhere → (best_at image found csn image.count).at ≡ At i → Next i
+  next_lost : (i : ℕ) → first_below runs image.count ≡ None → (best_at image found csn image.count).at ≡ Some i → Next i
   next_lost i e b =
       at (subst (λ (f : Slot). Good image found csn image.count f (best_at image found csn image.count).top.0) b (good image found csn image.count))
     where
-      none : (i : ℕ) → i < image.count → filter_below (running_at image (set found i 2)) (transaction_at image) image.count ≡ []
+      none : (i : ℕ) → i < image.count → filter_below (running_at image (set found i (Some Abort))) (transaction_at image) image.count ≡ []
       none i h =
-          filter_same runs (running_at image (set found i 2)) (transaction_at image) image.count
-          (same_but runs (running_at image (set found i 2)) i image.count (first_none runs image.count e i h)
+          filter_same runs (running_at image (set found i (Some Abort))) (transaction_at image) image.count
+          (same_but runs (running_at image (set found i (Some Abort))) i image.count (first_none runs image.count e i h)
           (running_self image found i (omega (arith, h))) (running_other image found i))
           ∙ filter_none runs (transaction_at image) image.count e
 
-      at : Good image found csn image.count (At i) (best_at image found csn image.count).top.0 → Next i
+      at : Good image found csn image.count (Some i) (best_at image found csn image.count).top.0 → Next i
       at g =
           let w = g.3 in
-          let r : lost_by image (set found i 2) csn.0 ≡ w.before ++ w.after =
-          w.without (lost_at image (set found i 2) csn.0) (lost_self image found i csn.0 (omega (arith, g.2))) (lost_other image found i csn.0) in
-          let lost : sort_desc (lost_by image found csn.0) ≡ transaction_at image i ∷ sort_desc (lost_by image (set found i 2) csn.0) =
+          let r : lost_by image (set found i (Some Abort)) csn.0 ≡ w.before ++ w.after =
+          w.without (lost_at image (set found i (Some Abort)) csn.0) (lost_self image found i csn.0 (omega (arith, g.2))) (lost_other image found i csn.0) in
+          let lost : sort_desc (lost_by image found csn.0) ≡ transaction_at image i ∷ sort_desc (lost_by image (set found i (Some Abort)) csn.0) =
           ap sort_desc w.whole ∙ sort_pick (transaction_at image i) w.after w.lower w.least
           ∙ ap (λ (xs : List Tx). transaction_at image i ∷ sort_desc xs) (sym r) in (
             g.2,
             ap₂ (λ (xs ys : List Tx). xs ++ ys) (filter_none runs (transaction_at image) image.count e) lost
-                ∙ sym (ap (λ (xs : List Tx). transaction_at image i ∷ (xs ++ sort_desc (lost_by image (set found i 2) csn.0))) (none i g.2)),
+                ∙ sym (ap (λ (xs : List Tx). transaction_at image i ∷ (xs ++ sort_desc (lost_by image (set found i (Some Abort)) csn.0))) (none i g.2)),
           )
 
-  next_by : next_of keys.csns found csn image.count ≡ or_best (first_below runs image.count) (best_at image found csn image.count)
+  next_by : next_of txs found csn ≡ or_best (first_below runs image.count) (best_at image found csn image.count)
   next_by =
-      ap₂ or_best (first_same runs (running_in keys.csns found) image.count (running_same image u keys same found))
-      (best_same image u keys same found csn image.count (omega arith))
+      ap₂ or_best (first_running_same image u s txs v found long)
+      (ap (best_of txs found csn) v.count ∙ best_same image u s txs v found long csn image.count (omega arith))
 
-  pub next_some : (n i : ℕ) → image.count ≡ n → next_of keys.csns found csn n ≡ At i → Next i
-  next_some n i c e = go (first_below runs image.count) refl (sym next_by ∙ ap (next_of keys.csns found csn) c ∙ e)
+  pub next_some : (i : ℕ) → next_of txs found csn ≡ Some i → Next i
+  next_some i e = go (first_below runs image.count) refl (sym next_by ∙ e)
     where
-      go : (x : Slot) → first_below runs image.count ≡ x → or_best x (best_at image found csn image.count) ≡ At i → Next i
-      go (At j) q z = let s : j ≡ i = cc in next_running i (q ∙ ap At s)
-      go Nowhere q z = next_lost i q z
+      go : (x : Slot) → first_below runs image.count ≡ x → or_best x (best_at image found csn image.count) ≡ Some i → Next i
+      go (Some j) q z = let s : j ≡ i = cc in next_running i (q ∙ ap Some s)
+      go None q z = next_lost i q z
 
-  pub next_none : (n : ℕ) → image.count ≡ n → next_of keys.csns found csn n ≡ Nowhere → left_by image found csn.0 ≡ []
-  next_none n c e = go (first_below runs image.count) refl (sym next_by ∙ ap (next_of keys.csns found csn) c ∙ e)
+  pub next_none : next_of txs found csn ≡ None → left_by image found csn.0 ≡ []
+  next_none e = go (first_below runs image.count) refl (sym next_by ∙ e)
     where
-      go : (x : Slot) → first_below runs image.count ≡ x → or_best x (best_at image found csn image.count) ≡ Nowhere → left_by image found csn.0 ≡ []
-      go (At j) q z = clash (cc)
-      go Nowhere q z =
-          let g : Good image found csn image.count Nowhere (best_at image found csn image.count).top.0 =
+      go : (x : Slot) → first_below runs image.count ≡ x → or_best x (best_at image found csn image.count) ≡ None → left_by image found csn.0 ≡ []
+      go (Some j) q z = clash (cc)
+      go None q z =
+          let g : Good image found csn image.count None (best_at image found csn image.count).top.0 =
           subst (λ (f : Slot). Good image found csn image.count f (best_at image found csn image.count).top.0) z (good image found csn image.count) in
           ap₂ (λ (xs ys : List Tx). xs ++ sort_desc ys) (filter_none runs (transaction_at image) image.count q) g.1

@@ -6,7 +6,7 @@ use mathlib.Core.List.{List, [], ◌∷◌}
 use mathlib.Core.Option.{Option, none, some}
 use mathlib.Core.Path.{◌≡◌, refl, sym, ap, ◌∙◌}
 use lib.Dec.{eqb}
-use lib.ListN.{length, get_or, take, drop, length-drop}
+use lib.ListN.{length, take, drop, length-drop}
 use lib.Seq.{drop-drop, take-nil}
 use Rattle.recovery.specs.Group.{Write, Group, committed, aborted, redo_size, group_size, csn_after}
 use Rattle.recovery.specs.Replay.{redo_all, undo_all, lay_bytes}
@@ -15,18 +15,20 @@ use Rattle.redolog.specs.Log.{read_log}
 use Rattle.redolog.proofs.Basics.{clash}
 use Rattle.redolog.proofs.GroupLaws.{group_inv, group_within}
 use Rattle.redolog.proofs.LogLaws.{log_none, log_more}
-use Rattle.redolog.specs.declared.TxId.{TxId}
 use Rattle.image.specs.declared.Image.{Image}
-use Rattle.image.specs.declared.keys.Keys.{Keys}
-use Rattle.image.specs.Keys.{keys_of}
+use Rattle.image.specs.declared.read.TxHead.{TxHead}
+use Rattle.image.specs.Keys.{no_head}
 use Rattle.restart.specs.declared.forward.Pass.{Pass}
 use Rattle.restart.specs.declared.forward.Turn.{Turn}
-use Rattle.restart.specs.declared.forward.Slot.{Slot}
-use Rattle.restart.specs.declared.forward.Slot.TheVariants.{At, Nowhere}
-use Rattle.restart.specs.Slots.{transaction_at, image_slot}
-use Rattle.restart.specs.Forward.{Went, went_by, undo_logged, past, after_group, go_over}
-use Rattle.restart.specs.Turns.{has_id_in, slot_in, unfinished_at, front_writes, TurnEnd, turn_end_by, on_group, turn_step}
-use Rattle.restart.proofs.SlotLaws.{first_at, slot_in_lem}
+use Rattle.std.specs.Prelude.{Some, None}
+use Rattle.std.specs.Prelude.{Option as Maybe}
+use Rattle.restart.specs.Slots.{Slot, transaction_at, image_slot}
+use Rattle.restart.specs.Forward.{Endings, open_at, Went, went_by, undo_logged, past, after_group, go_over}
+use Rattle.restart.specs.declared.forward.Ending.TheVariants.{Commit, Abort}
+use Rattle.restart.specs.Turns.{slot_in, unfinished_at, front_writes, TurnEnd, turn_end_by, on_group, turn_step}
+use Rattle.restart.proofs.Shown.{Shown}
+use Rattle.restart.proofs.SlotLaws.{slot_in_lem}
+use Rattle.std.proofs.lemmas.List.Quantifiers.{position-Some}
 use Rattle.restart.proofs.RedoLaws.{front_body}
 
 -- what the pass leads to from here, over k groups more
@@ -62,7 +64,7 @@ module _ (image : Image) (log : List ℕ) (w : Went) where
   end_after g = refl
 
   -- none stands there
-  rest_none : (k : ℕ) → here ≡ none → rest k image log w ≡ w
+  pub rest_none : (k : ℕ) → here ≡ none → rest k image log w ≡ w
   rest_none k e = ap (λ (gs : List Group). go_over image (take k gs) w) (log_none _ _ e) ∙ ap (λ (gs : List Group). go_over image gs w) (take-nil k)
 
   rest_group : (k : ℕ) (g : Group) → here ≡ some g → rest (suc k) image log w ≡ rest k image log (after_group image g w)
@@ -100,117 +102,117 @@ module _ (image : Image) (log : List ℕ) (w : Went) where
           let r = step_room log w.pass g h e in
           (omega arith, omega arith)
 
-  -- the last turn where no group stands any more: the end stands still
-  pub rest_done : (k : ℕ) → (group_step image log w).pass.end ≡ w.pass.end → rest k image log w ≡ group_step image log w
-  rest_done k h = go here refl
-    where
-      go : (x : Option Group) → here ≡ x → rest k image log w ≡ group_step image log w
-      go none e = rest_none k e ∙ sym (step_none e)
-      go (some g) e =
-          let k = grown g e in
-          let z = group_within _ _ g e in
-          absurd (omega arith)
-
 -- ---- a turn of the code: what an abort undoes is undone after it
 
 -- the transaction in this slot undone
 abbrev pub undone_at : Image → Slot → List ℕ → List ℕ
-undone_at image Nowhere m = m
-undone_at image (At i) m = undo_all lay_bytes (transaction_at image i).undo m
+undone_at image None m = m
+undone_at image (Some i) m = undo_all lay_bytes (transaction_at image i).undo m
 
-abbrev pub undone_turn : Image → TurnEnd → Went
-undone_turn image s = went_by (undone_at image s.turn.undo s.memory) s.turn.pass
+abbrev pub after_turn : Image → Went → List ℕ → Maybe Turn → Went
+after_turn image w m None = w
+after_turn image w m (Some t) = went_by (undone_at image t.undo m) t.pass
 
-undo_same : (image : Image) (found : List ℕ) (slot : Slot) (m : List ℕ) → undo_logged image found slot m ≡ undone_at image (unfinished_at found slot) m
-undo_same image found Nowhere m = refl
-undo_same image found (At i) m = go (eqb (get_or found i 0) 0)
+abbrev pub undone_turn : Image → Went → TurnEnd → Went
+undone_turn image w s = after_turn image w s.memory s.turn
+
+undo_same : (image : Image) (found : Endings) (slot : Slot) (m : List ℕ) → undo_logged image found slot m ≡ undone_at image (unfinished_at found slot) m
+undo_same image found None m = refl
+undo_same image found (Some i) m = go (open_at found i)
   where
-    go : (b : Bool) → cond b (undo_all lay_bytes (transaction_at image i).undo m) m ≡ undone_at image (cond b (At i) Nowhere) m
+    go : (b : Bool) → cond b (undo_all lay_bytes (transaction_at image i).undo m) m ≡ undone_at image (cond b (Some i) None) m
     go true = refl
     go false = refl
 
-module _ (ids : List TxId) (n : ℕ) (log : List ℕ) (w : Went) where
+module _ (txs : List TxHead) (log : List ℕ) (w : Went) where
   abbrev read : Option Group
   read = read_group w.pass.csn.0 (drop w.pass.end log)
 
-  turn_by : (x : Option Group) → read ≡ x → turn_step ids n log w ≡ on_group ids n x w
+  turn_by : (x : Option Group) → read ≡ x → turn_step txs log w ≡ on_group txs x w
   unfolding turn_step
-  turn_by x e = ap (λ (y : Option Group). on_group ids n y w) e
+  turn_by x e = ap (λ (y : Option Group). on_group txs y w) e
 
-  pub turn_none : read ≡ none → turn_step ids n log w ≡ turn_end_by w.memory w.pass Nowhere
+  pub turn_none : read ≡ none → turn_step txs log w ≡ record { memory = w.memory; turn = None }
   turn_none e = turn_by none e
 
-  pub turn_abort : (id k : ℕ) (slot undo : Slot) → read ≡ some (aborted id) → k ≡ 4 → slot ≡ slot_in ids n id → undo ≡ unfinished_at w.pass.found slot
-      → turn_step ids n log w ≡ turn_end_by w.memory (past w.pass slot id w.pass.csn.0 2 (w.pass.end + k)) undo
+  pub turn_abort : (id k : ℕ) (slot undo : Slot) → read ≡ some (aborted id) → k ≡ 4 → slot ≡ slot_in txs id → undo ≡ unfinished_at w.pass.found slot
+      → turn_step txs log w ≡ turn_end_by w.memory (past w.pass slot id w.pass.csn.0 Abort (w.pass.end + k)) undo
   turn_abort id k slot undo e h x q = rw (q, h, x) (turn_by _ e)
 
   pub turn_commit : (id csn k : ℕ) (slot : Slot) (ws : List Write) (m : List ℕ) → read ≡ some (committed id csn ws)
-      → k ≡ redo_size ws + 8 → slot ≡ slot_in ids n id → m ≡ redo_all lay_bytes (front_writes (drop w.pass.end log)) w.memory
-      → turn_step ids n log w ≡ turn_end_by m (past w.pass slot id csn 1 (w.pass.end + k)) Nowhere
+      → k ≡ redo_size ws + 8 → slot ≡ slot_in txs id → m ≡ redo_all lay_bytes (front_writes (drop w.pass.end log)) w.memory
+      → turn_step txs log w ≡ turn_end_by m (past w.pass slot id csn Commit (w.pass.end + k)) None
   turn_commit id csn k slot ws m e h x q =
       let f = front_body (w.pass.csn.0 + 1) id ws (drop w.pass.end log) (group_inv _ _ (committed id csn ws) e).1 in
       rw (q, h, x, f) (turn_by _ e)
 
   -- a commit alone leaves memory
   pub turn_empty : (id csn k : ℕ) (slot : Slot) (ws : List Write) → read ≡ some (committed id csn ws) → k ≡ redo_size ws + 8 → k ≡ 8
-      → slot ≡ slot_in ids n id → turn_step ids n log w ≡ turn_end_by w.memory (past w.pass slot id csn 1 (w.pass.end + k)) Nowhere
+      → slot ≡ slot_in txs id → turn_step txs log w ≡ turn_end_by w.memory (past w.pass slot id csn Commit (w.pass.end + k)) None
   turn_empty id csn k slot [] e h z x = rw (h, x) (turn_by _ e)
   turn_empty id csn k slot (v ∷ ws) e h z x = absurd (omega (arith, h, z))
 
   -- the two parts of a turn from those of what it is
-  pub as_turn : (v : TurnEnd) (t : Turn) (m : List ℕ) → turn_step ids n log w ≡ v → t ≡ v.turn → m ≡ v.memory
-      → (t ≡ (turn_step ids n log w).turn) × (m ≡ (turn_step ids n log w).memory)
+  pub as_turn : (v : TurnEnd) (t : Maybe Turn) (m : List ℕ) → turn_step txs log w ≡ v → t ≡ v.turn → m ≡ v.memory
+      → (t ≡ (turn_step txs log w).turn) × (m ≡ (turn_step txs log w).memory)
   as_turn v t m e a b = (a ∙ ap (λ (x : TurnEnd). x.turn) (sym e), b ∙ ap (λ (x : TurnEnd). x.memory) (sym e))
 
-  -- one that is to be undone has a slot, and its abort record was passed
-  pub turn_undo : (i : ℕ) → (turn_step ids n log w).turn.undo ≡ At i → (i < n) × (w.pass.end < (turn_step ids n log w).turn.pass.end)
-  unfolding past
-  turn_undo i h = go read refl
+  -- no turn: no group stands there, and memory stays
+  pub turn_stop : (turn_step txs log w).turn ≡ None → (read ≡ none) × ((turn_step txs log w).memory ≡ w.memory)
+  turn_stop h = go read refl
     where
-      found : (id : ℕ) (x : Slot) → slot_in ids n id ≡ x → unfinished_at w.pass.found x ≡ At i → i < n
-      found id Nowhere e q = clash (cc)
-      found id (At j) e q =
-          let s = at_same (eqb (get_or w.pass.found j 0) 0) j q in
-          omega (arith, s, (first_at (has_id_in ids id) n j e).0)
+      go : (x : Option Group) → read ≡ x → (read ≡ none) × ((turn_step txs log w).memory ≡ w.memory)
+      go none e = (e, ap (λ (x : TurnEnd). x.memory) (turn_none e))
+      go (some g) e = let z = sym (ap (λ (x : TurnEnd). x.turn) (turn_by (some g) e)) ∙ h in clash (cc)
+
+  -- one that is to be undone has a slot
+  pub turn_undo : (t : Turn) (i : ℕ) → (turn_step txs log w).turn ≡ Some t → t.undo ≡ Some i → i < length txs
+  turn_undo t i h u = go read refl
+    where
+      found : (id : ℕ) (x : Slot) → slot_in txs id ≡ x → unfinished_at w.pass.found x ≡ Some i → i < length txs
+      found id None e q = clash (cc)
+      found id (Some j) e q =
+          let s = at_same (open_at w.pass.found j) j q in
+          omega (arith, s, (position-Some (λ (t : TxHead). eqb t.key.id.0 id) txs j no_head e).0)
         where
-          at_same : (b : Bool) (j : ℕ) → cond b (At j) Nowhere ≡ At i → j ≡ i
+          at_same : (b : Bool) (j : ℕ) → cond b (Some j) None ≡ Some i → j ≡ i
           at_same true j q = cc
           at_same false j q = clash (cc)
 
-      none_undone : (v : TurnEnd) → turn_step ids n log w ≡ v → v.turn.undo ≡ At i
-      none_undone v e = ap (λ (x : TurnEnd). x.turn.undo) (sym e) ∙ h
+      turned : (m : List ℕ) (p : Pass) (x : Slot) → turn_step txs log w ≡ turn_end_by m p x → x ≡ Some i
+      turned m p x e =
+          let z : ◌≡◌ {A = Maybe Turn} (Some (record { pass = p; undo = x })) (Some t) = sym (ap (λ (x : TurnEnd). x.turn) e) ∙ h in
+          let y : ◌≡◌ {A = Turn} (record { pass = p; undo = x }) t = cc in
+          ap (λ (t : Turn). t.undo) y ∙ u
 
-      go : (x : Option Group) → read ≡ x → (i < n) × (w.pass.end < (turn_step ids n log w).turn.pass.end)
-      go none e = let z = none_undone _ (turn_by none e) in clash (cc)
-      go (some (committed id c ws)) e = let z = none_undone _ (turn_by _ e) in clash (cc)
-      go (some (aborted id)) e =
-          let t = turn_by (some (aborted id)) e in
-          let k : (turn_step ids n log w).turn.pass.end ≡ w.pass.end + 4 = ap (λ (x : TurnEnd). x.turn.pass.end) t in
-          (found id (slot_in ids n id) refl (none_undone _ t), omega (arith, k))
+      go : (x : Option Group) → read ≡ x → i < length txs
+      go none e = let z = sym (ap (λ (x : TurnEnd). x.turn) (turn_none e)) ∙ h in clash (cc)
+      go (some (committed id c ws)) e = let z = turned _ _ _ (turn_by _ e) in clash (cc)
+      go (some (aborted id)) e = found id (slot_in txs id) refl (turned _ _ _ (turn_by (some (aborted id)) e))
 
--- for the ids of the image
-pub turn_step_lem : (image : Image) (keys : Keys) (n : ℕ) (log : List ℕ) (w : Went) → keys ≡ keys_of image.txs → image.count ≡ n → n ≤ 8
-    → group_step image log w ≡ undone_turn image (turn_step keys.ids n log w)
-turn_step_lem image keys n log w k c few = go (read_group w.pass.csn.0 (drop w.pass.end log)) refl
+-- for the heads of the image
+pub turn_step_lem : (image : Image) (s : List ℕ) (txs : List TxHead) (log : List ℕ) (w : Went) → Shown image s txs
+    → group_step image log w ≡ undone_turn image w (turn_step txs log w)
+turn_step_lem image s txs log w v = go (read_group w.pass.csn.0 (drop w.pass.end log)) refl
   where
-    same : (id : ℕ) → image_slot image id ≡ slot_in keys.ids n id
-    same id = sym (slot_in_lem image keys n k c few id)
+    same : (id : ℕ) → image_slot image id ≡ slot_in txs id
+    same id = sym (slot_in_lem image s txs v id)
 
     turned : (x : Option Group) → read_group w.pass.csn.0 (drop w.pass.end log) ≡ x
-        → undone_turn image (on_group keys.ids n x w) ≡ undone_turn image (turn_step keys.ids n log w)
-    turned x e = ap (undone_turn image) (sym (turn_by keys.ids n log w x e))
+        → undone_turn image w (on_group txs x w) ≡ undone_turn image w (turn_step txs log w)
+    turned x e = ap (undone_turn image w) (sym (turn_by txs log w x e))
 
     go : (x : Option Group) → read_group w.pass.csn.0 (drop w.pass.end log) ≡ x
-        → group_step image log w ≡ undone_turn image (turn_step keys.ids n log w)
+        → group_step image log w ≡ undone_turn image w (turn_step txs log w)
     go none e = step_none image log w e ∙ turned none e
     go (some (committed id c ws)) e =
         step_by image log w _ e
-        ∙ ap (λ (slot : Slot). went_by (redo_all lay_bytes ws w.memory) (past w.pass slot id c 1 (w.pass.end + (redo_size ws + 8)))) (same id)
+        ∙ ap (λ (slot : Slot). went_by (redo_all lay_bytes ws w.memory) (past w.pass slot id c Commit (w.pass.end + (redo_size ws + 8)))) (same id)
         ∙ turned _ e
     go (some (aborted id)) e =
         step_by image log w _ e
         ∙ ap (λ (slot : Slot).
-        went_by (undo_logged image w.pass.found slot w.memory) (past w.pass slot id w.pass.csn.0 2 (w.pass.end + 4))) (same id)
-        ∙ ap (λ (m : List ℕ). went_by m (past w.pass (slot_in keys.ids n id) id w.pass.csn.0 2 (w.pass.end + 4)))
-        (undo_same image w.pass.found (slot_in keys.ids n id) w.memory)
+        went_by (undo_logged image w.pass.found slot w.memory) (past w.pass slot id w.pass.csn.0 Abort (w.pass.end + 4))) (same id)
+        ∙ ap (λ (m : List ℕ). went_by m (past w.pass (slot_in txs id) id w.pass.csn.0 Abort (w.pass.end + 4)))
+        (undo_same image w.pass.found (slot_in txs id) w.memory)
         ∙ turned _ e

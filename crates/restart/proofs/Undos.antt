@@ -6,6 +6,7 @@ use mathlib.Core.List.{List, [], ◌∷◌, ◌++◌, map}
 use mathlib.Core.Path.{◌≡◌, refl, sym, ap, ap₂, ◌∙◌}
 use lib.ListN.{length, get_or, set, take, replicate, length-append, length-map}
 use lib.Seq.{sets, sets-eq, take-suc, take-append-le, take_all, length-take-le}
+use Rattle.std.proofs.lemmas.List.{map-append}
 use Rattle.recovery.specs.Group.{Group}
 use Rattle.recovery.specs.Transaction.{Tx}
 use Rattle.recovery.specs.Replay.{undo_all, undo_each, lay_bytes}
@@ -30,10 +31,6 @@ aborts_length (t ∷ ts) = let h = aborts_length ts in omega arith
 
 -- ---- one after the other
 
-map_append : {A B : Type 0} (f : A → B) (xs ys : List A) → map f (xs ++ ys) ≡ map f xs ++ map f ys
-map_append f [] ys = refl
-map_append {B = B} f (x ∷ xs) ys = ap (λ (l : List B). f x ∷ l) (map_append f xs ys)
-
 -- these undone: from memory m to m₁, with their ids in the first k places
 sets_snoc : {A : Type 0} (l xs : List A) (x : A) (o k : ℕ) → o + length xs ≡ k → sets l o (xs ++ (x ∷ [])) ≡ set (sets l o xs) k x
 sets_snoc l [] x o k e = ap (λ (j : ℕ). set l j x) (let z : o ≡ k = omega (arith, e) in z)
@@ -47,9 +44,6 @@ pub record Undid (ts : List Tx) (m m₁ : List ℕ) (listed : List TxId) (k : �
   pub memory : m₁ ≡ undo_each lay_bytes ts m
   pub ids : listed ≡ sets no_ids 0 (map tx_id_of ts)
 
-pub undid_none : (m : List ℕ) → Undid [] m m no_ids 0
-undid_none m = record { count = refl; memory = refl; ids = refl }
-
 pub undid_more : (ts : List Tx) (t : Tx) (m m₁ m₂ : List ℕ) (ids : List TxId) (id : TxId) (k : ℕ) → Undid ts m m₁ ids k
     → m₂ ≡ undo_all lay_bytes t.undo m₁ → id ≡ tx_id_of t → Undid (ts ++ (t ∷ [])) m m₂ (set ids k id) (k + 1)
 undid_more ts t m m₁ m₂ ids id k a p q =
@@ -58,7 +52,7 @@ undid_more ts t m m₁ m₂ ids id k a p q =
       count = omega (arith, length-append ts (t ∷ []), a.count);
       memory = p ∙ ap (undo_all lay_bytes t.undo) a.memory ∙ sym (undo_each_append lay_bytes ts (t ∷ []) m);
       ids = ap₂ (λ (l : List TxId) (x : TxId). set l k x) a.ids q
-          ∙ sym (ap (sets no_ids 0) (map_append tx_id_of ts (t ∷ [])) ∙ sets_snoc no_ids (map tx_id_of ts) (tx_id_of t) 0 k n);
+          ∙ sym (ap (sets no_ids 0) (map-append tx_id_of ts (t ∷ [])) ∙ sets_snoc no_ids (map tx_id_of ts) (tx_id_of t) 0 k n);
     }
 
 pub undid_all : (ts : List Tx) (m m₁ : List ℕ) (ids : List TxId) (k : ℕ) → Undid ts m m₁ ids k → record { count = k; ids = ids } ≡ undone_list ts
@@ -76,6 +70,11 @@ unfolding aborts_laid
 laid_none [] tail = refl
 laid_none (i ∷ ids) tail = refl
 
+-- of a part of the ids
+pub laid_part : (ids : List TxId) (n : ℕ) (tail : List ℕ) → n ≤ length ids → aborts_laid (take n ids) (length (take n ids)) tail ≡ aborts_laid ids n tail
+unfolding aborts_laid
+laid_part ids n tail h = ap (λ (l : List TxId). sets tail 0 (encode_log (map abort_of l))) (take_all (length (take n ids)) (take n ids) (omega arith))
+
 -- one more
 pub laid_more : (ids : List TxId) (n : ℕ) (id : TxId) (t t₁ t₂ : List ℕ) → n < length ids → id ≡ get_or ids n (record { 0 = 0 })
     → t₁ ≡ aborts_laid ids n t → t₂ ≡ sets t₁ (n * 4) (encode (abort id.0)) → t₂ ≡ aborts_laid ids (n + 1) t
@@ -90,7 +89,7 @@ laid_more ids n id t t₁ t₂ h e a b =
     ∙ ap₂ (λ (l : List ℕ) (j : ℕ). sets l j (encode (abort id.0))) a m
     ∙ sym
     (ap (λ (l : List TxId). sets t 0 (encode_log (map abort_of l))) more
-    ∙ ap (λ (gs : List Group). sets t 0 (encode_log gs)) (map_append abort_of xs (id ∷ []))
+    ∙ ap (λ (gs : List Group). sets t 0 (encode_log gs)) (map-append abort_of xs (id ∷ []))
     ∙ ap (sets t 0) (encode_append (map abort_of xs) (abort_of id ∷ []))
     ∙ sets_append t 0 (encode_log (map abort_of xs)) (encode (abort id.0) ++ []))
 

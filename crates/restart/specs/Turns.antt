@@ -1,6 +1,6 @@
 -- What the contracts of the inner functions cite beside the steps: what they rest on, and single turns of their loops. `restart_of` has none
 -- of it.
-use Rattle.std.specs.Prelude.{ℕ, zero, suc, ◌+◌, ◌≤◌, ◌<◌, Bool, cond, not, ◌&&◌, List, [], ◌∷◌, map, ◌≡◌, length, get_or, take, drop, replicate, eqb, ltb}
+use Rattle.std.specs.Prelude.{ℕ, zero, suc, ◌+◌, ◌≤◌, ◌<◌, Bool, cond, not, ◌&&◌, List, [], ◌∷◌, map, ◌≡◌, length, get_or, take, drop, replicate, eqb, ltb, ◌==◌, Option as Maybe, Some, None, is_none, position, zip}
 use Rattle.std.proofs.Math.Option.{Option, none, some}
 use Rattle.std.proofs.lemmas.List.Edits.{sets}
 use Rattle.layout.specs.{redo_len, max_txs, status_running, status_committing}
@@ -15,15 +15,15 @@ use Rattle.redolog.specs.Reader.{whole}
 use Rattle.redolog.specs.Group.{read_group}
 use Rattle.redolog.specs.Log.{encode_log}
 use Rattle.image.specs.declared.Image.{Image}
+use Rattle.image.specs.declared.read.TxHead.{TxHead}
 use Rattle.image.specs.Slots.{slot_at}
+use Rattle.image.specs.Keys.{no_head}
+use Rattle.restart.specs.declared.forward.Ending.{Ending}
 use Rattle.restart.specs.declared.forward.Pass.{Pass}
 use Rattle.restart.specs.declared.forward.Turn.{Turn}
-use Rattle.restart.specs.declared.forward.Slot.{Slot}
-use Rattle.restart.specs.declared.forward.Slot.TheVariants.{At, Nowhere}
-use Rattle.restart.specs.declared.undo.Best.{Best}
 use Rattle.restart.specs.declared.undo.Undone.{Undone}
-use Rattle.restart.specs.Slots.{first_below}
-use Rattle.restart.specs.Forward.{Went, code_of, past, forward_of}
+use Rattle.restart.specs.Slots.{Slot}
+use Rattle.restart.specs.Forward.{Went, Endings, open_at, ending_of, past, forward_of}
 use Rattle.restart.specs.Undo.{undone_of}
 
 -- of the image rules, what step 4 rests on: a running transaction has no number, a committing one has
@@ -34,8 +34,8 @@ pub record StatusByCsn (image : Image) : Type 0 where
 
 -- a slot, if it is one, lies below n
 abbrev pub Below : ℕ → Slot → Type 0
-Below n Nowhere = Unit {0}
-Below n (At i) = i < n
+Below n None = Unit {0}
+Below n (Some i) = i < n
 
 -- ---- the redo records at the front of a list of bytes
 
@@ -68,74 +68,74 @@ front_writes s = whole redo_step [] 0 s
 
 -- ---- one group
 
--- where an id stands among the first n
-abbrev pub id_in : List TxId → ℕ → ℕ
-id_in ids i = (get_or ids i (record { 0 = 0 })).0
-
-abbrev pub has_id_in : List TxId → ℕ → ℕ → Bool
-has_id_in ids id i = eqb (id_in ids i) id
-
-abbrev pub slot_in : List TxId → ℕ → ℕ → Slot
-slot_in ids n id = first_below (has_id_in ids id) n
+-- where an id stands in a list of heads
+abbrev pub slot_in : List TxHead → ℕ → Slot
+slot_in txs id = position (λ t. t.key.id.0 == id) txs
 
 -- the slot, if its transaction is unfinished
-abbrev pub unfinished_at : List ℕ → Slot → Slot
-unfinished_at found Nowhere = Nowhere
-unfinished_at found (At i) = cond (eqb (get_or found i 0) 0) (At i) Nowhere
+abbrev pub unfinished_at : Endings → Slot → Slot
+unfinished_at found None = None
+unfinished_at found (Some i) = cond (open_at found i) (Some i) None
 
--- what a turn of the pass leaves: memory without what is still to be undone
+-- what a turn of the pass leaves: memory without what is still to be undone; none where no group stands
 pub record TurnEnd : Type 0 where
   pub memory : List ℕ
-  pub turn : Turn
+  pub turn : Maybe Turn
 
 abbrev pub turn_end_by : List ℕ → Pass → Slot → TurnEnd
-turn_end_by m p slot = record { memory = m; turn = record { pass = p; undo = slot } }
+turn_end_by m p slot = record { memory = m; turn = Some (record { pass = p; undo = slot }) }
 
 -- a commit is done, an abort not yet
 abbrev pub redone : Group → List ℕ → List ℕ
 redone (committed id csn ws) m = redo_all lay_bytes ws m
 redone (aborted id) m = m
 
-abbrev pub to_undo : List TxId → ℕ → Group → List ℕ → Slot
-to_undo ids n (committed id csn ws) found = Nowhere
-to_undo ids n (aborted id) found = unfinished_at found (slot_in ids n id)
+abbrev pub to_undo : List TxHead → Group → Endings → Slot
+to_undo txs (committed id csn ws) found = None
+to_undo txs (aborted id) found = unfinished_at found (slot_in txs id)
 
-abbrev pub pass_by : List TxId → ℕ → Group → Pass → Pass
-pass_by ids n g p = past p (slot_in ids n (group_id g)) (group_id g) (csn_after p.csn.0 g) (code_of g) (p.end + group_size g)
+abbrev pub pass_by : List TxHead → Group → Pass → Pass
+pass_by txs g p = past p (slot_in txs (group_id g)) (group_id g) (csn_after p.csn.0 g) (ending_of g) (p.end + group_size g)
 
 -- past the group at the end reached, if one stands there
-abbrev pub on_group : List TxId → ℕ → Option Group → Went → TurnEnd
-on_group ids n none w = turn_end_by w.memory w.pass Nowhere
-on_group ids n (some g) w = turn_end_by (redone g w.memory) (pass_by ids n g w.pass) (to_undo ids n g w.pass.found)
+abbrev pub on_group : List TxHead → Option Group → Went → TurnEnd
+on_group txs none w = record { memory = w.memory; turn = None }
+on_group txs (some g) w = turn_end_by (redone g w.memory) (pass_by txs g w.pass) (to_undo txs g w.pass.found)
 
-unfoldable pub turn_step : List TxId → ℕ → List ℕ → Went → TurnEnd
-turn_step ids n log w = on_group ids n (read_group w.pass.csn.0 (drop w.pass.end log)) w
+unfoldable pub turn_step : List TxHead → List ℕ → Went → TurnEnd
+turn_step txs log w = on_group txs (read_group w.pass.csn.0 (drop w.pass.end log)) w
 
 -- ---- the next one that step 4 undoes
 
-abbrev pub csn_in : List Csn → ℕ → ℕ
-csn_in csns i = (get_or csns i (record { 0 = 0 })).0
+-- unfinished and running, by its head and what was found of it
+abbrev pub running_in : TxHead × Maybe Ending → Bool
+running_in t = is_none t.1 && (t.0.key.csn.0 == 0)
 
--- unfinished and running
-abbrev pub running_in : List Csn → List ℕ → ℕ → Bool
-running_in csns found i = eqb (get_or found i 0) 0 && eqb (csn_in csns i) 0
+-- the first one that is
+abbrev pub first_running : List TxHead → Endings → Slot
+first_running txs found = position running_in (zip txs found)
 
--- the better of b and a transaction of that code, which stands in slot i: one that is unfinished, with a higher number
-unfoldable pub better_of : Csn → ℕ → Best → ℕ → Best
-better_of csn code b i = cond (eqb code 0 && ltb b.top.0 csn.0) (record { at = At i; top = csn }) b
+-- a slot, and the number that is the highest so far
+pub record Best : Type 0 where
+  pub at : Slot
+  pub top : Csn
+
+-- the better of b and a transaction of that number, which stands in slot i: one that is unfinished, with a higher number
+unfoldable pub better_of : Csn → Maybe Ending → Best → ℕ → Best
+better_of csn found b i = cond (is_none found && ltb b.top.0 csn.0) (record { at = Some i; top = csn }) b
 
 -- the best of the first n slots: the unfinished one with the highest number above csn
-abbrev pub best_of : List Csn → List ℕ → Csn → ℕ → Best
-best_of csns found csn zero = record { at = Nowhere; top = csn }
-best_of csns found csn (suc n) = better_of (get_or csns n (record { 0 = 0 })) (get_or found n 0) (best_of csns found csn n) n
+abbrev pub best_of : List TxHead → Endings → Csn → ℕ → Best
+best_of txs found csn zero = record { at = None; top = csn }
+best_of txs found csn (suc n) = better_of (get_or txs n no_head).key.csn (get_or found n None) (best_of txs found csn n) n
 
 -- the first running one; if none is left, the committing one with the highest number
 abbrev pub or_best : Slot → Best → Slot
-or_best (At i) b = At i
-or_best Nowhere b = b.at
+or_best (Some i) b = Some i
+or_best None b = b.at
 
-abbrev pub next_of : List Csn → List ℕ → Csn → ℕ → Slot
-next_of csns found csn n = or_best (first_below (running_in csns found) n) (best_of csns found csn n)
+abbrev pub next_of : List TxHead → Endings → Csn → Slot
+next_of txs found csn = or_best (first_running txs found) (best_of txs found csn (length txs))
 
 -- ---- those undone
 

@@ -1,140 +1,84 @@
 // Step 4: what the pass left unfinished is undone, each with an abort record in the tail.
-ghost use Rattle.std.specs.Prelude.{◌≡◌, ◌&&◌, ◌≤◌, length, eqb};
-ghost use Rattle.layout.specs.{memory_len, tail_len, max_txs};
+ghost use Rattle.std.specs.Prelude.{◌≡◌, ◌≤◌, length};
+ghost use Rattle.layout.specs.{max_txs};
 ghost use Rattle.recovery.specs.Replay.{undo_each, lay_bytes};
 ghost use Rattle.image.specs.Heads.{image_by, HeadsFit};
-ghost use Rattle.restart.specs.Slots.{first_below};
 ghost use Rattle.restart.specs.Undo.{undone_of};
-ghost use Rattle.restart.specs.Turns.{StatusByCsn, running_in, better_of, best_of, next_of, undone_list, aborts_laid};
+ghost use Rattle.restart.specs.Turns.{StatusByCsn, first_running, best_of, next_of, undone_list, aborts_laid};
 
-use crate::forward::{Pass, Slot};
-use image::read::{Heads, lay_back};
-use layout::{ABORT_LEN, MAX_TXS};
+use crate::forward::{Ending, Pass};
+use image::read::{Heads, TxHead, lay_back};
+use layout::{ABORT_LEN, MAX_TXS, MEMORY_LEN, TAIL_LEN};
 use redolog::record::put_abort;
 use redolog::{Csn, TxId};
 
-// The committing transaction with the highest number so far, and that number.
-#[derive(Clone, Copy)]
-struct Best {
-    at: Slot,
-    top: Csn,
-}
-
-// Those undone, in order.
+// Those undone, in order: the first count ids. There is no heap for a list.
 #[derive(Clone, Copy)]
 pub(crate) struct Undone {
     pub(crate) count: usize,
     pub(crate) ids: [TxId; MAX_TXS],
 }
 
-// Unfinished and without a number: the image rules give one to each that is committing.
-fn is_running(csn: Csn, code: u8) -> bool
-    ensures { result ≡ eqb code 0 && eqb csn.0 0 }
+// The first one that is unfinished and without a number: the image rules give one to each that is committing.
+fn first_running(txs: &[TxHead], found: &[Option<Ending>; MAX_TXS]) -> Option<usize>
+    ensures { result ≡ first_running txs.now found.now }
 {
-    if code != 0 {
-        return false;
-    }
-    csn.0 == 0
-}
-
-fn first_running(csns: [Csn; MAX_TXS], found: [u8; MAX_TXS], n: usize) -> Slot
-    requires { n ≤ max_txs }
-    ensures { result ≡ first_below (running_in csns found) n }
-{
-    let mut i: usize = 0;
-    while i < n {
-        if is_running(csns[i], found[i]) {
-            return Slot::At(i);
-        }
-        i += 1;
-    }
-    Slot::Nowhere
-}
-
-// The better of b and the one in slot i.
-fn better(csn: Csn, code: u8, b: Best, i: usize) -> Best
-    ensures { result ≡ better_of csn code b i }
-{
-    if code != 0 {
-        return b;
-    }
-    if csn.0 <= b.top.0 {
-        return b;
-    }
-    Best {
-        at: Slot::At(i),
-        top: csn,
-    }
+    txs.iter()
+        .zip(found)
+        .position(|(tx, ending)| ending.is_none() && tx.key.csn == Csn(0))
 }
 
 // The unfinished one with the highest number above the last one found.
-fn highest(csns: [Csn; MAX_TXS], found: [u8; MAX_TXS], last: Csn, n: usize) -> Best
-    requires { n ≤ max_txs }
-    ensures { result ≡ best_of csns found last n }
+#[tactic(auto, unfolding(crate::specs::Turns::better_of))]
+fn highest(txs: &[TxHead], found: &[Option<Ending>; MAX_TXS], last: Csn) -> Option<usize>
+    requires { length txs.now ≤ max_txs }
+    ensures { result ≡ (best_of txs.now found.now last (length txs.now)).at }
 {
-    let mut b = Best {
-        at: Slot::Nowhere,
-        top: last,
-    };
-    let mut i: usize = 0;
-    while i < n {
-        b = better(csns[i], found[i], b, i);
-        i += 1;
+    let mut best = None;
+    let mut top = last;
+    for (i, tx) in txs.iter().enumerate() {
+        if found[i].is_none() && top < tx.key.csn {
+            best = Some(i);
+            top = tx.key.csn;
+        }
     }
-    b
+    best
 }
 
 // The next one to undo: the running ones in image order, then the committing ones whose number exceeds the last found, highest number first.
-fn next(csns: [Csn; MAX_TXS], found: [u8; MAX_TXS], last: Csn, n: usize) -> Slot
-    requires { n ≤ max_txs }
-    ensures { result ≡ next_of csns found last n }
+fn next(txs: &[TxHead], found: &[Option<Ending>; MAX_TXS], last: Csn) -> Option<usize>
+    requires { length txs.now ≤ max_txs }
+    ensures { result ≡ next_of txs.now found.now last }
 {
-    let first = first_running(csns, found, n);
-    let Slot::At(i) = first else {
-        let best = highest(csns, found, last, n);
-        return best.at;
-    };
-    Slot::At(i)
+    first_running(txs, found).or_else(|| highest(txs, found, last))
 }
 
 // Undoes what p left unfinished. s has the transactions of the image that h shows.
-pub(crate) fn undo_left(h: Heads, s: &[u8], p: Pass, memory: &mut [u8]) -> Undone
+pub(crate) fn undo_left(h: Heads, s: &[u8], p: Pass, memory: &mut [u8; MEMORY_LEN]) -> Undone
     requires heads_fit { HeadsFit h s.now × StatusByCsn (image_by h s.now) }
-    requires memory_len { length memory.old ≡ memory_len }
     ensures value { result ≡ undone_list (undone_of (image_by h s.now) p) }
     ensures memory_after { memory.new ≡ undo_each lay_bytes (undone_of (image_by h s.now) p) memory.old }
 {
-    let n = h.count as usize;
-    let keys = h.keys;
-    let csns = keys.csns;
-    let last = p.csn;
+    let txs = &h.txs[..h.counters.count as usize];
     let mut found = p.found;
-    let none = TxId(0);
-    let mut ids = [none; MAX_TXS];
-    let mut k: usize = 0;
-    loop {
-        let slot = next(csns, found, last, n);
-        let Slot::At(i) = slot else {
-            return Undone { count: k, ids: ids };
-        };
-        let place = h.at[i];
-        lay_back(&s[place..], memory);
-        let id = keys.ids[i];
-        ids[k] = id;
-        k += 1;
-        found[i] = 2;
+    let mut ids = [TxId(0); MAX_TXS];
+    let mut count: usize = 0;
+    while let Some(i) = next(txs, &found, p.csn) {
+        let tx = txs[i];
+        lay_back(&s[tx.at..], memory);
+        ids[count] = tx.key.id;
+        count += 1;
+        found[i] = Some(Ending::Abort);
     }
+    Undone { count, ids }
 }
 
-// Lays the abort records of the first n of these ids into the front of a tail.
-pub fn put_aborts(ids: [TxId; MAX_TXS], n: usize, tail: &mut [u8])
-    requires { (n ≤ max_txs) × (length tail.old ≡ tail_len) }
-    ensures { tail.new ≡ aborts_laid ids n tail.old }
+// Lays the abort records of these ids into the front of a tail.
+pub fn put_aborts(ids: &[TxId], tail: &mut [u8; TAIL_LEN])
+    requires { length ids.now ≤ max_txs }
+    ensures { tail.new ≡ aborts_laid ids.now (length ids.now) tail.old }
 {
-    let mut i: usize = 0;
-    while i < n {
-        let id = ids[i];
-        put_abort(tail, i * ABORT_LEN, id);
-        i += 1;
+    for (i, id) in ids.iter().enumerate() {
+        put_abort(tail, i * ABORT_LEN, *id);
     }
 }

@@ -8,16 +8,16 @@ use Rattle.restart.proofs.First.{first_whole}
 use Rattle.restart.proofs.Undos.{restart_case}
 use Rattle.restart.proofs.recover.Goals as goal
 
-pub forward-p-requires-clause-heads_fit : goal.forward-p-requires-clause-heads_fit
-forward-p-requires-clause-heads_fit c =
+pub forward-p-requires : goal.forward-p-requires
+forward-p-requires c =
     let f = c.requires.heads_fit in
     let n = shown_count c.args.h c.args.s.now f.0 in
-    (f.0, omega (arith, n, image_count (image_by c.args.h c.args.s.now) f.1))
+    record { heads_fit = (f.0, omega (arith, n, image_count (image_by c.args.h c.args.s.now) f.1)) }
 
-pub undo_left-left-requires-clause-heads_fit : goal.undo_left-left-requires-clause-heads_fit
-undo_left-left-requires-clause-heads_fit c =
+pub undo_left-left-requires : goal.undo_left-left-requires
+undo_left-left-requires c =
     let f = c.requires.heads_fit in
-    (f.0, status_by_csn (image_by c.args.h c.args.s.now) f.1)
+    record { heads_fit = (f.0, status_by_csn (image_by c.args.h c.args.s.now) f.1) }
 
 pub returns : goal.returns
 returns c =

@@ -6,12 +6,12 @@ use Rattle.restart.proofs.RedoLaws.{body_here, RedoTurn, redo_turn, redo_done}
 use Rattle.restart.proofs.forward.redo_all.Goals.{After-redo_one-k}
 use Rattle.restart.proofs.forward.redo_all.Goals as goal
 
-pub redo_one-k-requires-clause-by_index : goal.redo_one-k-requires-clause-by_index
-redo_one-k-requires-clause-by_index c =
+pub redo_one-k-requires : goal.redo_one-k-requires
+redo_one-k-requires c =
     let s = c.args.s.now in
     let l = c.loop-at in
     let w = body_here c.args.size s l.at l.invariant.rest c.loop-at-test.true in
-    (w.0, w.1, ap read_record (from s l.at) ∙ w.2)
+    record { by_index = (w.0, w.1, ap read_record (from s l.at) ∙ w.2) }
 
 -- what the turn did
 turned : (c : After-redo_one-k)

@@ -21,14 +21,14 @@ be16-at-requires c = let r = c.requires.by_index in omega (arith, (within c.args
 pub bounds-s-5 : goal.bounds-s-5
 bounds-s-5 c = let r = c.requires.by_index in omega (arith, (within c.args.s.now r.0 r.1 r.2).0)
 
-pub slice_bounds-copy-end : goal.slice_bounds-copy-end
-slice_bounds-copy-end c = let r = c.requires.by_index in omega (arith, (within c.args.s.now r.0 r.1 r.2).0)
+pub slice_bounds-bytes-end : goal.slice_bounds-bytes-end
+slice_bounds-bytes-end c = let r = c.requires.by_index in omega (arith, (within c.args.s.now r.0 r.1 r.2).0)
 
 pub copy-requires : goal.copy-requires
 copy-requires c =
     let r = c.requires.by_index in
     let m = (within c.args.s.now r.0 r.1 r.2).1 in
-    simp (length-take, length-drop) (omega (arith, m, c.be16-at.ensures, c.requires.memory_len))
+    simp (length-take, length-drop) (omega (arith, m, c.be16-at.ensures))
 
 pub returns : goal.returns
 returns c =

@@ -1,9 +1,6 @@
-use Rattle.std.proofs.Common.{◌≡◌, ◌-◌, ◌≤◌}
+use Rattle.std.proofs.Common.{◌≡◌}
 use Rattle.restart.specs.Turns.{aborts_laid}
 use Rattle.restart.proofs.undo.put_aborts.Given as goal
 
 abbrev pub invariant-loop-i : goal.invariant-loop-i
-invariant-loop-i l = record { in_range : l.i ≤ l.n; laid : l.tail ≡ aborts_laid l.ids l.i l.initial.tail }
-
-abbrev pub decreases-loop-i : goal.decreases-loop-i
-decreases-loop-i l = l.n - l.i
+invariant-loop-i l = l.tail ≡ aborts_laid l.ids l.i l.initial.tail

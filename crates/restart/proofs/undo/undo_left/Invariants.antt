@@ -8,12 +8,11 @@ use Rattle.restart.proofs.undo.undo_left.Given as goal
 abbrev pub invariant-loop-i : goal.invariant-loop-i
 invariant-loop-i l =
     record {
-      codes : length l.found ≡ 8;
-      whole : length l.memory ≡ 4096;
+      endings : length l.found ≡ 8;
       done : List Tx;
-      split : left_by (image_by l.h l.s) l.initial.found l.last.0 ≡ done ++ left_by (image_by l.h l.s) l.found l.last.0;
-      undid : Undid done l.initial.memory l.memory l.ids l.k;
+      split : left_by (image_by l.fn.h l.s) l.initial.found l.fn.p.csn.0 ≡ done ++ left_by (image_by l.fn.h l.s) l.found l.fn.p.csn.0;
+      undid : Undid done l.initial.memory l.memory l.ids l.count;
     }
 
 abbrev pub decreases-loop-i : goal.decreases-loop-i
-decreases-loop-i l = length (left_by (image_by l.h l.s) l.found l.last.0)
+decreases-loop-i l = length (left_by (image_by l.fn.h l.s) l.found l.fn.p.csn.0)
