@@ -3,6 +3,7 @@ use Prim.Native.Nat.{ℕ, zero, suc, ◌+◌, ◌*◌, ◌≤◌, ◌<◌}
 use native.Mathlib.Omega.{arith}
 use mathlib.Core.Bool.{Bool, true, false, cond, not, ◌&&◌, ◌||◌, or-true, and-false}
 use mathlib.Core.List.{List, []}
+use Rattle.std.specs.Prelude.{Option, Some, None, unwrap_or}
 use mathlib.Core.Path.{◌≡◌, refl, sym, ap, ◌∙◌, subst}
 use lib.ListN.{length, drop}
 use lib.Dec.{eqb, leb, ltb}
@@ -18,75 +19,73 @@ use Rattle.transaction.proofs.Lists.{every_at, length_up}
 use Rattle.transaction.proofs.StateRule.{running_ranges}
 use Rattle.transaction.proofs.RangeLaws.{size_bound}
 use Rattle.store.specs.declared.State.{State}
-use Rattle.store.specs.declared.admit.Measured.{Measured}
-use Rattle.store.specs.declared.admit.Admission.{Admission}
 use Rattle.store.specs.State.{tx_at, txs_of, outline_at, outlines_of}
 use Rattle.image.specs.Rules.{distinct, bounds_ok, outlines_ok}
 use Rattle.store.specs.Rules.{all_zero, tail_length, tail_ok, room_used, unfit}
 use Rattle.store.specs.Numbers.{Check, first_number, shared_checks, number_by}
-use Rattle.store.specs.Admission.{not_admitted, rule_broken, counters_ok, measured_if, measured_txs, measured_tail, admission, number_after, Seen}
+use Rattle.store.specs.Admission.{Admission, not_admitted, counters_ok, measured_if, measured_txs, measured_tail, admission, number_after, Seen}
 use Rattle.store.proofs.Fits.{Fit, fit, unfit_no}
 use Rattle.store.proofs.Checks.{stops, passes, passed}
 
 -- ---- what was measured
 
-if_ok : (b : Bool) (n : ℕ) → (measured_if b n).ok ≡ b
-if_ok true n = refl
-if_ok false n = refl
+none_if : (b : Bool) (n : ℕ) → measured_if b n ≡ None → b ≡ false
+none_if true n e = let w : Some n ≡ None = e in cc
+none_if false n e = refl
 
-if_room : (b : Bool) (n : ℕ) → b ≡ true → (measured_if b n).room ≡ n
-if_room b n e = rw e
+some_if : (b : Bool) (n r : ℕ) → measured_if b n ≡ Some r → (b ≡ true) × (r ≡ n)
+some_if true n r e = (refl, sym (ap (λ (o : Option ℕ). unwrap_or o 0) e))
+some_if false n r e = let w : None ≡ Some r = e in cc
 
 module _ (d a : ℕ) (t : List ℕ) where
-  pub other_csn : (last_csn d (read_log d t) ≡ a → ⊥) → measured_tail d a t ≡ rule_broken
+  pub other_csn : (last_csn d (read_log d t) ≡ a → ⊥) → measured_tail d a t ≡ None
   unfolding measured_tail
   other_csn h = rw (ne_eqb (last_csn d (read_log d t)) a h)
 
-  pub other_rest : all_zero (drop (tail_length d t) t) ≡ false → measured_tail d a t ≡ rule_broken
+  pub other_rest : all_zero (drop (tail_length d t) t) ≡ false → measured_tail d a t ≡ None
   unfolding measured_tail
   other_rest e = rw (e, and-false)
 
-  pub tail_right : last_csn d (read_log d t) ≡ a → all_zero (drop (tail_length d t) t) ≡ true → measured_tail d a t ≡ record { ok = true; room = tail_length d t }
+  pub tail_right : last_csn d (read_log d t) ≡ a → all_zero (drop (tail_length d t) t) ≡ true → measured_tail d a t ≡ Some (tail_length d t)
   unfolding measured_tail
   tail_right h e = rw (eq-eqb (last_csn d (read_log d t)) a h, e)
 
-  pub tail_measured : (r : Measured) → r ≡ measured_tail d a t → r.ok ≡ tail_ok d a t
+  pub tail_none : measured_tail d a t ≡ None → tail_ok d a t ≡ false
   unfolding measured_tail
-  tail_measured r e = ap (λ (x : Measured). x.ok) e ∙ if_ok (tail_ok d a t) (tail_length d t)
+  tail_none e = none_if (tail_ok d a t) (tail_length d t) e
 
-  pub tail_room : (r : Measured) → r ≡ measured_tail d a t → r.ok ≡ true → r.room ≡ tail_length d t
+  pub tail_some : (r : ℕ) → measured_tail d a t ≡ Some r → (tail_ok d a t ≡ true) × (r ≡ tail_length d t)
   unfolding measured_tail
-  tail_room r e o = ap (λ (x : Measured). x.room) e ∙ if_room (tail_ok d a t) (tail_length d t) (sym (tail_measured r e) ∙ o)
+  tail_some r e = some_if (tail_ok d a t) (tail_length d t) r e
 
 module _ (s : State) where
   abbrev outlined : Bool
   outlined = outlines_ok s.lastid.0 s.assigned.0 (outlines_of s)
 
-  pub bad_outline : every (outline_ok s.lastid.0 s.assigned.0) (outlines_of s) ≡ false → measured_txs s ≡ rule_broken
+  pub bad_outline : every (outline_ok s.lastid.0 s.assigned.0) (outlines_of s) ≡ false → measured_txs s ≡ None
   unfolding measured_txs
   bad_outline e = rw e
 
-  pub bad_alike : distinct (outlines_of s) ≡ false → measured_txs s ≡ rule_broken
+  pub bad_alike : distinct (outlines_of s) ≡ false → measured_txs s ≡ None
   unfolding measured_txs
   bad_alike e = rw (e, and-false)
 
-  pub bad_states : every state_ok (txs_of s) ≡ false → measured_txs s ≡ rule_broken
+  pub bad_states : every state_ok (txs_of s) ≡ false → measured_txs s ≡ None
   unfolding measured_txs
   bad_states e = rw (e, and-false)
 
   pub good_txs : every (outline_ok s.lastid.0 s.assigned.0) (outlines_of s) ≡ true → distinct (outlines_of s) ≡ true → every state_ok (txs_of s) ≡ true
-      → measured_txs s ≡ record { ok = true; room = sum_of room_of (txs_of s) }
+      → measured_txs s ≡ Some (sum_of room_of (txs_of s))
   unfolding measured_txs
   good_txs e f g = rw (e, f, g)
 
-  pub txs_measured : (r : Measured) → r ≡ measured_txs s → r.ok ≡ outlined && every state_ok (txs_of s)
+  pub txs_none : measured_txs s ≡ None → outlined && every state_ok (txs_of s) ≡ false
   unfolding measured_txs
-  txs_measured r e = ap (λ (x : Measured). x.ok) e ∙ if_ok (outlined && every state_ok (txs_of s)) (sum_of room_of (txs_of s))
+  txs_none e = none_if (outlined && every state_ok (txs_of s)) (sum_of room_of (txs_of s)) e
 
-  pub txs_room : (r : Measured) → r ≡ measured_txs s → r.ok ≡ true → r.room ≡ sum_of room_of (txs_of s)
+  pub txs_some : (r : ℕ) → measured_txs s ≡ Some r → (outlined && every state_ok (txs_of s) ≡ true) × (r ≡ sum_of room_of (txs_of s))
   unfolding measured_txs
-  txs_room r e o =
-      ap (λ (x : Measured). x.room) e ∙ if_room (outlined && every state_ok (txs_of s)) (sum_of room_of (txs_of s)) (sym (txs_measured r e) ∙ o)
+  txs_some r e = some_if (outlined && every state_ok (txs_of s)) (sum_of room_of (txs_of s)) r e
 
 -- ---- number 2
 

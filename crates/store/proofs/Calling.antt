@@ -13,13 +13,11 @@ use Rattle.transaction.specs.View.{used_by, writes_of}
 use Rattle.transaction.specs.Rules.{covered}
 use Rattle.transaction.specs.Steps.{return_writes}
 use Rattle.store.specs.declared.State.{State}
-use Rattle.store.specs.declared.choose.Choice.{Choice}
-use Rattle.store.specs.declared.admit.Admission.{Admission}
 use Rattle.store.specs.State.{slot_of}
 use Rattle.store.specs.Answer.{done, tells}
 use Rattle.store.specs.Rules.{tail_length, room_used}
 use Rattle.store.specs.Numbers.{Check, number_by, tx_of}
-use Rattle.store.specs.Admission.{admission, choice}
+use Rattle.store.specs.Admission.{Choice, Admission, admission, choice}
 use Rattle.store.specs.Steps.{begun_state, written_state, read_state, savepoint_state, went_back_state, precommitted_state, dropped_state}
 use Rattle.store.specs.Calls.{refusing, begin_number, begin_of, write_number, write_of, read_number, read_of, answer_number, read_answer_of, appended, precommit_number}
 use Rattle.store.specs.Calls.{savepoint_number, savepoint_of, go_back_number, go_back_of, precommit_of, abort_number, abort_of, settle_number, settle_of}

@@ -6,7 +6,6 @@ use mathlib.Core.List.{List, [], ◌∷◌, ◌++◌}
 use mathlib.Core.Path.{◌≡◌, refl, sym, ap, ap₂, ◌∙◌}
 use lib.ListN.{length, take, drop, get_or, set, length-append, length-drop}
 use lib.Seq.{sets, sets-eq, length-sets, take_all, take-length, take-append-le, length-take-le, get_or-set_same}
-use borrow.Author.Tests.{eq-eqb, ne_eqb}
 use Rattle.layout.specs.Parts.{part, pointer_of, image_at, image_part, log_part}
 use Rattle.redolog.specs.Stores.{Store, store, apply, copies}
 use Rattle.redolog.proofs.StoreLaws.{length_copies, copies_cut}
@@ -58,17 +57,6 @@ module _ (at name : ℕ) (bytes : List ℕ) where
               ∙ apply_append (copies at bytes) (store 0 name ∷ []) d
               ∙ ap (λ (ss : List Store). set (apply ss d) 0 name) (sym (take_all allowed (copies at bytes) (omega (arith, e, h))))),
         )
-
--- which slot
-module _ (pointer : ℕ) (bytes : List ℕ) where
-  pub into_a_fresh : pointer ≡ 0 → stores_at 1 1 bytes ≡ image_stores pointer bytes
-  into_a_fresh e = rw (eq-eqb pointer 0 e)
-
-  pub into_a_lem : (pointer ≡ 0 → ⊥) → pointer ≡ 2 → stores_at 1 1 bytes ≡ image_stores pointer bytes
-  into_a_lem h e = rw (ne_eqb pointer 0 h, eq-eqb pointer 2 e)
-
-  pub into_b : (pointer ≡ 0 → ⊥) → (pointer ≡ 2 → ⊥) → stores_at 8654 2 bytes ≡ image_stores pointer bytes
-  into_b h e = rw (ne_eqb pointer 0 h, ne_eqb pointer 2 e)
 
 -- "only its used bytes", and the pointer byte
 pub checkpoint_length : (s : State) (d m : List ℕ) → length m ≡ 4096 → length (checkpoint_stores s d m) ≡ image_size (image_of s) + 1

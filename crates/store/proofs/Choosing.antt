@@ -14,13 +14,18 @@ use Rattle.transaction.specs.Rules.{state_ok}
 use Rattle.transaction.proofs.RangeLaws.{in_range_lem}
 use Rattle.image.proofs.Rules.{image_count}
 use Rattle.store.specs.declared.State.{State}
+use Rattle.store.specs.declared.judged.Chosen.{Chosen}
 use Rattle.store.specs.State.{image_of, tx_at, txs_of, has_id, slot_of}
-use Rattle.store.specs.declared.choose.Choice.{Choice}
-use Rattle.store.specs.declared.admit.Admission.{Admission}
 use Rattle.store.specs.Rules.{keeps_image_rules}
-use Rattle.store.specs.Numbers.{Check, first_number, tx_of, check6, check7, check8, range_checks}
-use Rattle.store.specs.Admission.{number_after, refusal, chosen, choice, after, Seen}
-use Rattle.store.proofs.Checks.{positive, stops, passes, passed}
+use Rattle.store.specs.Numbers.{Check, first_number, tx_of, check6, check7, check8, range_checks, abort_checks}
+use Rattle.store.specs.Admission.{Admission, not_admitted, admission, number_after, Choice, refusal, chosen, choice, of_choice, judged_choice, Seen}
+use Rattle.std.specs.Prelude.{Result}
+use Rattle.std.specs.Result.{IsErrAnd}
+use Rattle.std.proofs.lemmas.Result.{err_from_is_err_and}
+use Rattle.layout.specs.declared.refusal.Refusal.{Refusal}
+use Rattle.layout.specs.Refusal.{number_of}
+use Rattle.store.proofs.Checks.{positive, stops, passes, passed, refused_some}
+use Rattle.store.proofs.Admitting.{seen}
 use Rattle.store.proofs.Slots.{slot as find, slot_within}
 
 -- ---- numbers after an admission
@@ -88,19 +93,21 @@ module _ (s : State) (x : Admission) (id : ℕ) where
         pub choice_goes : first_number ds ≡ 0 → r ≡ choice s x id (cs ++ ds)
         choice_goes d = choice_chosen h ∙ sym (choice_none (cs ++ ds) (next ∙ d))
 
-        pub choice_refuses : (n : ℕ) → eqb n 0 ≡ false → first_number ds ≡ n → {y : Choice} → y ≡ refusal n → y ≡ choice s x id (cs ++ ds)
-        choice_refuses n z d q = q ∙ sym (choice_some (cs ++ ds) n (next ∙ d) (eqb-false n 0 z))
+        pub choice_refuses : (n : ℕ) → eqb n 0 ≡ false → first_number ds ≡ n → refusal n ≡ choice s x id (cs ++ ds)
+        choice_refuses n z d = sym (choice_some (cs ++ ds) n (next ∙ d) (eqb-false n 0 z))
 
-    -- the same of a choice that went on from r
-    pub choice_after : positive cs ≡ true → (ds : List Check) (y : Choice) → y ≡ after r ds → y ≡ choice s x id (cs ++ ds)
-    unfolding after
-    choice_after p ds y q = q ∙ go (eqb r.number 0) refl (eqb (first_number ds) 0) refl
-      where
-        go : (b : Bool) → eqb r.number 0 ≡ b → (c : Bool) → eqb (first_number ds) 0 ≡ c
-            → cond b (cond c r (refusal (first_number ds))) r ≡ choice s x id (cs ++ ds)
-        go true f true g = choice_goes p ds (eqb-true r.number 0 f) (eqb-true (first_number ds) 0 g)
-        go true f false g = choice_refuses p ds (eqb-true r.number 0 f) (first_number ds) g refl refl
-        go false f c g = choice_stops p ds (eqb-false r.number 0 f)
+  -- a refusal by the admission
+  pub refused_before : (e : Refusal) (cs : List Check) → not_admitted (number_of e) ≡ x → refusal (number_of e) ≡ choice s x id cs
+  refused_before e cs p =
+      let n : number_after x cs ≡ number_of e = rw (sym p, refused_some e) in sym (choice_some cs (number_of e) n (eqb-false _ _ (refused_some e)))
+
+  -- a refusal by checks before these
+  pub refused_on : (e : Refusal) (cs ds : List Check) → positive cs ≡ true → refusal (number_of e) ≡ choice s x id cs → refusal (number_of e) ≡ choice s x id (cs ++ ds)
+  refused_on e cs ds p q = choice_stops (refusal (number_of e)) cs q p ds (eqb-false _ _ (refused_some e))
+
+-- what a chooser answers at the exit of a `?`
+pub exits : (r : Result Chosen Refusal) (e : Refusal) → IsErrAnd r (λ d. d ≡ e) → {y : Choice} → refusal (number_of e) ≡ y → of_choice r ≡ y
+exits r e h q = let p = err_from_is_err_and r h in rw (p.1, p.2) q
 
 -- ---- 6 and 7
 
@@ -136,7 +143,7 @@ pub record Slotted (s : State) (x : Admission) (id : ℕ) (r : Choice) (cs : Lis
   pub room : r.room ≡ x.room
   pub small : x.room ≤ 16384
   pub goes : (ds : List Check) → first_number ds ≡ 0 → r ≡ choice s x id (check6 s id ∷ (cs ++ ds))
-  pub refuses : (ds : List Check) (n : ℕ) → eqb n 0 ≡ false → first_number ds ≡ n → {y : Choice} → y ≡ refusal n → y ≡ choice s x id (check6 s id ∷ (cs ++ ds))
+  pub refuses : (ds : List Check) (n : ℕ) → eqb n 0 ≡ false → first_number ds ≡ n → refusal n ≡ choice s x id (check6 s id ∷ (cs ++ ds))
 
 -- what number 6 says where it does not refuse
 pub listed_by_6 : (s : State) (id : ℕ) → not (any (has_id id) (txs_of s)) ≡ false → (slot_of s id < s.count) × ((tx_of s id).id.0 ≡ id)
@@ -144,7 +151,7 @@ listed_by_6 s id e =
     let l = slot_within s id (not-false _ e) in
     (l, sym (eqb-true _ _ ((find s id).there (omega arith))))
 
-pub slotted : (s : State) (x : Admission) (id : ℕ) (r : Choice) (cs : List Check) → Seen x s → positive cs ≡ true → r ≡ choice s x id (check6 s id ∷ cs)
+slotted : (s : State) (x : Admission) (id : ℕ) (r : Choice) (cs : List Check) → Seen x s → positive cs ≡ true → r ≡ choice s x id (check6 s id ∷ cs)
     → r.number ≡ 0
     → Slotted s x id r cs
 slotted s x id r cs seen p e h =
@@ -165,6 +172,16 @@ slotted s x id r cs seen p e h =
       goes = λ ds. choice_goes s x id r all e p ds h;
       refuses = λ ds. choice_refuses s x id r all e p ds h;
     }
+
+-- the same of what was judged from the admission on
+pub judged_slot : (s : State) (lent : ℕ) (t : List ℕ) (id : ℕ) (r : Choice) (cs : List Check) → positive cs ≡ true
+    → r ≡ judged_choice s lent t id (λ room. check6 s id ∷ cs) → r.number ≡ 0
+    → Slotted s (admission s lent t) id r cs
+judged_slot s lent t id r cs p e h = slotted s (admission s lent t) id r cs (seen s lent t (admission s lent t) refl) p e h
+
+pub judged_running : (s : State) (lent : ℕ) (t : List ℕ) (id : ℕ) (r : Choice) → r ≡ judged_choice s lent t id (λ room. abort_checks s id) → r.number ≡ 0
+    → Slotted s (admission s lent t) id r (check7 s id ∷ [])
+judged_running s lent t id r e h = judged_slot s lent t id r (check7 s id ∷ []) refl e h
 
 -- ---- 8
 
@@ -191,12 +208,6 @@ out_of_range a n = rw (empty n, beyond 32 n, beyond 4096 (a + n)) (go (leb 1 n) 
     go true false z = refl
     go false y z = refl
 
-pub refused_8 : (a n : ℕ) → in_range a n ≡ false → first_number (check8 a n ∷ []) ≡ 8
-refused_8 a n e = rw (out_of_range a n, e)
-
-pub passes_8 : (a n : ℕ) → in_range a n ≡ true → first_number (check8 a n ∷ []) ≡ 0
-passes_8 a n e = rw (out_of_range a n, e)
-
 -- what number 8 says where it does not refuse
 pub record Ranged (a n : ℕ) : Type 0 where
   pub ok : in_range a n ≡ true
@@ -208,6 +219,9 @@ ranged_by_8 a n e =
     let o = not-false _ (sym (out_of_range a n) ∙ e) in
     let g = in_range_lem a n o in
     record { ok = o; short = g.1; within = g.2 }
+
+pub range_checked : (a n : ℕ) (cs : List Check) → first_number (check8 a n ∷ cs) ≡ 0 → Ranged a n
+range_checked a n cs z = ranged_by_8 a n (passed (check8 a n ∷ []) cs refl z).0.0
 
 pub chosen_range : (s : State) (id a n : ℕ) (cs : List Check) → first_number (range_checks s id a n ++ cs) ≡ 0 → Ranged a n
 chosen_range s id a n cs z = ranged_by_8 a n (passed (range_checks s id a n) cs refl z).0.1.1.0

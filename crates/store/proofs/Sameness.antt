@@ -19,9 +19,8 @@ use Rattle.image.specs.Rules.{image_ok}
 use Rattle.store.specs.declared.State.{State}
 use Rattle.store.specs.State.{tx_at, txs_of, outline_at, outlines_of, has_id, slot_in, slot_of}
 use Rattle.store.specs.Rules.{keeps_image_rules, tail_length, tail_ok, room_used, unfit}
-use Rattle.store.specs.declared.admit.Admission.{Admission}
 use Rattle.store.specs.Numbers.{Check, check, first_number, number_by}
-use Rattle.store.specs.Admission.{not_admitted, refusal, admission, disk_admission, choice}
+use Rattle.store.specs.Admission.{Admission, not_admitted, refusal, admission, disk_admission, choice}
 use Rattle.store.specs.Same.{SameRanges, SameSavepoints, SameTx, ShowsSame}
 
 pub record AlikeTx (t u : Tx) : Type 0 where

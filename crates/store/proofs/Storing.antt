@@ -7,14 +7,13 @@ use lib.ListN.{length}
 use lib.Dec.{eqb}
 use borrow.Author.Tests.{eq-eqb, ne_eqb, lt-ltb, le-ltb, eqb-true, not-false}
 use Rattle.store.specs.declared.State.{State}
-use Rattle.store.specs.declared.admit.Admission.{Admission}
 use Rattle.store.specs.Answer.{Told}
 use Rattle.store.specs.Rules.{tail_length}
 use Rattle.store.specs.Numbers.{check, first_number, shared_checks}
-use Rattle.store.specs.Admission.{not_admitted, admission, disk_admission}
+use Rattle.store.specs.Admission.{Admission, not_admitted, admission, disk_admission}
 use Rattle.store.specs.Calls.{refusing}
 use Rattle.store.specs.Stored.{disk_checks, DiskOutcome, Plan, cut_short, made_whole, carried_out, stored_by}
-use Rattle.store.proofs.Fits.{Fit, unfit_no}
+use Rattle.store.proofs.Fits.{Fit}
 use Rattle.store.proofs.Checks.{passed}
 use Rattle.store.proofs.Admitting.{unrefused, number_is, admitted}
 
@@ -63,9 +62,6 @@ module _ (s : State) (d m t : List ℕ) where
     disk_end h =
         let l = (disk_admitted (sym disk_number_lem ∙ h)).disk in
         (admitted s (length m) t x (e ∙ rw (eq-eqb (length d) 33691 l)) h).end
-
-  pub disk_passes : DiskAdmitted s d m t → disk_number ≡ 0
-  disk_passes a = rw (eq-eqb _ _ a.disk, eq-eqb _ _ a.memory, eq-eqb _ _ a.tail, unfit_no s t a.fits)
 
   -- ---- the outcome, by the number and the stores allowed
 

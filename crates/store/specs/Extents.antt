@@ -3,6 +3,7 @@ use Rattle.std.specs.Prelude.{ℕ, ◌<◌, List, map, ◌≡◌, get_or}
 use Rattle.transaction.specs.declared.TxExtents.{TxExtents}
 use Rattle.transaction.specs.Flat.{no_tx}
 use Rattle.transaction.specs.View.{extents_of, bare_tx}
+use Rattle.image.specs.declared.Counters.{Counters}
 use Rattle.store.specs.declared.State.{State}
 use Rattle.store.specs.declared.extents.StateExtents.{StateExtents}
 use Rattle.store.specs.State.{tx_at}
@@ -11,10 +12,13 @@ use Rattle.store.specs.State.{tx_at}
 abbrev pub no_extents : TxExtents
 no_extents = extents_of no_tx
 
+abbrev pub counters_of : State → Counters
+counters_of s = record { logend = s.logend; ondisk = s.ondisk; assigned = s.assigned; lastid = s.lastid; count = s.count }
+
 -- the counters of a state, with these transactions
 abbrev pub with_extents : State → List TxExtents → StateExtents
 with_extents s ts =
-    record { recovered = s.recovered; logend = s.logend; ondisk = s.ondisk; assigned = s.assigned; lastid = s.lastid; count = s.count; txs = ts }
+    record { recovered = s.recovered; counters = counters_of s; txs = ts }
 
 -- the extents of the transactions in the first n slots
 abbrev pub Taken : State → List TxExtents → ℕ → Type 0
@@ -29,10 +33,10 @@ abbrev pub bare_state : StateExtents → State
 bare_state e =
     record {
       recovered = e.recovered;
-      logend = e.logend;
-      ondisk = e.ondisk;
-      assigned = e.assigned;
-      lastid = e.lastid;
-      count = e.count;
+      logend = e.counters.logend;
+      ondisk = e.counters.ondisk;
+      assigned = e.counters.assigned;
+      lastid = e.counters.lastid;
+      count = e.counters.count;
       txs = map bare_tx e.txs;
     }

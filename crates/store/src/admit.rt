@@ -7,57 +7,25 @@ ghost use Rattle.transaction.specs.Rules.{alike};
 ghost use Rattle.store.specs.State.{outline_at};
 ghost use Rattle.store.specs.Extents.{bare_state};
 ghost use Rattle.store.specs.Rules.{all_zero};
-ghost use Rattle.store.specs.Admission.{not_admitted, rule_broken, counters_ok, measured_txs, measured_tail, admission};
+ghost use Rattle.store.specs.Admission.{counters_ok, measured_txs, measured_tail, admission, of_admitted};
 
 use crate::extents::StateExtents;
-use image::bounds_ok;
+use crate::judged::Admitted;
+use layout::refusal::Refusal;
 use layout::{LOG_LEN, MEMORY_LEN, TAIL_LEN};
+use redolog::Csn;
 use redolog::scan::read_log;
-use redolog::{Csn, TxId};
-use transaction::alike;
+use transaction::Key;
 
 const ZERO_PART: usize = 512;
-
-// Whether what was looked at keeps its rules, and the log room that it takes.
-#[derive(Clone, Copy)]
-pub(crate) struct Measured {
-    pub ok: bool,
-    pub room: usize,
-}
-
-// The number that refuses, 0 for none; if none, where the tail's groups end and the log room used.
-#[derive(Clone, Copy)]
-pub(crate) struct Admission {
-    pub number: u8,
-    pub end: usize,
-    pub room: usize,
-}
-
-pub(crate) fn not_admitted(number: u8) -> Admission
-    ensures { result ≡ not_admitted number }
-{
-    Admission {
-        number: number,
-        end: 0,
-        room: 0,
-    }
-}
-
-fn rule_broken() -> Measured
-    ensures { result ≡ rule_broken }
-{
-    Measured { ok: false, room: 0 }
-}
 
 // An or over all bytes instead of a stop at the first one that is not 0: it runs in wide registers.
 fn zero_part(s: &[u8]) -> bool
     ensures { result ≡ all_zero s.now }
 {
     let mut seen: u8 = 0;
-    let mut i: usize = 0;
-    while i < s.len() {
-        seen = seen | s[i];
-        i += 1;
+    for b in s {
+        seen |= *b;
     }
     seen == 0
 }
@@ -66,127 +34,104 @@ fn zero_part(s: &[u8]) -> bool
 fn all_zero(s: &[u8]) -> bool
     ensures { result ≡ all_zero s.now }
 {
-    let mut at: usize = 0;
-    while ZERO_PART <= s.len() - at {
-        if !zero_part(&s[at..at + ZERO_PART]) {
+    let (parts, rest) = s.as_chunks::<ZERO_PART>();
+    for part in parts {
+        if !zero_part(part) {
             return false;
         }
-        at = at + ZERO_PART;
     }
-    zero_part(&s[at..])
+    zero_part(rest)
 }
 
-// The counters: recovered, and the image rules of the log's end, the two commit numbers and the count.
-fn counters_ok(recovered: bool, logend: u16, ondisk: Csn, assigned: Csn, count: u8) -> bool
-    ensures { result ≡ counters_ok recovered logend ondisk.0 assigned.0 count }
-{
-    if !recovered {
-        return false;
-    }
-    bounds_ok(logend, ondisk, assigned, count)
-}
-
-// Whole groups with commit numbers from the one on disk up to the one assigned, then zeros.
-fn measure_tail(tail: &[u8], ondisk: Csn, assigned: Csn) -> Measured
+// The log room of whole groups with commit numbers from the one on disk up to the one assigned, then zeros.
+fn measure_tail(tail: &[u8], ondisk: Csn, assigned: Csn) -> Option<usize>
     ensures { result ≡ measured_tail ondisk.0 assigned.0 tail.now }
 {
     let log = read_log(tail, ondisk);
     let end = log.end;
-    if log.csn.0 != assigned.0 {
-        return rule_broken();
+    if log.csn != assigned {
+        return None;
     }
     if !all_zero(&tail[end..]) {
-        return rule_broken();
+        return None;
     }
-    Measured {
-        ok: true,
-        room: end,
-    }
+    Some(end)
 }
 
 impl StateExtents {
-    // Whether one from slot i on has this id, or this commit number where that is one.
-    fn alike_from(self, i: usize, id: TxId, csn: Csn) -> bool
-        requires { (i ≤ self.count) × (self.count ≤ max_txs) }
-        ensures { result ≡ any (alike id.0 csn.0) (up_from (outline_at (bare_state self)) (self.count - i) i) }
+    // Recovered, and the image rules of the counters.
+    #[tactic(auto, unfolding(crate::specs::Admission::counters_ok))]
+    fn counters_ok(self) -> bool
+        ensures { result ≡ counters_ok self.recovered self.counters.logend self.counters.ondisk.0 self.counters.assigned.0 self.counters.count }
     {
-        let n = self.count as usize;
-        let mut j = i;
-        while j < n {
-            let t = self.txs[j];
-            if alike(id, csn, t.id, t.csn) {
+        self.recovered && self.counters.ok()
+    }
+
+    // Whether one from slot i on has this id, or this commit number where that is one.
+    fn alike_from(self, i: usize, key: Key) -> bool
+        requires { (i ≤ self.counters.count) × (self.counters.count ≤ max_txs) }
+        ensures { result ≡ any (alike key.id.0 key.csn.0) (up_from (outline_at (bare_state self)) (self.counters.count - i) i) }
+    {
+        for t in &self.txs[i..self.counters.count as usize] {
+            if key.alike(t.key()) {
                 return true;
             }
-            j += 1;
         }
         false
     }
 
-    // The rules of the transactions, and the log room that they have reserved.
-    fn measure_txs(self) -> Measured
-        requires { self.count ≤ max_txs }
+    // The log room that the transactions have reserved, if they keep their rules.
+    fn measure_txs(self) -> Option<usize>
+        requires { self.counters.count ≤ max_txs }
         ensures { result ≡ measured_txs (bare_state self) }
     {
-        let n = self.count as usize;
-        let last = self.lastid;
-        let assigned = self.assigned;
+        let n = self.counters.count as usize;
+        let last = Key {
+            id: self.counters.lastid,
+            csn: self.counters.assigned,
+        };
         let mut room: usize = 0;
-        let mut i: usize = 0;
-        while i < n {
-            let t = self.txs[i];
-            if !t.image_ok(last, assigned) {
-                return rule_broken();
+        for (i, t) in self.txs[..n].iter().enumerate() {
+            if !t.image_ok(last) {
+                return None;
             }
             if !t.state_ok() {
-                return rule_broken();
+                return None;
             }
-            if self.alike_from(i + 1, t.id, t.csn) {
-                return rule_broken();
+            if self.alike_from(i + 1, t.key()) {
+                return None;
             }
-            room = room + t.room();
-            i += 1;
+            room += t.room();
         }
-        Measured {
-            ok: true,
-            room: room,
-        }
+        Some(room)
     }
 
-    // lent is the length of the memory that was lent.
-    pub(crate) fn admit(self, lent: usize, tail: &[u8]) -> Admission
-        ensures { result ≡ admission (bare_state self) lent tail.now }
+    // memory is the length of the memory that was lent.
+    pub(crate) fn admit(self, memory: usize, tail: &[u8]) -> Result<Admitted, Refusal>
+        ensures { of_admitted result ≡ admission (bare_state self) memory tail.now }
     {
-        if lent != MEMORY_LEN {
-            return not_admitted(1);
+        if memory != MEMORY_LEN {
+            return Err(Refusal::WrongLength);
         }
         if tail.len() != TAIL_LEN {
-            return not_admitted(1);
+            return Err(Refusal::WrongLength);
         }
-        if !counters_ok(
-            self.recovered,
-            self.logend,
-            self.ondisk,
-            self.assigned,
-            self.count,
-        ) {
-            return not_admitted(2);
+        if !self.counters_ok() {
+            return Err(Refusal::Unfit);
         }
-        let txs = self.measure_txs();
-        if !txs.ok {
-            return not_admitted(2);
-        }
-        let log = measure_tail(tail, self.ondisk, self.assigned);
-        if !log.ok {
-            return not_admitted(2);
-        }
-        let room = self.logend as usize + log.room + txs.room;
+        let Some(reserved) = self.measure_txs() else {
+            return Err(Refusal::Unfit);
+        };
+        let Some(end) = measure_tail(tail, self.counters.ondisk, self.counters.assigned) else {
+            return Err(Refusal::Unfit);
+        };
+        let room = self.counters.logend as usize + end + reserved;
         if LOG_LEN < room {
-            return not_admitted(2);
+            return Err(Refusal::Unfit);
         }
-        Admission {
-            number: 0,
-            end: log.room,
+        Ok(Admitted {
+            end: end,
             room: room,
-        }
+        })
     }
 }

@@ -6,8 +6,8 @@ ghost use Rattle.store.specs.Answer.{of_stored};
 ghost use Rattle.store.specs.State.{image_of};
 ghost use Rattle.store.specs.Checkpoint.{stores_at, image_stores, checkpoint_of};
 
+use crate::State;
 use crate::stored::{Stored, cut_off, refused};
-use crate::{Answer, State};
 use image::Image;
 use image::write::encode;
 use layout::{IMAGE_A, IMAGE_B, IMAGE_LEN, NAMES_A, NAMES_B};
@@ -33,35 +33,31 @@ fn store_image(disk: &mut [u8], image: &[u8], allowed: usize) -> usize
     ensures value { result ≡ min allowed (length (image_stores (get_or disk.old 0 0) image.now)) }
     ensures disk_after { disk.new ≡ apply (take allowed (image_stores (get_or disk.old 0 0) image.now)) disk.old }
 {
-    let pointer = disk[0];
-    if pointer == 0 {
-        return store_at(disk, IMAGE_A, NAMES_A, image, allowed);
+    let (at, name) = match disk[0] {
+        0 | NAMES_B => (IMAGE_A, NAMES_A),
+        _ => (IMAGE_B, NAMES_B),
+    };
+    store_at(disk, at, name, image, allowed)
+}
+
+// What an image has of the state.
+impl From<State> for Image {
+    ghost from_gives = { λ state image. image ≡ image_of state };
+
+    fn from(state: State) -> Image {
+        let txs = state.txs;
+        Image {
+            logend: state.logend,
+            ondisk: state.ondisk,
+            assigned: state.assigned,
+            lastid: state.lastid,
+            count: state.count,
+            txs,
+        }
     }
-    if pointer == NAMES_B {
-        return store_at(disk, IMAGE_A, NAMES_A, image, allowed);
-    }
-    store_at(disk, IMAGE_B, NAMES_B, image, allowed)
 }
 
 impl State {
-    // What an image has of the state.
-    pub(crate) fn image(self) -> Image
-        ensures { result ≡ image_of self }
-    {
-        let ondisk = self.ondisk;
-        let assigned = self.assigned;
-        let lastid = self.lastid;
-        let txs = self.txs;
-        Image {
-            logend: self.logend,
-            ondisk: ondisk,
-            assigned: assigned,
-            lastid: lastid,
-            count: self.count,
-            txs: txs,
-        }
-    }
-
     pub fn checkpoint(
         mut self,
         disk: &mut [u8],
@@ -74,22 +70,21 @@ impl State {
         ensures memory_after { memory.new ≡ (checkpoint_of self disk.old memory.old tail.old allowed).memory }
         ensures tail_after { tail.new ≡ (checkpoint_of self disk.old memory.old tail.old allowed).tail }
     {
-        let seen = self.extents();
-        let admitted = seen.admit_disk(disk.len(), memory.len(), &*tail);
-        if admitted.number != 0 {
-            return refused(admitted.number, self);
+        let admitted = self.extents().admit_disk(disk.len(), memory.len(), &*tail);
+        if let Err(refusal) = admitted {
+            return refused(refusal, self);
         }
-        let image = self.image();
         let mut bytes: [u8; IMAGE_LEN] = [0; IMAGE_LEN];
-        let size = encode(&mut bytes, image, &*memory);
+        let lent = memory.as_array().unwrap();
+        let size = encode(&mut bytes, Image::from(self), lent);
         let stores = store_image(disk, &bytes[..size], allowed);
         if stores <= size {
             return cut_off(memory, tail, stores);
         }
         Stored {
-            answer: Answer::Done,
-            stores: stores,
             state: self,
+            result: Ok(()),
+            stores,
         }
     }
 }

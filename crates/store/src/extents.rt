@@ -3,19 +3,16 @@ ghost use Rattle.std.specs.Prelude.{◌≡◌};
 ghost use Rattle.store.specs.Extents.{with_extents, Taken, HasExtents};
 
 use crate::State;
+use image::Counters;
 use layout::MAX_TXS;
-use redolog::{Csn, TxId};
 use transaction::TxExtents;
 
-// The counters, and the transactions listed; what stands in the other slots is not asked for.
+// The counters, and the transactions listed; what stands in the other slots is not asked for. A host may hand in any count, which number 2 judges by
+// these extents: a bound of it is asked for where it is needed and is no invariant, since extents of which it holds would be one more copy of them.
 #[derive(Clone, Copy)]
 pub(crate) struct StateExtents {
     pub recovered: bool,
-    pub logend: u16,
-    pub ondisk: Csn,
-    pub assigned: Csn,
-    pub lastid: TxId,
-    pub count: u8,
+    pub counters: Counters,
     pub txs: [TxExtents; MAX_TXS],
 }
 
@@ -25,15 +22,9 @@ impl State {
         requires { (seen ≡ with_extents self seen.txs) × Taken self seen.txs 1 }
         ensures { HasExtents self result }
     {
-        let n = self.count as usize;
-        let mut i: usize = 1;
-        while i < n {
-            if i < MAX_TXS {
-                let t = self.txs[i];
-                let e = t.extents();
-                seen.txs[i] = e;
-            }
-            i += 1;
+        let n = MAX_TXS.min(self.count as usize);
+        for i in 1..n {
+            seen.txs[i] = self.txs[i].extents();
         }
         seen
     }
@@ -42,18 +33,16 @@ impl State {
     pub(crate) fn extents(self) -> StateExtents
         ensures { HasExtents self result }
     {
-        let ondisk = self.ondisk;
-        let assigned = self.assigned;
-        let lastid = self.lastid;
-        let t = self.txs[0];
-        let first = t.extents();
+        let first = self.txs[0].extents();
         let seen = StateExtents {
             recovered: self.recovered,
-            logend: self.logend,
-            ondisk: ondisk,
-            assigned: assigned,
-            lastid: lastid,
-            count: self.count,
+            counters: Counters {
+                logend: self.logend,
+                ondisk: self.ondisk,
+                assigned: self.assigned,
+                lastid: self.lastid,
+                count: self.count,
+            },
             txs: [first; MAX_TXS],
         };
         if self.count <= 1 {

@@ -4,8 +4,8 @@ ghost use Rattle.layout.specs.{log_len};
 ghost use Rattle.store.specs.Answer.{of_stored};
 ghost use Rattle.store.specs.Flush.{with_log, flush_of};
 
+use crate::State;
 use crate::stored::{Stored, cut_off, refused};
-use crate::{Answer, State};
 use layout::{LOG_LEN, LOG_START};
 use redolog::Csn;
 use redolog::scan::read_first;
@@ -35,18 +35,17 @@ impl State {
         ensures memory_after { memory.new ≡ (flush_of self disk.old memory.old tail.old k allowed).memory }
         ensures tail_after { tail.new ≡ (flush_of self disk.old memory.old tail.old k allowed).tail }
     {
-        let seen = self.extents();
-        let admitted = seen.admit_disk(disk.len(), memory.len(), &*tail);
-        if admitted.number != 0 {
-            return refused(admitted.number, self);
-        }
+        let admitted = match self.extents().admit_disk(disk.len(), memory.len(), &*tail) {
+            Ok(admitted) => admitted,
+            Err(refusal) => return refused(refusal, self),
+        };
         let first = read_first(&*tail, self.ondisk, k);
         let size = first.end;
         if size == 0 {
             return Stored {
-                answer: Answer::Done,
-                stores: 0,
                 state: self,
+                result: Ok(()),
+                stores: 0,
             };
         }
         let end = self.logend as usize;
@@ -64,9 +63,9 @@ impl State {
         shift_down(&mut tail[..used], size);
         let s = self.flush_step(size, first.csn);
         Stored {
-            answer: Answer::Done,
-            stores: stores,
             state: s,
+            result: Ok(()),
+            stores,
         }
     }
 }

@@ -8,12 +8,14 @@ mod checkpoint;
 mod choose;
 mod extents;
 mod flush;
+mod judged;
 mod step;
 pub mod stored;
 
 ghost use Rattle.std.specs.Prelude.{◌≡◌};
 ghost use Rattle.store.specs.State.{unrecovered};
 
+use layout::refusal::Refusal;
 use layout::{MAX_RECORDS, MAX_TXS};
 use redolog::{Csn, TxId};
 use transaction::Tx;
@@ -37,11 +39,11 @@ pub struct State {
     pub txs: [Tx; MAX_TXS],
 }
 
+// Why a call that stores on the disk isn't done: a power cut, or a refusal.
 #[derive(Clone, Copy)]
-pub enum Answer {
-    Done,
+pub enum Failure {
     Cut,
-    Refused(u8),
+    Refused(Refusal),
 }
 
 impl State {

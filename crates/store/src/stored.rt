@@ -1,23 +1,25 @@
 // Calls that store on the disk: numbers 1 and 2 with the disk lent, and what a power cut leaves.
 ghost use Rattle.std.specs.Prelude.{◌≡◌};
+ghost use Rattle.layout.specs.Refusal.{number_of};
 ghost use Rattle.store.specs.State.{unrecovered};
 ghost use Rattle.store.specs.Answer.{cut, tells, of_stored};
 ghost use Rattle.store.specs.Calls.{refusing};
 ghost use Rattle.store.specs.Extents.{bare_state};
-ghost use Rattle.store.specs.Admission.{disk_admission};
+ghost use Rattle.store.specs.Admission.{disk_admission, of_admitted};
 ghost use Rattle.store.specs.Stored.{zeroed};
 
-use crate::admit::{Admission, not_admitted};
 use crate::extents::StateExtents;
-use crate::{Answer, State};
+use crate::judged::Admitted;
+use crate::{Failure, State};
 use layout::DISK_LEN;
+use layout::refusal::Refusal;
 use redolog::stores::fill_zero;
 
 // stores is the number of stores made.
 #[derive(Clone, Copy)]
 pub struct Stored {
     pub state: State,
-    pub answer: Answer,
+    pub result: Result<(), Failure>,
     pub stores: usize,
 }
 
@@ -31,30 +33,36 @@ pub fn cut_off(memory: &mut [u8], tail: &mut [u8], stores: usize) -> Stored
     fill_zero(tail);
     let s = State::unrecovered();
     Stored {
-        answer: Answer::Cut,
-        stores: stores,
         state: s,
+        result: Err(Failure::Cut),
+        stores,
     }
 }
 
-// Refused by a number, before any store: the state comes back as it was.
-pub(crate) fn refused(number: u8, state: State) -> Stored
-    ensures { of_stored result ≡ refusing number state }
+// Refused before any store: the state comes back as it was.
+pub(crate) fn refused(refusal: Refusal, state: State) -> Stored
+    ensures { of_stored result ≡ refusing (number_of refusal) state }
 {
     Stored {
-        answer: Answer::Refused(number),
+        state,
+        result: Err(Failure::Refused(refusal)),
         stores: 0,
-        state: state,
     }
 }
 
 impl StateExtents {
     // disk and memory are the lengths of those lent.
-    pub(crate) fn admit_disk(self, disk: usize, memory: usize, tail: &[u8]) -> Admission
-        ensures { result ≡ disk_admission (bare_state self) disk memory tail.now }
+    #[tactic(auto, unfolding(crate::specs::Admission::disk_admission))]
+    pub(crate) fn admit_disk(
+        self,
+        disk: usize,
+        memory: usize,
+        tail: &[u8],
+    ) -> Result<Admitted, Refusal>
+        ensures { of_admitted result ≡ disk_admission (bare_state self) disk memory tail.now }
     {
         if disk != DISK_LEN {
-            return not_admitted(1);
+            return Err(Refusal::WrongLength);
         }
         self.admit(memory, tail)
     }

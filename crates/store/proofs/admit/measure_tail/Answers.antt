@@ -1,6 +1,8 @@
-use Rattle.std.proofs.Common.{ℕ, Bool, List, true, take, drop, ◌≡◌, ◌-◌, ◌≤◌, length, arith, refl, sym, ap, ◌∙◌}
+use Rattle.std.proofs.Common.{ℕ, Bool, List, take, drop, ◌≡◌, ◌-◌, ◌≤◌, Some, length, arith, refl, sym, ap, ◌∙◌}
+use borrow.Author.Tests.{eqb-true, eqb-false, not-true, not-false}
 use Rattle.redolog.specs.declared.scan.LogEnd.{LogEnd}
-use Rattle.redolog.specs.Log.{log_end_of}
+use Rattle.recovery.specs.Group.{last_csn}
+use Rattle.redolog.specs.Log.{read_log, log_end_of}
 use Rattle.redolog.proofs.Basics.{from}
 use Rattle.redolog.proofs.LogLaws.{log_within}
 use Rattle.store.specs.Rules.{all_zero, tail_length}
@@ -19,13 +21,16 @@ module _ (prev : ℕ) (t : List ℕ) (log : LogEnd) (e : log ≡ log_end_of prev
   rest : (b : Bool) → b ≡ all_zero (take (length t - log.end) (drop log.end t)) → all_zero (drop (tail_length prev t) t) ≡ b
   rest b h = sym (h ∙ ap all_zero (from t log.end) ∙ ap (λ (k : ℕ). all_zero (drop k t)) ended)
 
-pub returns-then-log-assigned : goal.returns-then-log-assigned
-returns-then-log-assigned c =
+-- the test of the commit number
+csn_is : (d : ℕ) (t : List ℕ) (log : LogEnd) → log ≡ log_end_of d t → log.csn.0 ≡ last_csn d (read_log d t)
+csn_is d t log e = ap (λ (l : LogEnd). l.csn.0) e
+
+pub returns-then-ne : goal.returns-then-ne
+returns-then-ne c =
     let a = c.args in
-    c.rule_broken.ensures
-    ∙ sym
+    sym
     (other_csn a.ondisk.0 a.assigned.0 a.tail.now
-    (λ e. c.if-log-assigned.true (ap (λ (l : LogEnd). l.csn.0) c.read_log-log.ensures ∙ e)))
+    (λ e. eqb-false _ _ (not-true _ (sym c.ne.ensures ∙ c.if-ne.true)) (csn_is a.ondisk.0 a.tail.now _ c.read_log-log.ensures ∙ e)))
 
 pub slice_bounds-all_zero-count : goal.slice_bounds-all_zero-count
 slice_bounds-all_zero-count c = within c.args.ondisk.0 c.args.tail.now _ c.read_log-log.ensures
@@ -37,13 +42,13 @@ pub returns-then-not-all_zero : goal.returns-then-not-all_zero
 returns-then-not-all_zero c =
     let a = c.args in
     let r = rest a.ondisk.0 a.tail.now _ c.read_log-log.ensures _ c.all_zero.ensures in
-    c.rule_broken-then-not-all_zero.ensures ∙ sym (other_rest a.ondisk.0 a.assigned.0 a.tail.now (r ∙ c.if-not-all_zero.true))
+    sym (other_rest a.ondisk.0 a.assigned.0 a.tail.now (r ∙ c.if-not-all_zero.true))
 
 pub returns : goal.returns
 returns c =
     let a = c.args in
     let log = c.read_log-log in
-    let csn = ap (λ (l : LogEnd). l.csn.0) log.ensures in
     let r = rest a.ondisk.0 a.tail.now _ log.ensures _ c.all_zero.ensures in
-    ap (λ (n : ℕ). record { ok = true; room = n }) (ended a.ondisk.0 a.tail.now _ log.ensures)
-    ∙ sym (tail_right a.ondisk.0 a.assigned.0 a.tail.now (sym csn ∙ c.if-log-assigned.false) (r ∙ c.if-not-all_zero.false))
+    let h = sym (csn_is a.ondisk.0 a.tail.now _ log.ensures) ∙ eqb-true _ _ (not-false _ (sym c.ne.ensures ∙ c.if-ne.false)) in
+    ap (λ (n : ℕ). Some n) (ended a.ondisk.0 a.tail.now _ log.ensures)
+    ∙ sym (tail_right a.ondisk.0 a.assigned.0 a.tail.now h (r ∙ c.if-not-all_zero.false))

@@ -1,6 +1,6 @@
-use Rattle.std.proofs.Common.{arith, ◌∙◌}
+use Rattle.std.proofs.Common.{◌∙◌}
 use Rattle.store.proofs.Zeros.{zeros_turn}
 use Rattle.store.proofs.admit.zero_part.Goals as goal
 
-pub loop-i-preserved : goal.loop-i-preserved
-loop-i-preserved c = (omega arith, c.loop-i.invariant.1 ∙ zeros_turn c.args.s.now c.loop-i.seen c.loop-i.i c.loop-i-test.true)
+pub loop-b-preserved : goal.loop-b-preserved
+loop-b-preserved c = c.loop-b.invariant ∙ zeros_turn c.args.s.now c.loop-b.seen c.loop-b.b-index c.loop-b-test.true

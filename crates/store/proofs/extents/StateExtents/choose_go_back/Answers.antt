@@ -16,14 +16,13 @@ use Rattle.transaction.proofs.StateRule.{few_savepoints, running_savepoints}
 use Rattle.image.proofs.Rules.{ruled_at, undo_at_lem}
 use Rattle.store.specs.declared.State.{State}
 use Rattle.store.specs.declared.extents.StateExtents.{StateExtents}
-use Rattle.store.specs.declared.admit.Admission.{Admission}
-use Rattle.store.specs.declared.choose.Choice.{Choice}
+use Rattle.store.specs.Admission.{Admission, Choice, admission}
 use Rattle.store.specs.State.{tx_at, image_of}
 use Rattle.store.specs.Extents.{no_extents, bare_state}
 use Rattle.store.specs.Numbers.{Check, tx_of, abort_checks, check7, check18, return_check10, return_check13}
 use Rattle.store.proofs.Bare.{bare_at, slot_is, slot_ok}
 use Rattle.store.proofs.Checks.{passed}
-use Rattle.store.proofs.Choosing.{choice_stops, Slotted, slotted}
+use Rattle.store.proofs.Choosing.{exits, refused_on, Slotted, judged_running}
 use Rattle.store.proofs.extents.StateExtents.choose_go_back.Goals as goal
 
 -- its own numbers after 7
@@ -83,92 +82,81 @@ module _ (e : StateExtents) (x : Admission) (id name : ℕ) (r : Choice) (w : Sl
       let d = size-drop (stood_at name (bare_tx tx)) (ranges_of tx.undo) in
       omega (arith, d, size_bound (ranges_of tx.undo) records, w.room, w.small)
 
-pub returns-then-running-ne0 : goal.returns-then-running-ne0
-returns-then-running-ne0 c =
+pub returns-in_err-running : goal.returns-in_err-running
+returns-in_err-running c =
     let a = c.args in
     let s = bare_state a.self in
-    choice_stops _ _ _ _ (abort_checks s a.id.0) c.choose_running-running.ensures refl (last s a.admitted.room a.id.0 a.name) c.if-running-ne0.true
-
-pub offset_bounds-self-slot : goal.offset_bounds-self-slot
-offset_bounds-self-slot c =
-    let a = c.args in
-    let w = slotted _ _ _ _ (check7 (bare_state a.self) a.id.0 ∷ []) c.requires refl c.choose_running-running.ensures c.if-running-ne0.false in
-    omega (arith, w.listed, w.few)
-
-pub bounds-self-slot : goal.bounds-self-slot
-bounds-self-slot c =
-    let a = c.args in
-    let w = slotted _ _ _ _ (check7 (bare_state a.self) a.id.0 ∷ []) c.requires refl c.choose_running-running.ensures c.if-running-ne0.false in
-    omega (arith, w.listed, w.few)
+    let id = a.id.0 in
+    exits _ _ c.from_residual.ensures.1 (refused_on s _ id _ (abort_checks s id) (last s (admission s a.memory a.tail.now).room id a.name) refl c.in_err-running.ensures)
 
 pub has_savepoint-requires : goal.has_savepoint-requires
 has_savepoint-requires c =
     let a = c.args in
-    let w = slotted _ _ _ _ (check7 (bare_state a.self) a.id.0 ∷ []) c.requires refl c.choose_running-running.ensures c.if-running-ne0.false in
-    few_set a.self a.admitted a.id.0 a.name _ w
+    let w = judged_running _ _ _ _ _ c.in_ok-running.ensures refl in
+    few_set a.self _ a.id.0 a.name _ w
 
 pub returns-then-not-has_savepoint : goal.returns-then-not-has_savepoint
 returns-then-not-has_savepoint c =
     let a = c.args in
     let s = bare_state a.self in
-    let w = slotted _ _ _ _ (check7 s a.id.0 ∷ []) c.requires refl c.choose_running-running.ensures c.if-running-ne0.false in
-    let q = set_is a.self a.admitted a.id.0 a.name _ w ∙ sym c.has_savepoint.ensures ∙ c.if-not-has_savepoint.true in
-    w.refuses (last s a.admitted.room a.id.0 a.name) 18 refl (rw q) c.refuse.ensures
+    let w = judged_running _ _ _ _ _ c.in_ok-running.ensures refl in
+    let q = set_is a.self _ a.id.0 a.name _ w ∙ sym c.has_savepoint.ensures ∙ c.if-not-has_savepoint.true in
+    w.refuses (last s (admission s a.memory a.tail.now).room a.id.0 a.name) 18 refl (rw q)
 
 pub later_count-requires : goal.later_count-requires
 later_count-requires c =
     let a = c.args in
-    let w = slotted _ _ _ _ (check7 (bare_state a.self) a.id.0 ∷ []) c.requires refl c.choose_running-running.ensures c.if-running-ne0.false in
-    saved a.self a.admitted a.id.0 a.name _ w
+    let w = judged_running _ _ _ _ _ c.in_ok-running.ensures refl in
+    saved a.self _ a.id.0 a.name _ w
 
 pub overflow_add-total : goal.overflow_add-total
 overflow_add-total c =
     let a = c.args in
-    let w = slotted _ _ _ _ (check7 (bare_state a.self) a.id.0 ∷ []) c.requires refl c.choose_running-running.ensures c.if-running-ne0.false in
-    omega (arith, c.later_count.ensures, few_later a.self a.admitted a.id.0 a.name _ w)
+    let w = judged_running _ _ _ _ _ c.in_ok-running.ensures refl in
+    omega (arith, c.later_count.ensures, few_later a.self _ a.id.0 a.name _ w)
 
 pub later_size-requires : goal.later_size-requires
 later_size-requires c =
     let a = c.args in
-    let w = slotted _ _ _ _ (check7 (bare_state a.self) a.id.0 ∷ []) c.requires refl c.choose_running-running.ensures c.if-running-ne0.false in
-    (records a.self a.admitted a.id.0 a.name _ w, saved a.self a.admitted a.id.0 a.name _ w)
+    let w = judged_running _ _ _ _ _ c.in_ok-running.ensures refl in
+    (records a.self _ a.id.0 a.name _ w, saved a.self _ a.id.0 a.name _ w)
 
 pub overflow_add-used : goal.overflow_add-used
 overflow_add-used c =
     let a = c.args in
-    let w = slotted _ _ _ _ (check7 (bare_state a.self) a.id.0 ∷ []) c.requires refl c.choose_running-running.ensures c.if-running-ne0.false in
-    omega (arith, c.later_size.ensures, few_bytes a.self a.admitted a.id.0 a.name _ w)
+    let w = judged_running _ _ _ _ _ c.in_ok-running.ensures refl in
+    omega (arith, c.later_size.ensures, few_bytes a.self _ a.id.0 a.name _ w)
 
 pub returns-then-total-gt-MAX_RECORDS : goal.returns-then-total-gt-MAX_RECORDS
 returns-then-total-gt-MAX_RECORDS c =
     let a = c.args in
     let s = bare_state a.self in
-    let w = slotted _ _ _ _ (check7 s a.id.0 ∷ []) c.requires refl c.choose_running-running.ensures c.if-running-ne0.false in
-    let q = set_is a.self a.admitted a.id.0 a.name _ w ∙ sym c.has_savepoint.ensures ∙ c.if-not-has_savepoint.false in
+    let w = judged_running _ _ _ _ _ c.in_ok-running.ensures refl in
+    let q = set_is a.self _ a.id.0 a.name _ w ∙ sym c.has_savepoint.ensures ∙ c.if-not-has_savepoint.false in
     let t : 16 < (tx_of s a.id.0).undo.ranges.count + length (later_ranges a.name (tx_of s a.id.0)) =
-    omega (arith, total a.self a.admitted a.id.0 a.name _ w, c.later_count.ensures, c.if-total-gt-MAX_RECORDS.true) in
-    w.refuses (last s a.admitted.room a.id.0 a.name) 10 refl (rw (q, lt-ltb _ _ t)) c.refuse-then-total-gt-MAX_RECORDS.ensures
+    omega (arith, total a.self _ a.id.0 a.name _ w, c.later_count.ensures, c.if-total-gt-MAX_RECORDS.true) in
+    w.refuses (last s (admission s a.memory a.tail.now).room a.id.0 a.name) 10 refl (rw (q, lt-ltb _ _ t))
 
 pub returns-then-used-gt-LOG_LEN : goal.returns-then-used-gt-LOG_LEN
 returns-then-used-gt-LOG_LEN c =
     let a = c.args in
     let s = bare_state a.self in
-    let w = slotted _ _ _ _ (check7 s a.id.0 ∷ []) c.requires refl c.choose_running-running.ensures c.if-running-ne0.false in
-    let q = set_is a.self a.admitted a.id.0 a.name _ w ∙ sym c.has_savepoint.ensures ∙ c.if-not-has_savepoint.false in
+    let w = judged_running _ _ _ _ _ c.in_ok-running.ensures refl in
+    let q = set_is a.self _ a.id.0 a.name _ w ∙ sym c.has_savepoint.ensures ∙ c.if-not-has_savepoint.false in
     let t : (tx_of s a.id.0).undo.ranges.count + length (later_ranges a.name (tx_of s a.id.0)) ≤ 16 =
-    omega (arith, total a.self a.admitted a.id.0 a.name _ w, c.later_count.ensures, c.if-total-gt-MAX_RECORDS.false) in
-    let v : 16384 < a.admitted.room + ranges_size (later_ranges a.name (tx_of s a.id.0)) =
-    omega (arith, bytes a.self a.admitted a.id.0 a.name _ w, c.later_size.ensures, c.if-used-gt-LOG_LEN.true, w.room) in
-    w.refuses (last s a.admitted.room a.id.0 a.name) 13 refl (rw (q, le-ltb _ _ t, lt-ltb _ _ v)) c.refuse-then-used-gt-LOG_LEN.ensures
+    omega (arith, total a.self _ a.id.0 a.name _ w, c.later_count.ensures, c.if-total-gt-MAX_RECORDS.false) in
+    let v : 16384 < (admission s a.memory a.tail.now).room + ranges_size (later_ranges a.name (tx_of s a.id.0)) =
+    omega (arith, bytes a.self _ a.id.0 a.name _ w, c.later_size.ensures, c.if-used-gt-LOG_LEN.true, w.room) in
+    w.refuses (last s (admission s a.memory a.tail.now).room a.id.0 a.name) 13 refl (rw (q, le-ltb _ _ t, lt-ltb _ _ v))
 
 pub returns : goal.returns
 returns c =
     let a = c.args in
     let s = bare_state a.self in
-    let w = slotted _ _ _ _ (check7 s a.id.0 ∷ []) c.requires refl c.choose_running-running.ensures c.if-running-ne0.false in
-    let q = set_is a.self a.admitted a.id.0 a.name _ w ∙ sym c.has_savepoint.ensures ∙ c.if-not-has_savepoint.false in
+    let w = judged_running _ _ _ _ _ c.in_ok-running.ensures refl in
+    let q = set_is a.self _ a.id.0 a.name _ w ∙ sym c.has_savepoint.ensures ∙ c.if-not-has_savepoint.false in
     let t : (tx_of s a.id.0).undo.ranges.count + length (later_ranges a.name (tx_of s a.id.0)) ≤ 16 =
-    omega (arith, total a.self a.admitted a.id.0 a.name _ w, c.later_count.ensures, c.if-total-gt-MAX_RECORDS.false) in
-    let v : a.admitted.room + ranges_size (later_ranges a.name (tx_of s a.id.0)) ≤ 16384 =
-    omega (arith, bytes a.self a.admitted a.id.0 a.name _ w, c.later_size.ensures, c.if-used-gt-LOG_LEN.false, w.room) in
-    w.goes (last s a.admitted.room a.id.0 a.name) (rw (q, le-ltb _ _ t, le-ltb _ _ v))
+    omega (arith, total a.self _ a.id.0 a.name _ w, c.later_count.ensures, c.if-total-gt-MAX_RECORDS.false) in
+    let v : (admission s a.memory a.tail.now).room + ranges_size (later_ranges a.name (tx_of s a.id.0)) ≤ 16384 =
+    omega (arith, bytes a.self _ a.id.0 a.name _ w, c.later_size.ensures, c.if-used-gt-LOG_LEN.false, w.room) in
+    w.goes (last s (admission s a.memory a.tail.now).room a.id.0 a.name) (rw (q, le-ltb _ _ t, le-ltb _ _ v))

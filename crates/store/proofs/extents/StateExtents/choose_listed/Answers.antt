@@ -1,39 +1,64 @@
-use Prim.Native.Nat.{ℕ}
-use native.Mathlib.Omega.{arith}
-use mathlib.Core.Path.{sym, ap, ◌∙◌}
-use borrow.Author.Tests.{eq-eqb, ne_eqb}
+use Rattle.std.proofs.Common.{◌≡◌, ℕ, Bool, true, false, eqb, cond, arith, refl, sym, ap, ◌∙◌}
+use Rattle.std.specs.Prelude.{Some, None}
+use borrow.Author.Tests.{eqb-true, eqb-false}
 use Rattle.image.proofs.Rules.{image_count}
-use Rattle.store.specs.State.{image_of}
+use Rattle.store.specs.State.{image_of, slot_of}
 use Rattle.store.specs.Extents.{bare_state}
-use Rattle.store.specs.Admission.{listed_checks}
-use Rattle.store.proofs.Choosing.{choice_none, choice_some, refused_6, passes_6}
+use Rattle.store.specs.Admission.{Admission, listed_checks, choice}
+use Rattle.store.proofs.Admitting.{seen}
+use Rattle.store.proofs.Slots.{slot as find}
+use Rattle.store.proofs.Choosing.{exits, choice_none, choice_some, refused_before, refused_6, passes_6}
 use Rattle.store.proofs.extents.StateExtents.choose_listed.Goals as goal
 
-pub returns-then-admitted-ne0 : goal.returns-then-admitted-ne0
-returns-then-admitted-ne0 c =
-    let a = c.args in
-    let n = c.if-admitted-ne0.true in
-    c.refuse.ensures ∙ sym (choice_some (bare_state a.self) a.admitted a.id.0 (listed_checks (bare_state a.self) a.id.0) a.admitted.number
-    (rw (ne_eqb a.admitted.number 0 n)) n)
+-- what a search says that ended in slot k of n: in none of them, or in slot i
+missed : (k n : ℕ) → None ≡ cond (eqb k n) None (Some k) → k ≡ n
+missed k n = go (eqb k n) refl
+  where
+    go : (b : Bool) → eqb k n ≡ b → None ≡ cond b None (Some k) → k ≡ n
+    go true e q = eqb-true k n e
+    go false e q = absurd (cc)
 
-pub find-slot-requires : goal.find-slot-requires
-find-slot-requires c = image_count (image_of (bare_state c.args.self)) (c.requires c.if-admitted-ne0.false).0
+met : (k n i : ℕ) → Some i ≡ cond (eqb k n) None (Some k) → (i ≡ k) × (k ≡ n → ⊥)
+met k n i = go (eqb k n) refl
+  where
+    go : (b : Bool) → eqb k n ≡ b → Some i ≡ cond b None (Some k) → (i ≡ k) × (k ≡ n → ⊥)
+    go true e q = absurd (cc)
+    go false e q = (cc, eqb-false k n e)
 
-pub returns-then-slot-self : goal.returns-then-slot-self
-returns-then-slot-self c =
+pub returns-in_err-admitted : goal.returns-in_err-admitted
+returns-in_err-admitted c =
     let a = c.args in
-    let find = c.find-slot in
-    c.refuse-then-slot-self.ensures
-    ∙ sym
-    (choice_some (bare_state a.self) a.admitted a.id.0 (listed_checks (bare_state a.self) a.id.0) 6
-    (rw (eq-eqb a.admitted.number 0 c.if-admitted-ne0.false) (refused_6 (bare_state a.self) a.id.0 find.result find.ensures c.if-slot-self.true))
-    (λ e. omega (arith, e)))
+    let s = bare_state a.self in
+    exits _ _ c.from_residual.ensures.1 (refused_before s _ a.id.0 c.in_err-admitted.field-0.0 (listed_checks s a.id.0) c.in_err-admitted.ensures)
+
+pub find-requires : goal.find-requires
+find-requires c =
+    let s = bare_state c.args.self in image_count (image_of s) (seen s c.args.memory c.args.tail.now _ c.in_ok-admitted.ensures refl).0
+
+pub returns-in_default : goal.returns-in_default
+returns-in_default c =
+    let a = c.args in
+    let s = bare_state a.self in
+    let k = slot_of s a.id.0 in
+    let h = missed k _ c.in_default.ensures in
+    sym (choice_some s _ a.id.0 (listed_checks s a.id.0) 6 (refused_6 s a.id.0 k refl h) (λ e. omega (arith, e)))
+    ∙ ap (λ (x : Admission). choice s x a.id.0 (listed_checks s a.id.0)) c.in_ok-admitted.ensures
+
+pub invariant_of-result : goal.invariant_of-result
+invariant_of-result c =
+    let s = bare_state c.args.self in
+    let w = seen s c.args.memory c.args.tail.now _ c.in_ok-admitted.ensures refl in
+    let m = met (slot_of s c.args.id.0) _ _ c.in-Some.ensures in
+    let f = (find s c.args.id.0).high in
+    record { slot_within = omega (arith, f, m.0, m.1, image_count (image_of s) w.0) }
 
 pub returns : goal.returns
 returns c =
     let a = c.args in
-    let find = c.find-slot in
-    ap (λ (k : ℕ). record { number = 0; slot = k; end = a.admitted.end; room = a.admitted.room }) find.ensures
-    ∙ sym
-    (choice_none (bare_state a.self) a.admitted a.id.0 (listed_checks (bare_state a.self) a.id.0)
-    (rw (eq-eqb a.admitted.number 0 c.if-admitted-ne0.false) (passes_6 (bare_state a.self) a.id.0 find.result find.ensures c.if-slot-self.false)))
+    let s = bare_state a.self in
+    let k = slot_of s a.id.0 in
+    let m = met k _ _ c.in-Some.ensures in
+    let x = c.in_ok-admitted.admitted in
+    ap (λ (k : ℕ). record { number = 0; slot = k; end = x.end; room = x.room }) m.0
+    ∙ sym (choice_none s _ a.id.0 (listed_checks s a.id.0) (passes_6 s a.id.0 k refl m.1))
+    ∙ ap (λ (x : Admission). choice s x a.id.0 (listed_checks s a.id.0)) c.in_ok-admitted.ensures

@@ -1,38 +1,27 @@
-use native.Mathlib.Omega.{arith}
-use mathlib.Core.List.{[], ◌∷◌}
-use mathlib.Core.Path.{refl, sym, ◌∙◌}
+use Rattle.std.proofs.Common.{refl, sym, [], ◌∷◌, ◌∙◌}
 use Rattle.store.specs.Extents.{bare_state}
 use Rattle.store.specs.Numbers.{check7}
 use Rattle.store.specs.Admission.{listed_checks}
 use Rattle.store.proofs.Bare.{status_at}
-use Rattle.store.proofs.Choosing.{choice_stops, slotted, refused_7, passes_7}
+use Rattle.store.proofs.Choosing.{exits, refused_on, judged_slot, refused_7, passes_7}
 use Rattle.store.proofs.extents.StateExtents.choose_running.Goals as goal
 
-pub returns-then-listed-ne0 : goal.returns-then-listed-ne0
-returns-then-listed-ne0 c =
-    let a = c.args in
-    choice_stops _ _ _ _ (listed_checks (bare_state a.self) a.id.0) c.choose_listed-listed.ensures refl (check7 (bare_state a.self) a.id.0 ∷ []) c.if-listed-ne0.true
+pub returns-in_err-listed : goal.returns-in_err-listed
+returns-in_err-listed c =
+    let s = bare_state c.args.self in
+    let id = c.args.id.0 in
+    exits _ _ c.from_residual.ensures.1 (refused_on s _ id _ (listed_checks s id) (check7 s id ∷ []) refl c.in_err-listed.ensures)
 
-pub offset_bounds-self-slot : goal.offset_bounds-self-slot
-offset_bounds-self-slot c =
-    let w = slotted _ _ _ _ [] c.requires refl c.choose_listed-listed.ensures c.if-listed-ne0.false in
-    omega (arith, w.listed, w.few)
-
-pub bounds-self-slot : goal.bounds-self-slot
-bounds-self-slot c =
-    let w = slotted _ _ _ _ [] c.requires refl c.choose_listed-listed.ensures c.if-listed-ne0.false in
-    omega (arith, w.listed, w.few)
-
-pub returns-then-self-slot-eq-COMMITTING : goal.returns-then-self-slot-eq-COMMITTING
-returns-then-self-slot-eq-COMMITTING c =
-    let a = c.args in
-    let w = slotted _ _ _ _ [] c.requires refl c.choose_listed-listed.ensures c.if-listed-ne0.false in
-    w.refuses (check7 (bare_state a.self) a.id.0 ∷ []) 7 refl
-    (refused_7 (bare_state a.self) a.id.0 _ w.slot (status_at a.self _ ∙ c.if-self-slot-eq-COMMITTING.true)) c.refuse.ensures
+pub returns-then-self-listed-eq-COMMITTING : goal.returns-then-self-listed-eq-COMMITTING
+returns-then-self-listed-eq-COMMITTING c =
+    let s = bare_state c.args.self in
+    let id = c.args.id.0 in
+    let w = judged_slot _ _ _ _ _ [] refl c.in_ok-listed.ensures refl in
+    w.refuses (check7 s id ∷ []) 7 refl (refused_7 s id _ w.slot (status_at c.args.self _ ∙ c.if-self-listed-eq-COMMITTING.true))
 
 pub returns : goal.returns
 returns c =
-    let a = c.args in
-    let w = slotted _ _ _ _ [] c.requires refl c.choose_listed-listed.ensures c.if-listed-ne0.false in
-    w.goes (check7 (bare_state a.self) a.id.0 ∷ [])
-    (passes_7 (bare_state a.self) a.id.0 _ w.slot (λ q. c.if-self-slot-eq-COMMITTING.false (sym (status_at a.self _) ∙ q)))
+    let s = bare_state c.args.self in
+    let id = c.args.id.0 in
+    let w = judged_slot _ _ _ _ _ [] refl c.in_ok-listed.ensures refl in
+    w.goes (check7 s id ∷ []) (passes_7 s id _ w.slot (λ q. c.if-self-listed-eq-COMMITTING.false (sym (status_at c.args.self _) ∙ q)))

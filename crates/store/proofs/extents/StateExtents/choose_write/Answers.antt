@@ -1,134 +1,99 @@
-use Prim.Native.Nat.{ℕ, ◌+◌, ◌≤◌, ◌<◌}
-use native.Mathlib.Omega.{arith}
-use mathlib.Core.Bool.{true, false}
-use mathlib.Core.List.{List, [], ◌∷◌, ◌++◌}
-use mathlib.Core.Path.{◌≡◌, refl, sym, ap, ◌∙◌}
-use lib.ListN.{get_or}
-use borrow.Author.Tests.{eq-eqb, ne_eqb, lt-ltb, le-ltb}
+use Rattle.std.proofs.Common.{ℕ, List, [], ◌∷◌, ◌++◌, ◌≡◌, ◌+◌, ◌≤◌, ◌<◌, true, false, arith, refl, sym, ap, ◌∙◌, eq-eqb, ne_eqb, lt-ltb, le-ltb}
+use Rattle.layout.specs.Refusal.{number_of}
 use Rattle.recovery.specs.Lists.{any}
 use Rattle.transaction.specs.declared.Tx.{Tx}
 use Rattle.transaction.specs.Rules.{writing, held_against}
-use Rattle.store.specs.declared.extents.StateExtents.{StateExtents}
 use Rattle.store.specs.declared.State.{State}
-use Rattle.store.specs.declared.admit.Admission.{Admission}
-use Rattle.store.specs.declared.choose.Choice.{Choice}
 use Rattle.store.specs.State.{txs_of}
-use Rattle.store.specs.Extents.{no_extents, bare_state}
-use Rattle.store.specs.Numbers.{Check, tx_of, check7, check8, check9, check10, check13, check16, abort_checks, range_checks}
-use Rattle.store.specs.Admission.{choice, after, Seen}
+use Rattle.store.specs.Extents.{bare_state}
+use Rattle.store.specs.Numbers.{Check, first_number, tx_of, check8, check9, check10, check13, check16, abort_checks}
+use Rattle.store.specs.Admission.{admission}
 use Rattle.store.proofs.Bare.{slot_is}
-use Rattle.store.proofs.Choosing.{choice_stops, choice_after, Slotted, slotted, Ranged, chosen_range}
+use Rattle.store.proofs.Checks.{passes, refused_some, refused_first}
+use Rattle.store.proofs.Choosing.{exits, refused_on, judged_running, range_checked}
 use Rattle.store.proofs.extents.StateExtents.choose_write.Goals as goal
 
--- numbers 6 to 8 and 16
-abbrev first : State → ℕ → ℕ → ℕ → List Check
-first s id addr len = range_checks s id addr len ++ (check16 addr len ∷ [])
+-- of the range and its page
+abbrev ranged : ℕ → ℕ → List Check
+ranged addr len = check8 addr len ∷ check16 addr len ∷ []
 
--- what is checked after the range and its page
-abbrev last : State → ℕ → ℕ → ℕ → ℕ → List Check
-last s room id addr len = check9 s writing id addr len ∷ check10 s id ∷ check13 room len ∷ []
+module _ (s : State) (room id addr len : ℕ) where
+  -- what is checked after the range and its page
+  abbrev last : List Check
+  last = check9 s writing id addr len ∷ check10 s id ∷ check13 room len ∷ []
 
-module _ (e : StateExtents) (x : Admission) (id addr len : ℕ) (r ranged paged : Choice)
-    (q : r ≡ choice (bare_state e) x id (abort_checks (bare_state e) id)) (f : ranged ≡ after r (check8 addr len ∷ []))
-    (g : paged ≡ after ranged (check16 addr len ∷ [])) where
-  abbrev s : State
-  s = bare_state e
+  -- what is checked after 7
+  abbrev own : List Check
+  own = ranged addr len ++ last
 
-  chosen : paged ≡ choice s x id (first s id addr len)
-  chosen =
-      let y = choice_after s x id r (abort_checks s id) q refl (check8 addr len ∷ []) ranged f in
-      choice_after s x id ranged (range_checks s id addr len) y refl (check16 addr len ∷ []) paged g
+  own_last : 0 ≡ first_number (ranged addr len) → first_number own ≡ first_number last
+  own_last p = passes (ranged addr len) last refl (sym p)
 
-  module _ (seen : Seen x s) (h : paged.number ≡ 0) where
-    -- numbers 1, 2, 6 to 8 and 16 do not refuse
-    found : Slotted s x id paged (check7 s id ∷ check8 addr len ∷ check16 addr len ∷ [])
-    found = slotted s x id paged (check7 s id ∷ check8 addr len ∷ check16 addr len ∷ []) seen refl chosen h
-
-    range : Ranged addr len
-    range = chosen_range s id addr len (check16 addr len ∷ []) found.own
-
-    -- its undo records are those in the slot chosen
-    records : (get_or e.txs paged.slot no_extents).undo.count ≡ (tx_of s id).undo.ranges.count
-    records = ap (λ (t : Tx). t.undo.ranges.count) (slot_is e found)
-
-pub returns-then-paged-ne0 : goal.returns-then-paged-ne0
-returns-then-paged-ne0 c =
+pub returns-in_err-running : goal.returns-in_err-running
+returns-in_err-running c =
     let a = c.args in
     let s = bare_state a.self in
-    choice_stops _ _ _ _ (first s a.id.0 a.addr a.len)
-    (chosen a.self a.admitted a.id.0 a.addr a.len _ _ _ c.choose_running-running.ensures c.choose_range-ranged.ensures c.choose_page-paged.ensures) refl
-    (last s a.admitted.room a.id.0 a.addr a.len) c.if-paged-ne0.true
+    exits _ _ c.from_residual.ensures.1 (refused_on s _ a.id.0 _ (abort_checks s a.id.0) (own s (admission s a.memory a.tail.now).room a.id.0 a.addr a.len) refl c.in_err-running.ensures)
+
+pub returns-in_err-check_write_range : goal.returns-in_err-check_write_range
+returns-in_err-check_write_range c =
+    let a = c.args in
+    let s = bare_state a.self in
+    let r = (admission s a.memory a.tail.now).room in
+    let w = judged_running _ _ _ _ _ c.in_ok-running.ensures refl in
+    let e = c.in_err-check_write_range.field-0.0 in
+    exits _ _ c.from_residual-in_err-check_write_range.ensures.1 (w.refuses (own s r a.id.0 a.addr a.len) (number_of e) (refused_some e)
+    (refused_first e (ranged a.addr a.len) (last s r a.id.0 a.addr a.len) c.in_err-check_write_range.ensures))
 
 pub held-requires : goal.held-requires
 held-requires c =
-    let a = c.args in
-    let w = found a.self a.admitted a.id.0 a.addr a.len _ _ _ c.choose_running-running.ensures c.choose_range-ranged.ensures c.choose_page-paged.ensures c.requires c.if-paged-ne0.false in
-    let g = range a.self a.admitted a.id.0 a.addr a.len _ _ _ c.choose_running-running.ensures c.choose_range-ranged.ensures c.choose_page-paged.ensures c.requires c.if-paged-ne0.false in
-    (w.rules, w.states, omega (arith, g.within), g.short)
+    let w = judged_running _ _ _ _ _ c.in_ok-running.ensures refl in
+    let g = range_checked c.args.addr c.args.len (check16 c.args.addr c.args.len ∷ []) (sym c.in_ok-check_write_range.ensures) in
+    (w.few, omega (arith, g.within), g.short)
 
 pub returns-then-held : goal.returns-then-held
 returns-then-held c =
     let a = c.args in
     let s = bare_state a.self in
-    let w = found a.self a.admitted a.id.0 a.addr a.len _ _ _ c.choose_running-running.ensures c.choose_range-ranged.ensures c.choose_page-paged.ensures c.requires c.if-paged-ne0.false in
+    let r = (admission s a.memory a.tail.now).room in
+    let w = judged_running _ _ _ _ _ c.in_ok-running.ensures refl in
     let held : any (held_against writing a.id.0 a.addr a.len) (txs_of s) ≡ true = sym c.held.ensures ∙ c.if-held.true in
-    w.refuses (last s a.admitted.room a.id.0 a.addr a.len) 9 refl (rw held) c.refuse.ensures
+    w.refuses (own s r a.id.0 a.addr a.len) 9 refl (own_last s r a.id.0 a.addr a.len c.in_ok-check_write_range.ensures ∙ rw held)
 
-pub offset_bounds-self-slot : goal.offset_bounds-self-slot
-offset_bounds-self-slot c =
-    let a = c.args in
-    let w = found a.self a.admitted a.id.0 a.addr a.len _ _ _ c.choose_running-running.ensures c.choose_range-ranged.ensures c.choose_page-paged.ensures c.requires c.if-paged-ne0.false in
-    omega (arith, w.listed, w.few)
-
-pub bounds-self-slot : goal.bounds-self-slot
-bounds-self-slot c =
-    let a = c.args in
-    let w = found a.self a.admitted a.id.0 a.addr a.len _ _ _ c.choose_running-running.ensures c.choose_range-ranged.ensures c.choose_page-paged.ensures c.requires c.if-paged-ne0.false in
-    omega (arith, w.listed, w.few)
-
-pub returns-then-self-slot-eq-RECORDS_MAX : goal.returns-then-self-slot-eq-RECORDS_MAX
-returns-then-self-slot-eq-RECORDS_MAX c =
+pub returns-then-self-running-eq-RECORDS_MAX : goal.returns-then-self-running-eq-RECORDS_MAX
+returns-then-self-running-eq-RECORDS_MAX c =
     let a = c.args in
     let s = bare_state a.self in
-    let w = found a.self a.admitted a.id.0 a.addr a.len _ _ _ c.choose_running-running.ensures c.choose_range-ranged.ensures c.choose_page-paged.ensures c.requires c.if-paged-ne0.false in
-    let n = records a.self a.admitted a.id.0 a.addr a.len _ _ _ c.choose_running-running.ensures c.choose_range-ranged.ensures c.choose_page-paged.ensures c.requires c.if-paged-ne0.false in
+    let r = (admission s a.memory a.tail.now).room in
+    let w = judged_running _ _ _ _ _ c.in_ok-running.ensures refl in
+    let n = ap (λ (t : Tx). t.undo.ranges.count) (slot_is a.self w) in
     let free : any (held_against writing a.id.0 a.addr a.len) (txs_of s) ≡ false = sym c.held.ensures ∙ c.if-held.false in
-    w.refuses (last s a.admitted.room a.id.0 a.addr a.len) 10 refl
-    (rw (free, eq-eqb (tx_of s a.id.0).undo.ranges.count 16 (sym n ∙ c.if-self-slot-eq-RECORDS_MAX.true)))
-    c.refuse-then-self-slot-eq-RECORDS_MAX.ensures
+    w.refuses (own s r a.id.0 a.addr a.len) 10 refl
+    (own_last s r a.id.0 a.addr a.len c.in_ok-check_write_range.ensures
+    ∙ rw (free, eq-eqb (tx_of s a.id.0).undo.ranges.count 16 (sym n ∙ c.if-self-running-eq-RECORDS_MAX.true)))
 
-pub overflow_add-len : goal.overflow_add-len
-overflow_add-len c =
-    let a = c.args in
-    let g = range a.self a.admitted a.id.0 a.addr a.len _ _ _ c.choose_running-running.ensures c.choose_range-ranged.ensures c.choose_page-paged.ensures c.requires c.if-paged-ne0.false in
-    omega (arith, g.short)
-
-pub overflow_add-paged : goal.overflow_add-paged
-overflow_add-paged c =
-    let a = c.args in
-    let w = found a.self a.admitted a.id.0 a.addr a.len _ _ _ c.choose_running-running.ensures c.choose_range-ranged.ensures c.choose_page-paged.ensures c.requires c.if-paged-ne0.false in
-    let g = range a.self a.admitted a.id.0 a.addr a.len _ _ _ c.choose_running-running.ensures c.choose_range-ranged.ensures c.choose_page-paged.ensures c.requires c.if-paged-ne0.false in
-    omega (arith, g.short, w.room, w.small)
-
-pub returns-then-paged-len-gt-LOG_LEN : goal.returns-then-paged-len-gt-LOG_LEN
-returns-then-paged-len-gt-LOG_LEN c =
+pub returns-then-running-len-gt-LOG_LEN : goal.returns-then-running-len-gt-LOG_LEN
+returns-then-running-len-gt-LOG_LEN c =
     let a = c.args in
     let s = bare_state a.self in
-    let w = found a.self a.admitted a.id.0 a.addr a.len _ _ _ c.choose_running-running.ensures c.choose_range-ranged.ensures c.choose_page-paged.ensures c.requires c.if-paged-ne0.false in
-    let n = records a.self a.admitted a.id.0 a.addr a.len _ _ _ c.choose_running-running.ensures c.choose_range-ranged.ensures c.choose_page-paged.ensures c.requires c.if-paged-ne0.false in
+    let r = (admission s a.memory a.tail.now).room in
+    let w = judged_running _ _ _ _ _ c.in_ok-running.ensures refl in
+    let n = ap (λ (t : Tx). t.undo.ranges.count) (slot_is a.self w) in
     let free : any (held_against writing a.id.0 a.addr a.len) (txs_of s) ≡ false = sym c.held.ensures ∙ c.if-held.false in
-    let full : 16384 < a.admitted.room + (7 + a.len) = omega (arith, w.room, c.if-paged-len-gt-LOG_LEN.true) in
-    w.refuses (last s a.admitted.room a.id.0 a.addr a.len) 13 refl
-    (rw (free, ne_eqb (tx_of s a.id.0).undo.ranges.count 16 (λ z. c.if-self-slot-eq-RECORDS_MAX.false (n ∙ z)), lt-ltb _ _ full))
-    c.refuse-then-paged-len-gt-LOG_LEN.ensures
+    let full : 16384 < r + (7 + a.len) = omega (arith, w.room, c.if-running-len-gt-LOG_LEN.true) in
+    w.refuses (own s r a.id.0 a.addr a.len) 13 refl
+    (own_last s r a.id.0 a.addr a.len c.in_ok-check_write_range.ensures
+    ∙ rw (free, ne_eqb (tx_of s a.id.0).undo.ranges.count 16 (λ z. c.if-self-running-eq-RECORDS_MAX.false (n ∙ z)), lt-ltb _ _ full))
 
 pub returns : goal.returns
 returns c =
     let a = c.args in
     let s = bare_state a.self in
-    let w = found a.self a.admitted a.id.0 a.addr a.len _ _ _ c.choose_running-running.ensures c.choose_range-ranged.ensures c.choose_page-paged.ensures c.requires c.if-paged-ne0.false in
-    let n = records a.self a.admitted a.id.0 a.addr a.len _ _ _ c.choose_running-running.ensures c.choose_range-ranged.ensures c.choose_page-paged.ensures c.requires c.if-paged-ne0.false in
+    let r = (admission s a.memory a.tail.now).room in
+    let w = judged_running _ _ _ _ _ c.in_ok-running.ensures refl in
+    let n = ap (λ (t : Tx). t.undo.ranges.count) (slot_is a.self w) in
     let free : any (held_against writing a.id.0 a.addr a.len) (txs_of s) ≡ false = sym c.held.ensures ∙ c.if-held.false in
-    let enough : a.admitted.room + (7 + a.len) ≤ 16384 = omega (arith, w.room, c.if-paged-len-gt-LOG_LEN.false) in
-    w.goes (last s a.admitted.room a.id.0 a.addr a.len)
-    (rw (free, ne_eqb (tx_of s a.id.0).undo.ranges.count 16 (λ z. c.if-self-slot-eq-RECORDS_MAX.false (n ∙ z)), le-ltb _ _ enough))
+    let enough : r + (7 + a.len) ≤ 16384 = omega (arith, w.room, c.if-running-len-gt-LOG_LEN.false) in
+    w.goes (own s r a.id.0 a.addr a.len)
+    (own_last s r a.id.0 a.addr a.len c.in_ok-check_write_range.ensures
+    ∙ rw (free, ne_eqb (tx_of s a.id.0).undo.ranges.count 16 (λ z. c.if-self-running-eq-RECORDS_MAX.false (n ∙ z)), le-ltb _ _ enough))

@@ -1,58 +1,47 @@
-use Prim.Native.Nat.{◌≤◌}
-use native.Mathlib.Nat.{sub-zero}
-use native.Mathlib.Omega.{arith}
-use mathlib.Core.Path.{sym, ap, ◌∙◌, subst}
+use Rattle.std.proofs.Common.{arith, rules, ◌≡◌, ◌<◌, ℕ, Bool, take, get_or, length, length-take, length-take-le, sym, ap, ◌∙◌}
 use Rattle.recovery.specs.Lists.{any}
 use Rattle.transaction.specs.declared.Tx.{Tx}
-use Rattle.transaction.specs.Rules.{state_ok, held_against}
-use Rattle.transaction.proofs.Lists.{up_done, every_at, any_hit, any_miss}
-use Rattle.transaction.proofs.StateRule.{few_reads}
-use Rattle.transaction.proofs.RangeLaws.{counted}
-use Rattle.image.proofs.Rules.{image_count, undo_at_lem}
-use Rattle.store.specs.State.{tx_at, image_of}
-use Rattle.store.specs.Extents.{bare_state}
-use Rattle.store.proofs.Bare.{bare_at}
+use Rattle.transaction.specs.View.{bare_tx}
+use Rattle.transaction.specs.Rules.{held_against}
+use Rattle.transaction.proofs.Lists.{up_done, any_hit, any_miss}
+use Rattle.store.specs.declared.extents.StateExtents.{StateExtents}
+use Rattle.store.specs.State.{tx_at}
+use Rattle.store.specs.Extents.{no_extents, bare_state}
+use Rattle.store.proofs.Bare.{listed_at}
+use Rattle.store.proofs.Slots.{length_mapped}
 use Rattle.store.proofs.extents.StateExtents.held.Goals as goal
 
-pub loop-i-init : goal.loop-i-init
-loop-i-init c = (omega arith, rw (sub-zero c.args.self.count))
+-- element i, and the test on it
+module _ (e : StateExtents) (i : ℕ) (h : i < e.counters.count) where
+  abbrev t : Tx
+  t = bare_tx (get_or (take e.counters.count e.txs) i no_extents)
 
-pub bounds-self-i : goal.bounds-self-i
-bounds-self-i c = let h = image_count (image_of (bare_state c.args.self)) c.requires.0 in omega arith
-
-pub holds_against-requires : goal.holds_against-requires
-holds_against-requires c =
-    let e = c.args.self in
-    let i = c.loop-i.i in (
-      subst (λ (t : Tx). t.undo.ranges.count ≤ 16) (bare_at e i)
-          (counted (tx_at (bare_state e) i).undo.ranges (undo_at_lem (image_of (bare_state e)) c.requires.0 i c.loop-i-test.true)),
-      subst (λ (t : Tx). t.extras.reads.count ≤ 16) (bare_at e i)
-          (few_reads (tx_at (bare_state e) i) (every_at (tx_at (bare_state e)) state_ok e.count 0 c.requires.1 i (omega arith)
-          (omega (arith, c.loop-i-test.true)))),
-      c.requires.2,
-      c.requires.3,
-    )
+  tested : (p : Tx → Bool) (r : Bool) → r ≡ p t → p (tx_at (bare_state e) i) ≡ r
+  tested p r q = ap p (listed_at e e.counters.count i h) ∙ sym q
 
 pub returns-then-holds_against : goal.returns-then-holds_against
 returns-then-holds_against c =
     let a = c.args in
-    let i = c.loop-i.i in
-    sym (c.loop-i.invariant.1
-    ∙ any_hit (tx_at (bare_state a.self)) _ _ c.loop-i-test.true (held_against _ _ _ _)
-    (ap (held_against a.writing a.id.0 a.addr a.len) (bare_at a.self i) ∙ sym c.holds_against.ensures ∙ c.if-holds_against.true))
+    let e = a.self in
+    let i = c.loop-t.t-index in
+    let h : i < e.counters.count = omega (arith, length-take e.counters.count e.txs) in
+    let p = held_against a.writing a.id.0 a.addr a.len in
+    sym (c.loop-t.invariant ∙ any_hit (tx_at (bare_state e)) _ _ h p (tested e i h p _ c.holds_against.ensures ∙ c.if-holds_against.true))
 
-pub loop-i-preserved : goal.loop-i-preserved
-loop-i-preserved c =
+pub loop-t-preserved : goal.loop-t-preserved
+loop-t-preserved c =
     let a = c.args in
-    let i = c.loop-i.i in (
-      omega arith,
-      c.loop-i.invariant.1
-          ∙ any_miss (tx_at (bare_state a.self)) _ _ c.loop-i-test.true (held_against _ _ _ _)
-          (ap (held_against a.writing a.id.0 a.addr a.len) (bare_at a.self i) ∙ sym c.holds_against.ensures ∙ c.if-holds_against.false),
-    )
+    let e = a.self in
+    let i = c.loop-t.t-index in
+    let h : i < e.counters.count = omega (arith, length-take e.counters.count e.txs) in
+    let p = held_against a.writing a.id.0 a.addr a.len in
+    c.loop-t.invariant ∙ any_miss (tx_at (bare_state e)) _ _ h p (tested e i h p _ c.holds_against.ensures ∙ c.if-holds_against.false)
 
 pub returns : goal.returns
 returns c =
     let a = c.args in
-    let s = bare_state a.self in
-    sym (c.loop-i.invariant.1 ∙ ap (any (held_against a.writing a.id.0 a.addr a.len)) (up_done (tx_at s) s.count c.loop-i.i c.loop-i-test.false))
+    let e = a.self in
+    let i = c.loop-t.t-index in
+    let l : length e.txs ≡ 8 = search (rules, length_mapped) in
+    let n : length (take e.counters.count e.txs) ≡ e.counters.count = length-take-le e.counters.count e.txs (omega (arith, l, c.requires.0)) in
+    sym (c.loop-t.invariant ∙ ap (any (held_against a.writing a.id.0 a.addr a.len)) (up_done (tx_at (bare_state e)) e.counters.count i (omega (arith, n))))

@@ -1,5 +1,4 @@
-use Prim.Native.Nat.{◌-◌, ◌≤◌}
-use mathlib.Core.Path.{◌≡◌}
+use Rattle.std.proofs.Common.{◌≡◌, ◌-◌}
 use Rattle.recovery.specs.Lists.{any}
 use Rattle.transaction.specs.Lists.{up_from}
 use Rattle.transaction.specs.Rules.{held_against}
@@ -7,11 +6,9 @@ use Rattle.store.specs.State.{tx_at, txs_of}
 use Rattle.store.specs.Extents.{bare_state}
 use Rattle.store.proofs.extents.StateExtents.held.Given as goal
 
-abbrev pub invariant-loop-i : goal.invariant-loop-i
-invariant-loop-i l =
-    (l.i ≤ l.n)
-    × (any (held_against l.writing l.id.0 l.addr l.len) (txs_of (bare_state l.self))
-    ≡ any (held_against l.writing l.id.0 l.addr l.len) (up_from (tx_at (bare_state l.self)) (l.n - l.i) l.i))
-
-abbrev pub decreases-loop-i : goal.decreases-loop-i
-decreases-loop-i l = l.n - l.i
+-- none passed so far holds a byte against it
+abbrev pub invariant-loop-t : goal.invariant-loop-t
+invariant-loop-t l =
+    let s = bare_state l.fn.self in
+    any (held_against l.writing l.id.0 l.addr l.len) (txs_of s)
+    ≡ any (held_against l.writing l.id.0 l.addr l.len) (up_from (tx_at s) (s.count - l.t-index) l.t-index)

@@ -9,14 +9,10 @@ use Rattle.store.proofs.extents.StateExtents.measure_txs.Given as goal
 -- those passed so far keep each rule, so that it rests on the others; their room is at most 632 each
 abbrev pub invariant-loop-i : goal.invariant-loop-i
 invariant-loop-i l =
-    let s = bare_state l.self in
-    (l.i ≤ l.n)
-    × (l.room ≤ 632 * l.i)
+    let s = bare_state l.fn.self in
+    (l.room ≤ 632 * l.i)
     × (every (outline_ok s.lastid.0 s.assigned.0) (outlines_of s)
     ≡ every (outline_ok s.lastid.0 s.assigned.0) (up_from (outline_at s) (l.n - l.i) l.i))
     × (distinct (outlines_of s) ≡ distinct (up_from (outline_at s) (l.n - l.i) l.i))
     × (every state_ok (txs_of s) ≡ every state_ok (up_from (tx_at s) (l.n - l.i) l.i))
     × (sum_of room_of (txs_of s) ≡ l.room + sum_of room_of (up_from (tx_at s) (l.n - l.i) l.i))
-
-abbrev pub decreases-loop-i : goal.decreases-loop-i
-decreases-loop-i l = l.n - l.i
