@@ -1,13 +1,11 @@
 -- Laws of `same_bytes`.
-use Prim.Native.Nat.{ℕ, suc, ◌+◌, ◌≤◌, ◌<◌}
-use native.Mathlib.Numerals.{add-one}
+use Prim.Native.Nat.{ℕ}
 use native.Mathlib.Omega.{arith}
 use mathlib.Core.Bool.{Bool, true, false, ◌&&◌, and_assoc}
 use mathlib.Core.List.{List, [], ◌∷◌}
 use mathlib.Core.Path.{◌≡◌, refl, sym, ap₂}
 use lib.Bits.{bit_or, bit_xor, xor_self, xor_add_and, and_le_l, and_le_r}
-use lib.ListN.{length, get_or, drop, drop_of_length-le}
-use lib.Seq.{drop-cons}
+use lib.ListN.{length}
 use lib.Dec.{eqb}
 use borrow.Author.Tests.{eq-eqb, ne_eqb, eqb-true, eqb-false}
 use Rattle.redolog.proofs.Basics.{clash, and_left, and_right}
@@ -22,14 +20,14 @@ xor_is_zero x y = go (eqb x y) refl
     go false e =
         ne_eqb (bit_xor x y) 0 (λ (z : bit_xor x y ≡ 0). eqb-false x y e (omega (arith, z, xor_add_and x y, and_le_l x y, and_le_r x y)))
 
-pub same_turn : (a b : List ℕ) (seen i : ℕ) → i < length a → length a ≡ length b
-    → eqb seen 0 && same_bytes (drop i a) (drop i b) ≡ eqb (bit_or seen (bit_xor (get_or a i 0) (get_or b i 0))) 0 && same_bytes (drop (i + 1) a) (drop (i + 1) b)
-same_turn a b seen i h l =
-    rw (drop-cons a i 0 h, drop-cons b i 0 (omega arith), or_is_zero seen (bit_xor (get_or a i 0) (get_or b i 0)), xor_is_zero (get_or a i 0) (get_or b i 0), add-one i)
-    (sym (and_assoc (eqb seen 0) (eqb (get_or a i 0) (get_or b i 0)) (same_bytes (drop (suc i) a) (drop (suc i) b))))
+pub same_turn : (seen x y : ℕ) (xs ys : List ℕ)
+    → eqb seen 0 && same_bytes (x ∷ xs) (y ∷ ys) ≡ eqb (bit_or seen (bit_xor x y)) 0 && same_bytes xs ys
+same_turn seen x y xs ys = rw (or_is_zero seen (bit_xor x y), xor_is_zero x y) (sym (and_assoc (eqb seen 0) (eqb x y) (same_bytes xs ys)))
 
-pub same_end : (a b : List ℕ) (i : ℕ) → length a ≤ i → length a ≡ length b → same_bytes (drop i a) (drop i b) ≡ true
-same_end a b i h l = ap₂ same_bytes (drop_of_length-le a {i = i} h) (drop_of_length-le b {i = i} (omega arith))
+pub same_end : (xs ys : List ℕ) → length xs ≡ length ys → length xs ≡ 0 → same_bytes xs ys ≡ true
+same_end [] [] e h = refl
+same_end [] (y ∷ ys) e h = absurd (omega arith)
+same_end (x ∷ xs) ys e h = absurd (omega arith)
 
 -- the test says what it should
 pub same_equal : (a b : List ℕ) → same_bytes a b ≡ true → a ≡ b

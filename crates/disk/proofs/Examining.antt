@@ -2,25 +2,29 @@
 use Prim.Native.Nat.{ℕ, ◌+◌, ◌*◌, ◌≤◌, ◌<◌}
 use native.Mathlib.Omega.{arith}
 use mathlib.Core.Bool.{Bool, true, false, cond}
-use mathlib.Core.List.{List}
+use mathlib.Core.List.{List, map}
 use mathlib.Core.Path.{◌≡◌, refl, sym, ap, ◌∙◌, subst}
-use lib.ListN.{length, replicate}
+use lib.ListN.{length, take, replicate}
+use lib.Seq.{sets, take_all}
 use lib.Dec.{eqb, ltb}
-use borrow.Author.Tests.{eq-eqb, ne_eqb, eqb-true, lt-ltb, le-ltb, ltb-false}
+use borrow.Author.Tests.{eq-eqb, ne_eqb, eqb-true, eqb-false, lt-ltb, le-ltb, ltb-false}
+use Rattle.std.specs.Prelude.{Result, Ok, Err, is_err}
+use Rattle.layout.specs.declared.refusal.Refusal.{Refusal}
+use Rattle.layout.specs.Refusal.{number_of}
+use Rattle.redolog.proofs.Basics.{clash}
 use Rattle.redolog.proofs.LogLaws.{log_within}
 use Rattle.image.proofs.Rules.{image_logend, image_count}
+use Rattle.redolog.specs.declared.TxId.{TxId}
+use Rattle.redolog.specs.Log.{encode_log}
+use Rattle.restart.specs.Turns.{abort_of, aborts_laid}
+use Rattle.restart.specs.declared.Replayed.{Replayed}
 use Rattle.restart.specs.Restart.{AfterSteps}
+use Rattle.store.proofs.Checks.{refused_some}
 use Rattle.restart.proofs.Recovery.{end_is, count_is, undone_few}
-use Rattle.disk.specs.declared.examine.Judged.{Judged}
 use Rattle.disk.specs.Open.{OpenedDisk, open_of}
-use Rattle.disk.specs.Examine.{Meaning, refused_by, steps_of, meant, if_fits, examine_of}
-use Rattle.disk.specs.Heads.{JudgedAs}
-use Rattle.disk.proofs.Opened.{opened_rules, opened_log, log_short}
-
--- what was answered and left is what a meaning has, if it is what an equal one has
-pub answered : {x y : Meaning} {r : Judged} {m : List ℕ} → x ≡ y → JudgedAs r y → m ≡ y.memory
-    → record { judged_as : JudgedAs r x; memory_after : m ≡ x.memory }
-answered {r = r} e p q = record { judged_as = subst (JudgedAs r) (sym e) p; memory_after = q ∙ sym (ap (λ (z : Meaning). z.memory) e) }
+use Rattle.disk.specs.Examine.{Examined, Meaning, refused_by, steps_of, meant, if_fits, examine_of}
+use Rattle.disk.specs.Heads.{opened_of, handed_on, JudgedAs}
+use Rattle.disk.proofs.Opened.{opened_rules, opened_log, log_short, shut_memory, handed_not}
 
 pub means_shut : (disk : List ℕ) → ((open_of disk).number ≡ 0 → ⊥) → examine_of disk ≡ refused_by (open_of disk).number
 unfolding examine_of
@@ -29,6 +33,21 @@ means_shut disk n = rw (ne_eqb (open_of disk).number 0 n)
 pub refused_memory : (n : ℕ) → (refused_by n).memory ≡ replicate 4096 0
 unfolding refused_by
 refused_memory n = refl
+
+-- a disk that is not opened, as the code answers of it
+pub judged_by : (r : Refusal) → JudgedAs (Err r) (refused_by (number_of r))
+unfolding refused_by
+judged_by r = record { found = refl; tail = refl }
+
+module _ (disk : List ℕ) (r : Refusal) (e : handed_on (Err r) ≡ opened_of disk) where
+  not_open : (open_of disk).number ≡ 0 → ⊥
+  not_open z = eqb-false (number_of r) 0 (refused_some r) (sym (handed_not disk r e) ∙ z)
+
+  pub shut_judged : JudgedAs (Err r) (examine_of disk)
+  shut_judged = subst (JudgedAs (Err r)) (sym (means_shut disk not_open ∙ ap refused_by (handed_not disk r e))) (judged_by r)
+
+  pub shut_left : (open_of disk).memory ≡ (examine_of disk).memory
+  shut_left = shut_memory disk not_open ∙ sym (refused_memory (open_of disk).number) ∙ sym (ap (λ (m : Meaning). m.memory) (means_shut disk not_open))
 
 module _ (disk : List ℕ) (e : (open_of disk).number ≡ 0) where
   abbrev logend : ℕ
@@ -132,3 +151,19 @@ refused_zeros disk =
     (pick ZerosIfRefused (ltb 16384 (o.image.logend + s.answer.end + 4 * s.answer.undone)) (refused_by 5) (meant o.image.logend s)
     (λ z. refused_memory 5) (λ z. absurd (z refl)))
     (λ z. refused_memory o.number)
+
+-- ---- the abort records of those undone, handed on as a slice
+
+pub laid_front : (ids : List TxId) (n : ℕ) (tail : List ℕ) → aborts_laid (take n ids) (length (take n ids)) tail ≡ aborts_laid ids n tail
+unfolding aborts_laid
+laid_front ids n tail = ap (λ (xs : List TxId). sets tail 0 (encode_log (map abort_of xs))) (take_all (length (take n ids)) (take n ids) (omega arith))
+
+-- ---- refused or not, as the code sees it
+
+pub judged_err : (r : Result Replayed Refusal) (m : Meaning) → JudgedAs r m → is_err r ≡ true → m.result.number ≡ 0 → ⊥
+judged_err (Ok x) m j e z = clash (cc)
+judged_err (Err x) m j e z = eqb-false (number_of x) 0 (refused_some x) (ap (λ (r : Examined). r.number) j.found ∙ z)
+
+pub judged_ok : (r : Result Replayed Refusal) (m : Meaning) → JudgedAs r m → is_err r ≡ false → m.result.number ≡ 0
+judged_ok (Ok x) m j e = sym (ap (λ (r : Examined). r.number) j.found)
+judged_ok (Err x) m j e = clash (cc)

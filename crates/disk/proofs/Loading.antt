@@ -5,13 +5,13 @@ use mathlib.Core.Bool.{Bool, true, false, cond}
 use mathlib.Core.List.{List}
 use mathlib.Core.Option.{Option, none, some}
 use mathlib.Core.Path.{◌≡◌, refl, sym, ap, ◌∙◌, subst}
-use lib.ListN.{length, take, drop, length-drop}
-use lib.Seq.{sets, take-take, drop-drop, length-take-le}
+use lib.ListN.{take, drop}
+use lib.Seq.{take-take, drop-drop}
 use lib.Dec.{eqb}
 use borrow.Author.Tests.{ne_eqb}
+use Rattle.std.specs.Prelude.{Some, None}
 use Rattle.layout.specs.Parts.{image_at, image_part}
 use Rattle.redolog.proofs.RoundTrip.{drop_take}
-use Rattle.redolog.proofs.StoreLaws.{sets_all}
 use Rattle.redolog.proofs.Basics.{clash}
 use Rattle.image.specs.declared.read.Heads.{Heads}
 use Rattle.image.specs.Content.{Content}
@@ -52,14 +52,9 @@ memory_part slot disk =
     ∙ take-take 4096 8640 (drop 13 (drop slot disk)) (omega arith)
     ∙ ap (take 4096) (drop-drop 13 slot disk))
 
--- laid over a whole memory
-pub memory_loaded : (slot : ℕ) (disk memory : List ℕ) → slot ≤ 8654 → length disk ≡ 33691 → length memory ≡ 4096
-    → sets memory 0 (take (slot + 4109 - (slot + 13)) (drop (slot + 13) disk)) ≡ memory_of (take 8653 (drop slot disk))
-memory_loaded slot disk memory h d m =
-    let l : length (take 4096 (drop (slot + 13) disk)) ≡ 4096 = length-take-le 4096 (drop (slot + 13) disk) (rw (length-drop (slot + 13) disk) (omega arith)) in
-    ap (λ (vs : List ℕ). sets memory 0 vs) (lent slot 13 4109 disk (omega arith))
-    ∙ sets_all (take 4096 (drop (slot + 13) disk)) memory (l ∙ sym m)
-    ∙ memory_part slot disk
+-- as it is lent
+pub memory_loaded : (slot : ℕ) (disk : List ℕ) → take (slot + 4109 - (slot + 13)) (drop (slot + 13) disk) ≡ memory_of (take 8653 (drop slot disk))
+memory_loaded slot disk = lent slot 13 4109 disk (omega arith) ∙ memory_part slot disk
 
 -- ---- the heads in place of the image
 
@@ -70,7 +65,7 @@ txs_part pointer disk = take 4544 (drop (image_at pointer + 4109) disk)
 txs_part_lem : (pointer : ℕ) (disk : List ℕ) → drop 4109 (image_part pointer disk) ≡ txs_part pointer disk
 txs_part_lem pointer disk = drop_take 4109 4544 (drop (image_at pointer) disk) ∙ ap (take 4544) (drop-drop 4109 (image_at pointer) disk)
 
-pub heads_none : (pointer : ℕ) (disk : List ℕ) → pointer ≡ 0 → heads_named pointer disk ≡ blank_heads true
+pub heads_none : (pointer : ℕ) (disk : List ℕ) → pointer ≡ 0 → heads_named pointer disk ≡ Some blank_heads
 unfolding heads_named
 heads_none pointer disk e = rw e
 
@@ -84,31 +79,35 @@ pub record Named (h : Heads) (s : List ℕ) (d : Decoded) : Type 0 where
   pub image : image_by h s ≡ d.image
   pub ok : d.ok ≡ true
 
-read_named : (pointer : ℕ) (disk : List ℕ) (y : Option Content) → read_image (image_part pointer disk) ≡ y → (heads_if y).ok ≡ true
-    → Named (heads_if y) (txs_part pointer disk) (decoded_of y)
-unfolding blank_heads
-read_named pointer disk none q e = clash (cc)
-read_named pointer disk (some c) q e =
-    subst (λ (s : List ℕ). Named (heads_in c) s (decoded_of (some c))) (txs_part_lem pointer disk)
-    (record { shows = read_shows (image_part pointer disk) c q; image = read_image_lem (image_part pointer disk) c q; ok = refl })
+read_named : (pointer : ℕ) (disk : List ℕ) (y : Option Content) (h : Heads) → read_image (image_part pointer disk) ≡ y → heads_if y ≡ Some h
+    → Named h (txs_part pointer disk) (decoded_of y)
+read_named pointer disk none h q e = clash (cc)
+read_named pointer disk (some c) h q e =
+    let k : heads_in c ≡ h = cc in
+    subst (λ (g : Heads). Named g (txs_part pointer disk) (decoded_of (some c))) k
+    (subst (λ (s : List ℕ). Named (heads_in c) s (decoded_of (some c))) (txs_part_lem pointer disk)
+    (record { shows = read_shows (image_part pointer disk) c q; image = read_image_lem (image_part pointer disk) c q; ok = refl }))
 
-pub named : (pointer : ℕ) (disk : List ℕ) → (heads_named pointer disk).ok ≡ true → Named (heads_named pointer disk) (txs_part pointer disk) (load_of pointer disk).decoded
+pub named : (pointer : ℕ) (disk : List ℕ) (h : Heads) → heads_named pointer disk ≡ Some h → Named h (txs_part pointer disk) (load_of pointer disk).decoded
 unfolding heads_named load_of
-named pointer disk = go (eqb pointer 0)
+named pointer disk h = go (eqb pointer 0)
   where
-    go : (b : Bool) → (cond b (blank_heads true) (heads_of (image_part pointer disk))).ok ≡ true
-        → Named (cond b (blank_heads true) (heads_of (image_part pointer disk))) (txs_part pointer disk) (cond b no_image (image_named pointer disk)).decoded
-    go true e = record { shows = blank_shows (txs_part pointer disk); image = blank_image (txs_part pointer disk); ok = refl }
-    go false e = read_named pointer disk (read_image (image_part pointer disk)) refl e
+    go : (b : Bool) → cond b (Some blank_heads) (heads_of (image_part pointer disk)) ≡ Some h
+        → Named h (txs_part pointer disk) (cond b no_image (image_named pointer disk)).decoded
+    go true e =
+        let k : blank_heads ≡ h = cc in
+        subst (λ (g : Heads). Named g (txs_part pointer disk) no_image.decoded) k
+        (record { shows = blank_shows (txs_part pointer disk); image = blank_image (txs_part pointer disk); ok = refl })
+    go false e = read_named pointer disk (read_image (image_part pointer disk)) h refl e
 
-pub not_named : (pointer : ℕ) (disk : List ℕ) → (heads_named pointer disk).ok ≡ false → (load_of pointer disk).decoded.ok ≡ false
-unfolding heads_named load_of blank_heads not_decoded
+pub not_named : (pointer : ℕ) (disk : List ℕ) → heads_named pointer disk ≡ None → (load_of pointer disk).decoded.ok ≡ false
+unfolding heads_named load_of not_decoded
 not_named pointer disk = go (eqb pointer 0)
   where
-    unread : (y : Option Content) → (heads_if y).ok ≡ false → (decoded_of y).ok ≡ false
+    unread : (y : Option Content) → heads_if y ≡ None → (decoded_of y).ok ≡ false
     unread none e = refl
-    unread (some c) e = e
+    unread (some c) e = clash (cc)
 
-    go : (b : Bool) → (cond b (blank_heads true) (heads_of (image_part pointer disk))).ok ≡ false → (cond b no_image (image_named pointer disk)).decoded.ok ≡ false
-    go true e = e
+    go : (b : Bool) → cond b (Some blank_heads) (heads_of (image_part pointer disk)) ≡ None → (cond b no_image (image_named pointer disk)).decoded.ok ≡ false
+    go true e = clash (cc)
     go false e = unread (read_image (image_part pointer disk)) e

@@ -3,17 +3,21 @@ use Prim.Native.Nat.{ℕ, ◌+◌, ◌-◌, ◌≤◌, ◌<◌}
 use native.Mathlib.Omega.{arith}
 use mathlib.Core.Bool.{Bool, true, false, cond}
 use mathlib.Core.List.{List}
-use mathlib.Core.Path.{◌≡◌, refl, sym, ap, ◌∙◌, subst}
+use mathlib.Core.Path.{◌≡◌, refl, sym, ap, ap₂, ◌∙◌, subst}
 use lib.ListN.{length, take, drop, replicate, length-take, length-drop, length-replicate}
 use lib.Seq.{drop-drop, take_all, length-take-le}
 use lib.Dec.{eqb, ltb}
 use borrow.Author.Tests.{eq-eqb, ne_eqb, eqb-true, lt-ltb, le-ltb, ltb-true, ltb-false}
+use Rattle.std.specs.Prelude.{Option, Some, None, Ok, Err}
+use Rattle.layout.specs.declared.refusal.Refusal.{Refusal}
+use Rattle.layout.specs.Refusal.{number_of}
 use Rattle.layout.specs.Parts.{part, pointer_of, image_at, image_part, log_part}
 use Rattle.redolog.specs.Stores.{Store, apply}
 use Rattle.redolog.proofs.Basics.{clash}
 use Rattle.redolog.proofs.PartLaws.{moved, Within, outside_take, outside_within, part_outside, byte_same}
 use Rattle.redolog.proofs.RoundTrip.{drop_take}
 use Rattle.image.specs.declared.Image.{Image}
+use Rattle.image.specs.declared.read.Heads.{Heads}
 use Rattle.image.specs.Rules.{keeps_rules}
 use Rattle.image.specs.Reading.{memory_of}
 use Rattle.image.specs.Pack.{empty_image}
@@ -25,7 +29,7 @@ use Rattle.image.proofs.HeadLaws.{shown_logend}
 use Rattle.disk.specs.declared.open.Opened.{Opened}
 use Rattle.disk.specs.Layout.{log_from}
 use Rattle.disk.specs.Open.{Loaded, no_image, image_named, load_of, OpenedDisk, not_opened, opened_by, of_loaded, open_of}
-use Rattle.disk.specs.Heads.{heads_named, places_in, shut_by, opened_of}
+use Rattle.disk.specs.Heads.{heads_named, or_blank, HandedOn, shut_by, parts_in, opened_of, handed_on}
 use Rattle.disk.proofs.Loading.{slot_within, txs_part, named, not_named}
 
 -- ---- the log
@@ -39,7 +43,7 @@ log_last at disk d =
     ap (drop at) (take_all 16384 (drop 17307 disk) (rw (length-drop 17307 disk) (omega arith))) ∙ drop-drop at 17307 disk
 
 -- as it is lent, from a place of it to its end
-log_lent : (at : ℕ) (disk : List ℕ) → at ≤ 16384 → part (17307 + at) (33691 - (17307 + at)) disk ≡ log_from at disk
+pub log_lent : (at : ℕ) (disk : List ℕ) → at ≤ 16384 → part (17307 + at) (33691 - (17307 + at)) disk ≡ log_from at disk
 log_lent at disk h =
     let n : 33691 - (17307 + at) ≡ 16384 - at = omega arith in
     let k : at + (16384 - at) ≡ 16384 = omega (arith, h) in
@@ -149,30 +153,46 @@ handed_shut disk n h e =
     let k : (open_of disk).number ≡ n = ap (λ (x : OpenedDisk). x.number) e ∙ not_opened_lem n in
     rw (k, ne_eqb n 0 (λ z. omega (arith, h, z)))
 
-pub handed_places : (disk : List ℕ) → (open_of disk).number ≡ 0 → opened_of disk ≡ places_in disk
+pub handed_parts : (disk : List ℕ) → (open_of disk).number ≡ 0 → opened_of disk ≡ parts_in disk
 unfolding opened_of
-handed_places disk e = rw (eq-eqb (open_of disk).number 0 e)
+handed_parts disk e = rw (eq-eqb (open_of disk).number 0 e)
 
-pub handed_number : (disk : List ℕ) → (opened_of disk).number ≡ (open_of disk).number
+handed_number : (disk : List ℕ) → (opened_of disk).number ≡ (open_of disk).number
 unfolding opened_of shut_by
 handed_number disk = go (eqb (open_of disk).number 0) refl
   where
-    go : (b : Bool) → eqb (open_of disk).number 0 ≡ b → (cond b (places_in disk) (shut_by (open_of disk).number)).number ≡ (open_of disk).number
+    go : (b : Bool) → eqb (open_of disk).number 0 ≡ b → (cond b (parts_in disk) (shut_by (open_of disk).number)).number ≡ (open_of disk).number
     go true e = sym (eqb-true (open_of disk).number 0 e)
     go false e = refl
 
--- the heads show the image, and the places are those of its transactions and of the log
-pub record Handed (o : Opened) (disk : List ℕ) : Type 0 where
-  pub slot : o.image ≤ 8654
-  pub start : o.from ≤ o.to
-  pub end : o.to ≡ 33691
-  pub shows : HeadsFit o.heads (part (o.image + 4109) 4544 disk)
-  pub image : image_by o.heads (part (o.image + 4109) 4544 disk) ≡ (open_of disk).image
-  pub logend : o.heads.logend ≡ (open_of disk).image.logend
-  pub log : part o.from (o.to - o.from) disk ≡ (open_of disk).log
+pub shut_zeros : (disk : List ℕ) (n : ℕ) → open_of disk ≡ not_opened n → (open_of disk).memory ≡ replicate 4096 0
+unfolding not_opened
+shut_zeros disk n e = ap (λ (x : OpenedDisk). x.memory) e
 
-pub handed : (disk : List ℕ) → (open_of disk).number ≡ 0 → Handed (opened_of disk) disk
-handed disk e = subst (λ (o : Opened). Handed o disk) (sym (handed_places disk e)) (go (heads_named p disk).ok refl)
+-- refused, it tells by which number
+pub handed_not : (disk : List ℕ) (r : Refusal) → handed_on (Err r) ≡ opened_of disk → (open_of disk).number ≡ number_of r
+unfolding shut_by
+handed_not disk r e = sym (ap (λ (o : HandedOn). o.number) e ∙ handed_number disk)
+
+-- else the heads show the image by the bytes of its transactions, and the log is that from its place on
+pub record Handed (o : Opened) (disk : List ℕ) : Type 0 where
+  pub opened : (open_of disk).number ≡ 0
+  pub shows : HeadsFit o.heads o.txs.now
+  pub image : image_by o.heads o.txs.now ≡ (open_of disk).image
+  pub logend : o.heads.counters.logend ≡ (open_of disk).image.logend
+  pub log : o.log.now ≡ (open_of disk).log
+
+abbrev Shows : HandedOn → List ℕ → Type 0
+Shows o disk =
+    record {
+      shows : HeadsFit o.heads o.txs;
+      image : image_by o.heads o.txs ≡ (open_of disk).image;
+      logend : o.heads.counters.logend ≡ (open_of disk).image.logend;
+      log : o.log ≡ (open_of disk).log;
+    }
+
+parts_shown : (disk : List ℕ) → (open_of disk).number ≡ 0 → Shows (parts_in disk) disk
+parts_shown disk e = go (heads_named p disk) refl
   where
     p : ℕ
     p = pointer_of disk
@@ -180,21 +200,43 @@ handed disk e = subst (λ (o : Opened). Handed o disk) (sym (handed_places disk 
     o : IsOpen disk
     o = open_inv disk e
 
-    go : (b : Bool) → (heads_named p disk).ok ≡ b → Handed (places_in disk) disk
-    go false h = let z : false ≡ true = sym (not_named p disk h) ∙ o.ok in clash (cc)
-    go true h =
-        let n = named p disk h in
-        let i : image_by (heads_named p disk) (txs_part p disk) ≡ (open_of disk).image = n.image ∙ sym (ap (λ (x : OpenedDisk). x.image) o.is) in
-        let l = image_logend (open_of disk).image (opened_rules disk e) in
-        record {
-          slot = slot_within p;
-          start = omega (arith, l);
-          end = refl;
+    go : (h : Option Heads) → heads_named p disk ≡ h → Shows (parts_in disk) disk
+    go None q = let z : false ≡ true = sym (not_named p disk q) ∙ o.ok in clash (cc)
+    go (Some h) q =
+        let n = named p disk h q in
+        let i : image_by h (txs_part p disk) ≡ (open_of disk).image = n.image ∙ sym (ap (λ (x : OpenedDisk). x.image) o.is) in
+        rw q (record {
           shows = n.shows;
           image = i;
-          logend = sym (shown_logend (heads_named p disk) (txs_part p disk)) ∙ ap (λ (x : Image). x.logend) i;
-          log = log_lent (open_of disk).image.logend disk l ∙ sym (opened_log disk e);
-        }
+          logend = sym (shown_logend h (txs_part p disk)) ∙ ap (λ (x : Image). x.logend) i;
+          log = sym (opened_log disk e);
+        })
+
+pub handed : (disk : List ℕ) (o : Opened) → handed_on (Ok o) ≡ opened_of disk → Handed o disk
+handed disk o e =
+    let z : (open_of disk).number ≡ 0 = sym (ap (λ (x : HandedOn). x.number) e ∙ handed_number disk) in
+    let s = subst (λ (x : HandedOn). Shows x disk) (sym (e ∙ handed_parts disk z)) (parts_shown disk z) in
+    record { opened = z; shows = s.shows; image = s.image; logend = s.logend; log = s.log }
+
+-- the code, with the heads that it read: what it hands on, and what it has in memory
+pub record LoadedAs (disk : List ℕ) (h : Heads) : Type 0 where
+  pub within : h.counters.logend ≤ 16384
+  pub memory : (load_of (pointer_of disk) disk).memory ≡ (open_of disk).memory
+  pub is : record { number = 0; heads = h; txs = txs_part (pointer_of disk) disk; log = log_from h.counters.logend disk } ≡ opened_of disk
+
+pub loaded : (disk : List ℕ) → pointer_of disk ≤ 2 → (h : Heads) → heads_named (pointer_of disk) disk ≡ Some h → LoadedAs disk h
+loaded disk p h e =
+    let n = named (pointer_of disk) disk h e in
+    let is = open_is disk p n.ok in
+    let z : (open_of disk).number ≡ 0 = ap (λ (x : OpenedDisk). x.number) is in
+    let l : h.counters.logend ≡ (open_of disk).image.logend =
+    sym (shown_logend h (txs_part (pointer_of disk) disk)) ∙ ap (λ (x : Image). x.logend) (n.image ∙ sym (ap (λ (x : OpenedDisk). x.image) is)) in
+    record {
+      within = omega (arith, l, image_logend (open_of disk).image (opened_rules disk z));
+      memory = sym (ap (λ (x : OpenedDisk). x.memory) is);
+      is = ap₂ (λ (g : Heads) (i : ℕ). record { number = 0; heads = g; txs = txs_part (pointer_of disk) disk; log = log_from i disk }) (sym (ap or_blank e)) l
+          ∙ sym (handed_parts disk z);
+    }
 
 -- ---- disks that open alike, but for the log
 

@@ -8,12 +8,14 @@ use lib.ListN.{length, take, drop}
 use lib.Dec.{eqb, ltb}
 use borrow.Author.Tests.{eq-eqb, ne_eqb, eqb-true, ltb-false}
 use Rattle.layout.specs.Parts.{log_part}
+use Rattle.std.specs.Prelude.{Option}
+use Rattle.redolog.specs.declared.stop.Stop.{Stop}
 use Rattle.redolog.specs.Stores.{Store, apply, clears}
 use Rattle.redolog.proofs.Basics.{clash}
 use Rattle.redolog.proofs.PartLaws.{clears_moved, within_clears, part_lent}
 use Rattle.redolog.proofs.StoreLaws.{length_clears}
 use Rattle.redolog.specs.Stop.{stop_of}
-use Rattle.store.specs.Answer.{done}
+use Rattle.store.specs.Answer.{done, Told}
 use Rattle.store.specs.Stored.{DiskOutcome, cut_short, made_whole, carried_out}
 use Rattle.store.proofs.Storing.{carried_cut, carried_done}
 use Rattle.disk.specs.Layout.{log_from, lengths_ok}
@@ -49,6 +51,25 @@ pub restart_1 : (disk memory tail : List ℕ) (allowed : ℕ) → lengths_ok dis
 unfolding restart_of
 restart_1 disk memory tail allowed e = rw e
 
+-- a buffer without its length
+pub not_disk : (disk memory tail : List ℕ) → (length disk ≡ 33691 → ⊥) → lengths_ok disk memory tail ≡ false
+not_disk disk memory tail n = rw (ne_eqb (length disk) 33691 n)
+
+pub not_memory : (disk memory tail : List ℕ) → (length memory ≡ 4096 → ⊥) → lengths_ok disk memory tail ≡ false
+not_memory disk memory tail n = go (eqb (length disk) 33691)
+  where
+    go : (b : Bool) → b && eqb (length memory) 4096 && eqb (length tail) 16384 ≡ false
+    go true = rw (ne_eqb (length memory) 4096 n)
+    go false = refl
+
+pub not_tail : (disk memory tail : List ℕ) → (length tail ≡ 16384 → ⊥) → lengths_ok disk memory tail ≡ false
+not_tail disk memory tail n = go (eqb (length disk) 33691) (eqb (length memory) 4096)
+  where
+    go : (b c : Bool) → b && c && eqb (length tail) 16384 ≡ false
+    go true true = rw (ne_eqb (length tail) 16384 n)
+    go true false = refl
+    go false c = refl
+
 module _ (disk memory tail : List ℕ) (allowed : ℕ) (d : length disk ≡ 33691) (m : length memory ≡ 4096) (t : length tail ≡ 16384) where
   pub restart_meant : restart_of disk memory tail allowed ≡ of_meaning (examine_of disk) disk allowed
   unfolding restart_of
@@ -74,10 +95,28 @@ pub stop_found_lem : (disk : List ℕ) (end : ℕ) → end ≡ (examine_of disk)
 unfolding stop_found
 stop_found_lem disk end e = ap (λ (n : ℕ). stop_of (log_from n disk)) e
 
-pub stopped_by_lem : (disk memory tail : List ℕ) (allowed : ℕ) {o : DiskOutcome} → restart_of disk memory tail allowed ≡ o
+stopped_by_lem : (disk memory tail : List ℕ) (allowed : ℕ) {o : DiskOutcome} → restart_of disk memory tail allowed ≡ o
     → stopped_of disk memory tail allowed ≡ told_stop o.result.says (stop_found disk)
 unfolding stopped_of
 stopped_by_lem disk memory tail allowed e = ap (λ (o : DiskOutcome). told_stop o.result.says (stop_found disk)) e
+
+-- the parts of an outcome x and the stop that it tells, as the contract asks for them
+pub parts : (disk memory tail : List ℕ) (allowed : ℕ) {x : DiskOutcome} {r : Told} {d m t : List ℕ} {s : Option Stop} → restart_of disk memory tail allowed ≡ x
+    → r ≡ x.result → d ≡ x.disk → m ≡ x.memory → t ≡ x.tail → s ≡ told_stop x.result.says (stop_found disk)
+    → record {
+      result_value : r ≡ (restart_of disk memory tail allowed).result;
+      disk_after : d ≡ (restart_of disk memory tail allowed).disk;
+      memory_after : m ≡ (restart_of disk memory tail allowed).memory;
+      tail_after : t ≡ (restart_of disk memory tail allowed).tail;
+      stop_value : s ≡ stopped_of disk memory tail allowed;
+    }
+parts disk memory tail allowed e p q u v w = record {
+  result_value = p ∙ ap (λ (o : DiskOutcome). o.result) (sym e);
+  disk_after = q ∙ ap (λ (o : DiskOutcome). o.disk) (sym e);
+  memory_after = u ∙ ap (λ (o : DiskOutcome). o.memory) (sym e);
+  tail_after = v ∙ ap (λ (o : DiskOutcome). o.tail) (sym e);
+  stop_value = w ∙ sym (stopped_by_lem disk memory tail allowed e);
+}
 
 -- ---- the answer "done"
 

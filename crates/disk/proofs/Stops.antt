@@ -5,11 +5,12 @@ use native.Mathlib.Omega.{arith}
 use mathlib.Core.List.{List, ◌++◌}
 use mathlib.Core.Path.{◌≡◌, sym, ap, ap₂, ◌∙◌}
 use lib.ListN.{length, take, drop, replicate, length-drop}
+use Rattle.std.specs.Prelude.{Some}
 use lib.Seq.{drop_at, length-take-le}
 use Rattle.layout.specs.Parts.{log_part}
 use Rattle.recovery.specs.Group.{groups_size}
 use Rattle.redolog.specs.declared.stop.Stop.{Stop}
-use Rattle.redolog.specs.declared.stop.Stop.TheVariants.{Full, Zero, Torn}
+use Rattle.redolog.specs.declared.stop.Stop.TheVariants.{Full, Torn}
 use Rattle.redolog.specs.Log.{read_log, log_stop}
 use Rattle.redolog.specs.Stop.{stop_of}
 use Rattle.redolog.specs.Stores.{apply}
@@ -18,8 +19,6 @@ use Rattle.redolog.proofs.StopLaws.{stop_full, full_empty}
 use Rattle.redolog.proofs.LogStops.{log_stop_at, stop_zeros}
 use Rattle.store.specs.Answer.{Word, done, cut, refused}
 use Rattle.store.specs.Stored.{DiskOutcome}
-use Rattle.disk.specs.declared.call.Stopped.{Stopped}
-use Rattle.disk.specs.declared.call.Stopped.TheVariants.{Untold, At}
 use Rattle.disk.specs.Layout.{log_from}
 use Rattle.disk.specs.Examine.{Meaning, examine_of}
 use Rattle.disk.specs.Restart.{clearing, restart_of, stop_found, told_stop, stopped_of}
@@ -53,12 +52,8 @@ module _ (disk : List ℕ) (d : length disk ≡ 33691) where
 
 -- ---- after a restart that is done
 
-abbrev stop_in : Stopped → Stop
-stop_in Untold = Zero
-stop_in (At stop) = stop
-
-told_torn : (w : Word) (stop : Stop) → told_stop w stop ≡ At Torn → stop ≡ Torn
-told_torn done stop e = ap stop_in e
+told_torn : (w : Word) (stop : Stop) → told_stop w stop ≡ Some Torn → stop ≡ Torn
+told_torn done stop e = cc
 told_torn cut stop e = clash (cc)
 told_torn (refused n) stop e = clash (cc)
 
@@ -82,7 +77,7 @@ left_zeros disk memory tail n w =
 
 -- a restart again, with whatever memory, tail and stores, tells full or zero
 pub again_not_torn : (disk memory tail memory' tail' : List ℕ) (n k : ℕ) → Done? (restart_of disk memory tail n)
-    → stopped_of (restart_of disk memory tail n).disk memory' tail' k ≡ At Torn → ⊥
+    → stopped_of (restart_of disk memory tail n).disk memory' tail' k ≡ Some Torn → ⊥
 unfolding stopped_of
 again_not_torn disk memory tail memory' tail' n k w e =
     let again = (restart_of disk memory tail n).disk in

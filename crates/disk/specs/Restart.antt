@@ -1,5 +1,5 @@
 -- Restart with so many stores allowed.
-use Rattle.std.specs.Prelude.{ℕ, ◌+◌, ◌-◌, true, cond, List, replicate, eqb}
+use Rattle.std.specs.Prelude.{ℕ, ◌+◌, ◌-◌, true, cond, List, replicate, eqb, Option, Some, None, Result, Ok, Err}
 use Rattle.layout.specs.{log_start, log_len, max_txs}
 use Rattle.redolog.specs.declared.TxId.{TxId}
 use Rattle.redolog.specs.declared.Csn.{Csn}
@@ -7,13 +7,13 @@ use Rattle.redolog.specs.declared.stop.Stop.{Stop}
 use Rattle.redolog.specs.Stores.{Store, clears}
 use Rattle.redolog.specs.Stop.{stop_of}
 use Rattle.transaction.specs.Flat.{empty_tx}
+use Rattle.store.specs.declared.Failure.{Failure}
 use Rattle.store.specs.declared.State.{State}
 use Rattle.store.specs.State.{unrecovered}
-use Rattle.store.specs.Answer.{Word, done, cut, refused, word, Told, tells}
+use Rattle.store.specs.Answer.{Word, done, cut, refused, says_stored, Told, tells}
 use Rattle.store.specs.Stored.{DiskOutcome, Plan, carried_out}
+use Rattle.disk.specs.declared.call.Recovery.{Recovery}
 use Rattle.disk.specs.declared.call.Restarted.{Restarted}
-use Rattle.disk.specs.declared.call.Stopped.{Stopped}
-use Rattle.disk.specs.declared.call.Stopped.TheVariants.{Untold, At}
 use Rattle.disk.specs.Layout.{log_from, lengths_ok}
 use Rattle.disk.specs.Examine.{Meaning, examine_of}
 
@@ -25,9 +25,14 @@ recovered_state end csn last = record { recovered = true; logend = end; ondisk =
 abbrev pub clearing : ℕ → List Store
 clearing end = clears (log_start + end) (log_len - end)
 
+-- of one that is not done: 0
+abbrev pub undone_by : Result Recovery Failure → ℕ
+undone_by (Ok r) = r.undone
+undone_by (Err f) = 0
+
 -- what restart tells: its value is the count of transactions undone
 abbrev pub of_restarted : Restarted → Told
-of_restarted r = tells (word r.answer) r.undone r.stores r.state
+of_restarted r = tells (says_stored r.result) (undone_by r.result) r.stores r.state
 
 abbrev pub restart_plan : Meaning → Plan
 restart_plan m =
@@ -61,10 +66,15 @@ unfoldable pub stop_found : List ℕ → Stop
 stop_found disk = stop_of (log_from (examine_of disk).result.end disk)
 
 -- "a restart that is done" carries it up
-abbrev pub told_stop : Word → Stop → Stopped
-told_stop done stop = At stop
-told_stop cut stop = Untold
-told_stop (refused n) stop = Untold
+abbrev pub told_stop : Word → Stop → Option Stop
+told_stop done stop = Some stop
+told_stop cut stop = None
+told_stop (refused n) stop = None
 
-unfoldable pub stopped_of : List ℕ → List ℕ → List ℕ → ℕ → Stopped
+-- in what the code answers
+abbrev pub stop_told : Result Recovery Failure → Option Stop
+stop_told (Ok r) = Some r.stop
+stop_told (Err f) = None
+
+unfoldable pub stopped_of : List ℕ → List ℕ → List ℕ → ℕ → Option Stop
 stopped_of disk memory tail allowed = told_stop (restart_of disk memory tail allowed).result.says (stop_found disk)

@@ -1,41 +1,40 @@
 // The call that takes no state: restart.
-ghost use Rattle.std.specs.Prelude.{◌-◌, min, ◌≡◌, length, take, drop};
+ghost use Rattle.std.specs.Prelude.{◌-◌, min, ◌≡◌, length, take, drop, None};
+ghost use Rattle.layout.specs.Refusal.{number_of};
 ghost use Rattle.redolog.specs.Stop.{stop_of};
 ghost use Rattle.redolog.specs.Stores.{apply, clears};
-ghost use Rattle.disk.specs.declared.call.Stopped.TheVariants.{Untold};
-ghost use Rattle.disk.specs.Restart.{recovered_state, of_restarted, refused_restart, restart_of, stopped_of};
+ghost use Rattle.disk.specs.Restart.{recovered_state, of_restarted, refused_restart, restart_of, stop_told, stopped_of};
 
 use crate::examine::examine;
+use layout::refusal::Refusal;
 use layout::{DISK_LEN, LOG_LEN, LOG_START, MAX_TXS, MEMORY_LEN, TAIL_LEN};
 use redolog::stop::{Stop, stop_at};
 use redolog::stores::clear_down;
 use redolog::{Csn, TxId};
 use store::stored::cut_off;
-use store::{Answer, State};
+use store::{Failure, State};
 use transaction::Tx;
 
-// Why the log ended where it did, before step 6 cleared it.
+// How many transactions step 4 undid, and why the log ended where it did, before step 6 cleared it.
 #[derive(Clone, Copy)]
-pub enum Stopped {
-    Untold,
-    At(Stop),
+pub struct Recovery {
+    pub undone: usize,
+    pub stop: Stop,
 }
 
-// Refused or cut, undone is 0, the stop is untold and the state is the unrecovered one.
+// Not done, the state is the unrecovered one.
 #[derive(Clone, Copy)]
 pub struct Restarted {
-    pub answer: Answer,
-    pub undone: usize,
-    pub stores: usize,
-    pub stop: Stopped,
     pub state: State,
+    pub result: Result<Recovery, Failure>,
+    pub stores: usize,
 }
 
 // Step 5's state. "No transaction is left."
+#[tactic(auto, unfolding(crate::specs::Restart::recovered_state))]
 fn recovered(end: u16, csn: Csn, last: TxId) -> State
     ensures { result ≡ recovered_state end csn last }
 {
-    let none = Tx::empty();
     State {
         recovered: true,
         logend: end,
@@ -43,7 +42,7 @@ fn recovered(end: u16, csn: Csn, last: TxId) -> State
         assigned: csn,
         lastid: last,
         count: 0,
-        txs: [none; MAX_TXS],
+        txs: [Tx::empty(); MAX_TXS],
     }
 }
 
@@ -62,69 +61,75 @@ fn clear_log(log: &mut [u8], end: usize, allowed: usize) -> Cleared
 {
     let stop = stop_at(&*log, end);
     let made = clear_down(log, end, allowed);
-    Cleared {
-        made: made,
-        stop: stop,
-    }
+    Cleared { made, stop }
 }
 
-fn refused(number: u8) -> Restarted
-    ensures result_value { of_restarted result ≡ refused_restart number }
-    ensures stop_value { result.stop ≡ Untold }
+fn refused(refusal: Refusal) -> Restarted
+    ensures result_value { of_restarted result ≡ refused_restart (number_of refusal) }
+    ensures stop_value { stop_told result.result ≡ None }
 {
-    let state = State::unrecovered();
     Restarted {
-        answer: Answer::Refused(number),
-        undone: 0,
+        state: State::unrecovered(),
+        result: Err(Failure::Refused(refusal)),
         stores: 0,
-        stop: Stopped::Untold,
-        state: state,
     }
 }
 
+// Of buffers that have their lengths.
+fn restart_lent(
+    disk: &mut [u8; DISK_LEN],
+    memory: &mut [u8; MEMORY_LEN],
+    tail: &mut [u8; TAIL_LEN],
+    allowed: usize,
+) -> Restarted
+    ensures result_value { of_restarted result ≡ (restart_of disk.old memory.old tail.old allowed).result }
+    ensures disk_after { disk.new ≡ (restart_of disk.old memory.old tail.old allowed).disk }
+    ensures memory_after { memory.new ≡ (restart_of disk.old memory.old tail.old allowed).memory }
+    ensures tail_after { tail.new ≡ (restart_of disk.old memory.old tail.old allowed).tail }
+    ensures stop_value { stop_told result.result ≡ stopped_of disk.old memory.old tail.old allowed }
+{
+    let found = match examine(&*disk, memory, tail) {
+        Ok(found) => found,
+        Err(refusal) => return refused(refusal),
+    };
+    let end = found.end;
+    let cleared = clear_log(&mut disk[LOG_START..LOG_START + LOG_LEN], end, allowed);
+    let made = cleared.made;
+    if made < LOG_LEN - end {
+        let off = cut_off(memory, tail, made);
+        return Restarted {
+            state: off.state,
+            result: Err(Failure::Cut),
+            stores: made,
+        };
+    }
+    Restarted {
+        state: recovered(end as u16, found.csn, found.last),
+        result: Ok(Recovery {
+            undone: found.undone,
+            stop: cleared.stop,
+        }),
+        stores: made,
+    }
+}
+
+// A hint to LLVM: the state that is given back is copied twice less.
+#[inline(always)]
 pub fn restart(disk: &mut [u8], memory: &mut [u8], tail: &mut [u8], allowed: usize) -> Restarted
     ensures result_value { of_restarted result ≡ (restart_of disk.old memory.old tail.old allowed).result }
     ensures disk_after { disk.new ≡ (restart_of disk.old memory.old tail.old allowed).disk }
     ensures memory_after { memory.new ≡ (restart_of disk.old memory.old tail.old allowed).memory }
     ensures tail_after { tail.new ≡ (restart_of disk.old memory.old tail.old allowed).tail }
-    ensures stop_value { result.stop ≡ stopped_of disk.old memory.old tail.old allowed }
+    ensures stop_value { stop_told result.result ≡ stopped_of disk.old memory.old tail.old allowed }
 {
-    if disk.len() != DISK_LEN {
-        return refused(1);
-    }
-    if memory.len() != MEMORY_LEN {
-        return refused(1);
-    }
-    if tail.len() != TAIL_LEN {
-        return refused(1);
-    }
-    let found = examine(&*disk, memory, tail);
-    if found.number != 0 {
-        return refused(found.number);
-    }
-    let end = found.end;
-    let cleared = clear_log(&mut disk[LOG_START..LOG_START + LOG_LEN], end, allowed);
-    let made = cleared.made;
-    let stop = cleared.stop;
-    if made < LOG_LEN - end {
-        let off = cut_off(memory, tail, made);
-        let state = off.state;
-        return Restarted {
-            answer: Answer::Cut,
-            undone: 0,
-            stores: made,
-            stop: Stopped::Untold,
-            state: state,
-        };
-    }
-    let csn = found.csn;
-    let last = found.last;
-    let state = recovered(end as u16, csn, last);
-    Restarted {
-        answer: Answer::Done,
-        undone: found.undone,
-        stores: made,
-        stop: Stopped::At(stop),
-        state: state,
-    }
+    let Some(disk) = disk.as_mut_array::<DISK_LEN>() else {
+        return refused(Refusal::WrongLength);
+    };
+    let Some(memory) = memory.as_mut_array::<MEMORY_LEN>() else {
+        return refused(Refusal::WrongLength);
+    };
+    let Some(tail) = tail.as_mut_array::<TAIL_LEN>() else {
+        return refused(Refusal::WrongLength);
+    };
+    restart_lent(disk, memory, tail, allowed)
 }

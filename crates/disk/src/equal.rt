@@ -1,20 +1,17 @@
 // Equal in meaning.
-ghost use Rattle.std.specs.Prelude.{◌≡◌, length};
+ghost use Rattle.std.specs.Prelude.{◌≡◌};
 ghost use Rattle.disk.specs.Equal.{same_bytes, equal_of};
 
 use crate::examine::judge;
 use layout::{DISK_LEN, MEMORY_LEN};
 
 // An or over all differences instead of a stop at the first: it runs in wide registers.
-fn same(a: &[u8], b: &[u8]) -> bool
-    requires { length a.now ≡ length b.now }
+fn same(a: &[u8; MEMORY_LEN], b: &[u8; MEMORY_LEN]) -> bool
     ensures { result ≡ same_bytes a.now b.now }
 {
     let mut seen: u8 = 0;
-    let mut i: usize = 0;
-    while i < a.len() {
-        seen = seen | (a[i] ^ b[i]);
-        i += 1;
+    for (x, y) in a.iter().zip(b) {
+        seen |= *x ^ *y;
     }
     seen == 0
 }
@@ -22,22 +19,18 @@ fn same(a: &[u8], b: &[u8]) -> bool
 pub fn equal(a: &[u8], b: &[u8]) -> bool
     ensures { result ≡ equal_of a.now b.now }
 {
-    if a.len() != DISK_LEN {
+    let Some(a) = a.as_array::<DISK_LEN>() else {
         return false;
-    }
-    if b.len() != DISK_LEN {
+    };
+    let Some(b) = b.as_array::<DISK_LEN>() else {
         return false;
-    }
+    };
     let mut memory = [0u8; MEMORY_LEN];
     let mut other = [0u8; MEMORY_LEN];
-    let x = judge(a, &mut memory);
-    let one = x.found;
-    if one.number != 0 {
+    if judge(a, &mut memory).is_err() {
         return false;
     }
-    let y = judge(b, &mut other);
-    let two = y.found;
-    if two.number != 0 {
+    if judge(b, &mut other).is_err() {
         return false;
     }
     same(&memory, &other)

@@ -1,110 +1,45 @@
 // What a disk means: restart's steps 1 to 5. Nothing is stored.
-ghost use Rattle.std.specs.Prelude.{◌≡◌, length};
-ghost use Rattle.layout.specs.{memory_len, tail_len, disk_len};
-ghost use Rattle.disk.specs.Examine.{refused_by, examine_of};
-ghost use Rattle.disk.specs.Heads.{JudgedAs};
+ghost use Rattle.std.specs.Prelude.{◌≡◌};
+ghost use Rattle.disk.specs.Examine.{examine_of};
+ghost use Rattle.disk.specs.Heads.{examined_by, JudgedAs};
 
 use crate::open::open;
-use layout::{ABORT_LEN, IMAGE_LEN, LOG_LEN, MAX_TXS, TXS_START};
+use layout::refusal::Refusal;
+use layout::{ABORT_LEN, DISK_LEN, LOG_LEN, MEMORY_LEN, TAIL_LEN};
 use redolog::stores::fill_zero;
-use redolog::{Csn, TxId};
-use restart::recover;
 use restart::undo::put_aborts;
+use restart::{Recovered, Replayed, recover};
 
-// The number that refuses, 0 for none. If none: the log's end counted from its first byte, the last commit number and the last id, how many
-// transactions step 4 undid, and what was found of each of the image's.
-#[derive(Clone, Copy)]
-pub struct Examined {
-    pub number: u8,
-    pub end: usize,
-    pub csn: Csn,
-    pub last: TxId,
-    pub undone: usize,
-    pub found: [u8; MAX_TXS],
-}
-
-// With the ids of those that step 4 undid, in order: their abort records make the tail.
-#[derive(Clone, Copy)]
-pub struct Judged {
-    pub found: Examined,
-    pub ids: [TxId; MAX_TXS],
-}
-
-fn refuse(number: u8) -> Judged
-    ensures { JudgedAs result (refused_by number) }
-{
-    let none = TxId(0);
-    let found = Examined {
-        number: number,
-        end: 0,
-        csn: Csn(0),
-        last: TxId(0),
-        undone: 0,
-        found: [0; MAX_TXS],
-    };
-    Judged {
-        found: found,
-        ids: [none; MAX_TXS],
-    }
-}
-
-// All but the tail. What memory held doesn't matter.
-pub fn judge(disk: &[u8], memory: &mut [u8]) -> Judged
-    requires { (length disk.now ≡ disk_len) × (length memory.old ≡ memory_len) }
+// All but the tail; the end is counted from the log's first byte. What memory held doesn't matter.
+pub fn judge(disk: &[u8; DISK_LEN], memory: &mut [u8; MEMORY_LEN]) -> Result<Replayed, Refusal>
     ensures judged_as { JudgedAs result (examine_of disk.now) }
     ensures memory_after { memory.new ≡ (examine_of disk.now).memory }
 {
-    let opened = open(disk, memory);
-    let number = opened.number;
-    if number != 0 {
-        return refuse(number);
-    }
+    let opened = open(disk, memory)?;
     let heads = opened.heads;
-    let logend = heads.logend as usize;
-    let image = opened.image;
-    let from = opened.from;
-    let to = opened.to;
-    let r = recover(
-        heads,
-        &disk[image + TXS_START..image + IMAGE_LEN],
-        &disk[from..to],
-        memory,
-    );
-    let found = r.answer;
-    let end = logend + found.end;
-    if LOG_LEN < end + ABORT_LEN * found.undone {
+    let mut replayed = recover(heads, opened.txs, opened.log, memory);
+    let end = heads.counters.logend as usize + replayed.answer.end;
+    if LOG_LEN < end + ABORT_LEN * replayed.answer.undone {
         fill_zero(memory);
-        return refuse(5);
+        return Err(Refusal::NoRoomToUndo);
     }
-    let csn = found.csn;
-    let last = found.last;
-    let codes = found.found;
-    let answer = Examined {
-        number: 0,
-        end: end,
-        csn: csn,
-        last: last,
-        undone: found.undone,
-        found: codes,
-    };
-    let ids = r.ids;
-    Judged {
-        found: answer,
-        ids: ids,
-    }
+    replayed.answer.end = end;
+    Ok(replayed)
 }
 
-// The three buffers have their lengths; what memory and tail held doesn't matter.
-pub(crate) fn examine(disk: &[u8], memory: &mut [u8], tail: &mut [u8]) -> Examined
-    requires { (length disk.now ≡ disk_len) × (length memory.old ≡ memory_len) × (length tail.old ≡ tail_len) }
-    ensures value { result ≡ (examine_of disk.now).result }
+// What memory and tail held doesn't matter.
+pub(crate) fn examine(
+    disk: &[u8; DISK_LEN],
+    memory: &mut [u8; MEMORY_LEN],
+    tail: &mut [u8; TAIL_LEN],
+) -> Result<Recovered, Refusal>
+    ensures value { examined_by result ≡ (examine_of disk.now).result }
     ensures memory_after { memory.new ≡ (examine_of disk.now).memory }
     ensures tail_after { tail.new ≡ (examine_of disk.now).tail }
 {
-    let seen = judge(disk, memory);
     fill_zero(tail);
-    let found = seen.found;
-    let ids = seen.ids;
-    put_aborts(ids, found.undone, tail);
-    found
+    let replayed = judge(disk, memory)?;
+    let found = replayed.answer;
+    put_aborts(&replayed.ids[..found.undone], tail);
+    Ok(found)
 }

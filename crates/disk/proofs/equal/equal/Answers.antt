@@ -1,37 +1,45 @@
-use Rattle.std.proofs.Common.{ℕ, sym, ap, ◌∙◌}
+use Rattle.std.proofs.Common.{ℕ, List, sym, ap, ◌∙◌}
 use mathlib.Core.Path.{ap₂}
-use Rattle.disk.specs.declared.examine.Examined.{Examined}
 use Rattle.disk.specs.Equal.{same_bytes}
+use Rattle.disk.specs.Examine.{examine_of}
+use Rattle.disk.proofs.Examining.{judged_err, judged_ok}
 use Rattle.disk.proofs.Equals.{short, refused, taken, not_first, not_second, both}
 use Rattle.disk.proofs.equal.equal.Goals as goal
 
-abbrev number_of : Examined → ℕ
-number_of r = r.number
+pub returns-in_default : goal.returns-in_default
+returns-in_default c = sym (not_first _ c.args.b.now (short c.args.a.now c.in_default.ensures.cases))
 
-pub returns-then-a-ne-DISK_LEN : goal.returns-then-a-ne-DISK_LEN
-returns-then-a-ne-DISK_LEN c = sym (not_first _ c.args.b.now (short c.args.a.now c.if-a-ne-DISK_LEN.true))
+pub returns-in_default-as_array : goal.returns-in_default-as_array
+returns-in_default-as_array c = sym (not_second c.args.a.now _ (short c.args.b.now c.in_default-as_array.ensures.cases))
 
-pub returns-then-b-ne-DISK_LEN : goal.returns-then-b-ne-DISK_LEN
-returns-then-b-ne-DISK_LEN c = sym (not_second c.args.a.now _ (short c.args.b.now c.if-b-ne-DISK_LEN.true))
+-- ---- of disks that have their length
 
-pub returns-then-one-ne0 : goal.returns-then-one-ne0
-returns-then-one-ne0 c =
-    let a = c.args.a.now in
-    let n = ap number_of c.judge-x.ensures.judged_as.found in
-    sym (not_first a c.args.b.now (refused a c.if-a-ne-DISK_LEN.false (λ z. c.if-one-ne0.true (n ∙ z))))
+abbrev number_in : List ℕ → ℕ
+number_in disk = (examine_of disk).result.number
 
-pub returns-then-two-ne0 : goal.returns-then-two-ne0
-returns-then-two-ne0 c =
-    let b = c.args.b.now in
-    let n = ap number_of c.judge-y.ensures.judged_as.found in
-    sym (not_second c.args.a.now b (refused b c.if-b-ne-DISK_LEN.false (λ z. c.if-two-ne0.true (n ∙ z))))
+abbrev memory_in : List ℕ → List ℕ
+memory_in disk = (examine_of disk).memory
+
+pub returns-then-is_err : goal.returns-then-is_err
+returns-then-is_err c =
+    let d = c.in-Some.ensures.cases in
+    let n = judged_err _ _ c.judge.ensures.judged_as (sym c.if-is_err.ensures.value) in
+    sym (not_first c.args.a.now c.args.b.now (refused c.args.a.now d.long (λ z. n (ap number_in d.same ∙ z))))
+
+pub returns-then-is_err-2 : goal.returns-then-is_err-2
+returns-then-is_err-2 c =
+    let d = c.in-Some-as_array.ensures.cases in
+    let n = judged_err _ _ c.judge-2.ensures.judged_as (sym c.if-is_err-2.ensures.value) in
+    sym (not_second c.args.a.now c.args.b.now (refused c.args.b.now d.long (λ z. n (ap number_in d.same ∙ z))))
 
 pub returns : goal.returns
 returns c =
     let a = c.args.a.now in
     let b = c.args.b.now in
-    let e = c.judge-x.ensures in
-    let f = c.judge-y.ensures in
-    let p = taken a c.if-a-ne-DISK_LEN.false (sym (ap number_of e.judged_as.found) ∙ c.if-one-ne0.false) in
-    let q = taken b c.if-b-ne-DISK_LEN.false (sym (ap number_of f.judged_as.found) ∙ c.if-two-ne0.false) in
-    c.same.ensures ∙ (ap₂ same_bytes e.memory_after f.memory_after ∙ sym (both a b p q))
+    let d = c.in-Some.ensures.cases in
+    let f = c.in-Some-as_array.ensures.cases in
+    let p = judged_ok _ _ c.judge.ensures.judged_as (sym c.if-is_err.ensures.value) in
+    let q = judged_ok _ _ c.judge-2.ensures.judged_as (sym c.if-is_err-2.ensures.value) in
+    c.same.ensures
+    ∙ ap₂ same_bytes (c.judge.ensures.memory_after ∙ ap memory_in d.same) (c.judge-2.ensures.memory_after ∙ ap memory_in f.same)
+    ∙ sym (both a b (taken a d.long (sym (ap number_in d.same) ∙ p)) (taken b f.long (sym (ap number_in f.same) ∙ q)))

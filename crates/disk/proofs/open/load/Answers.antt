@@ -1,22 +1,21 @@
-use Rattle.std.proofs.Common.{ℕ, ◌+◌, ◌-◌, ◌≤◌, ◌≡◌, arith, sym, ap, ◌∙◌, take, drop}
+use Rattle.std.proofs.Common.{ℕ, ◌+◌, ◌-◌, ◌≡◌, Some, arith, sym, ap, ◌∙◌, take, drop}
 use mathlib.Core.Path.{ap₂}
+use lib.ListN.{replicate}
 use Rattle.layout.specs.Parts.{image_at}
 use Rattle.image.specs.Heads.{heads_of}
 use Rattle.image.specs.Reading.{memory_of}
 use Rattle.disk.specs.Open.{Loaded}
-use Rattle.disk.proofs.Loading.{slot_within, load_none, load_image, memory_loaded, heads_none, heads_image}
+use Rattle.disk.proofs.Loading.{load_none, load_image, memory_loaded, heads_none, heads_image}
 use Rattle.disk.proofs.open.load.Goals as goal
 
 pub returns-then-pointer-eq0-clause-value : goal.returns-then-pointer-eq0-clause-value
-returns-then-pointer-eq0-clause-value c =
-    let none : c.args.pointer ≡ 0 = omega arith in
-    cc (heads_none c.args.pointer c.args.disk.now none)
+returns-then-pointer-eq0-clause-value c = ap Some c.blank.ensures ∙ sym (heads_none c.args.pointer c.args.disk.now (omega arith))
 
 pub returns-then-pointer-eq0-clause-memory_after : goal.returns-then-pointer-eq0-clause-memory_after
 returns-then-pointer-eq0-clause-memory_after c =
-    let none : c.args.pointer ≡ 0 = omega arith in
-    let e = ap (λ (l : Loaded). l.memory) (load_none c.args.pointer c.args.disk.now none) in
-    cc
+    c.fill_zero.ensures
+    ∙ ap (λ (n : ℕ). replicate n 0) c.told-memory
+    ∙ sym (ap (λ (l : Loaded). l.memory) (load_none c.args.pointer c.args.disk.now (omega arith)))
 
 pub returns-clause-value : goal.returns-clause-value
 returns-clause-value c =
@@ -32,8 +31,7 @@ returns-clause-memory_after c =
     let f = c.image_at-from.result in
     let s : f ≡ image_at c.args.pointer = c.image_at-from.ensures in
     let e = load_image c.args.pointer c.args.disk.now (λ z. omega arith) in
-    let h : f ≤ 8654 = omega (arith, s, slot_within c.args.pointer) in
-    c.copy.ensures
-    ∙ memory_loaded f c.args.disk.now c.args.memory.now h c.requires.0 c.requires.1
+    c.copy_from_slice.ensures.after
+    ∙ memory_loaded f c.args.disk.now
     ∙ ap (λ (k : ℕ). memory_of (take 8653 (drop k c.args.disk.now))) s
     ∙ sym (ap (λ (l : Loaded). l.memory) e)

@@ -1,47 +1,57 @@
-use Rattle.std.proofs.Common.{ℕ, ◌+◌, ◌<◌, ◌≡◌, List, arith, sym, ap, ◌∙◌}
+use Rattle.std.proofs.Common.{ℕ, ◌+◌, ◌-◌, ◌≡◌, List, arith, sym, ap, ◌∙◌}
 use mathlib.Core.Path.{ap₂}
-use borrow.Author.Tests.{not-true, not-false}
-use Rattle.layout.specs.Parts.{pointer_of, image_at}
-use Rattle.image.specs.declared.read.Heads.{Heads}
-use Rattle.disk.specs.declared.open.Opened.{Opened}
-use Rattle.disk.specs.Open.{OpenedDisk, not_opened, open_of}
-use Rattle.disk.specs.Heads.{heads_named, shut_by, opened_of}
-use Rattle.disk.proofs.Loading.{named, not_named}
-use Rattle.disk.proofs.Opened.{shut_3, shut_4, open_is, handed_shut, handed_places, handed}
+use lib.ListN.{replicate}
+use Rattle.layout.specs.Parts.{part, pointer_of, image_at}
+use Rattle.disk.specs.Layout.{log_from}
+use Rattle.disk.proofs.Loading.{lent, not_named}
+use Rattle.disk.proofs.Opened.{log_lent, shut_3, shut_4, handed_shut, shut_zeros, loaded}
 use Rattle.disk.proofs.open.open.Goals as goal
 
-refused : {r : Opened} {m : List ℕ} (disk : List ℕ) (n : ℕ) → 0 < n → open_of disk ≡ not_opened n → r ≡ shut_by n → m ≡ (not_opened n).memory
-    → record { value : r ≡ opened_of disk; memory_after : m ≡ (open_of disk).memory }
-refused disk n h e p q = record { value = p ∙ sym (handed_shut disk n h e); memory_after = q ∙ sym (ap (λ (x : OpenedDisk). x.memory) e) }
-
-pub returns-then-pointer-gt-NAMES_B : goal.returns-then-pointer-gt-NAMES_B
-returns-then-pointer-gt-NAMES_B c =
+pub returns-then-pointer-gt-NAMES_B-clause-value : goal.returns-then-pointer-gt-NAMES_B-clause-value
+returns-then-pointer-gt-NAMES_B-clause-value c =
     let disk = c.args.disk.now in
-    refused disk 3 (omega arith) (shut_3 disk c.if-pointer-gt-NAMES_B.true) c.shut.ensures.value c.shut.ensures.memory_after
+    sym (handed_shut disk 3 (omega arith) (shut_3 disk c.if-pointer-gt-NAMES_B.true))
 
-pub returns-then-not-heads : goal.returns-then-not-heads
-returns-then-not-heads c =
+pub returns-then-pointer-gt-NAMES_B-clause-memory_after : goal.returns-then-pointer-gt-NAMES_B-clause-memory_after
+returns-then-pointer-gt-NAMES_B-clause-memory_after c =
     let disk = c.args.disk.now in
-    let s = c.shut-then-not-heads.ensures in
-    let n = not_named (pointer_of disk) disk (sym (ap (λ (h : Heads). h.ok) c.load-heads.ensures.value) ∙ not-true _ c.if-not-heads.true) in
-    refused disk 4 (omega arith) (shut_4 disk c.if-pointer-gt-NAMES_B.false n) s.value s.memory_after
+    c.fill_zero.ensures ∙ ap (λ (n : ℕ). replicate n 0) c.told-memory ∙ sym (shut_zeros disk 3 (shut_3 disk c.if-pointer-gt-NAMES_B.true))
 
-pub returns : goal.returns
-returns c =
+pub returns-in_default-clause-value : goal.returns-in_default-clause-value
+returns-in_default-clause-value c =
     let disk = c.args.disk.now in
-    let q = pointer_of disk in
-    let heads = c.load-heads.ensures.value in
-    let shown = named q disk (sym (ap (λ (h : Heads). h.ok) heads) ∙ not-false _ c.if-not-heads.false) in
-    let is = open_is disk c.if-pointer-gt-NAMES_B.false shown.ok in
-    let zero : (open_of disk).number ≡ 0 = ap (λ (x : OpenedDisk). x.number) is in
-    let places = handed_places disk zero in
-    let logend : c.load-heads.result.logend ≡ (open_of disk).image.logend =
-    ap (λ (h : Heads). h.logend) heads ∙ sym (ap (λ (o : Opened). o.heads.logend) places) ∙ (handed disk zero).logend in
-    record {
-      value =
-          ap₂ (λ (h : Heads) (i : ℕ). record { number = 0; heads = h; image = i; from = 17307 + c.load-heads.result.logend; to = 33691 }) heads
-          c.image_at-image.ensures
-          ∙ ap (λ (n : ℕ). record { number = 0; heads = heads_named q disk; image = image_at q; from = 17307 + n; to = 33691 }) logend
-          ∙ sym places;
-      memory_after = c.load-heads.ensures.memory_after ∙ sym (ap (λ (x : OpenedDisk). x.memory) is);
-    }
+    let n = not_named (pointer_of disk) disk (sym c.in_default.ensures.value) in
+    sym (handed_shut disk 4 (omega arith) (shut_4 disk c.if-pointer-gt-NAMES_B.false n))
+
+pub returns-in_default-clause-memory_after : goal.returns-in_default-clause-memory_after
+returns-in_default-clause-memory_after c =
+    let disk = c.args.disk.now in
+    let n = not_named (pointer_of disk) disk (sym c.in_default.ensures.value) in
+    c.fill_zero-in_default.ensures
+    ∙ ap (λ (n : ℕ). replicate n 0) c.load.array_long
+    ∙ sym (shut_zeros disk 4 (shut_4 disk c.if-pointer-gt-NAMES_B.false n))
+
+-- ---- once it is opened
+
+pub slice_bounds-result-count-2 : goal.slice_bounds-result-count-2
+slice_bounds-result-count-2 c = let l = loaded c.args.disk.now c.if-pointer-gt-NAMES_B.false _ (sym c.in-Some.ensures.value) in omega (arith, l.within)
+
+pub slice_bounds-result-start-2 : goal.slice_bounds-result-start-2
+slice_bounds-result-start-2 c = let l = loaded c.args.disk.now c.if-pointer-gt-NAMES_B.false _ (sym c.in-Some.ensures.value) in omega (arith, l.within)
+
+pub returns-clause-value : goal.returns-clause-value
+returns-clause-value c =
+    let disk = c.args.disk.now in
+    let h = c.in-Some.heads in
+    let i = c.image_at-image.result in
+    let l = loaded disk c.if-pointer-gt-NAMES_B.false h (sym c.in-Some.ensures.value) in
+    let txs : part (i + 4109) (i + 8653 - (i + 4109)) disk ≡ part (image_at (pointer_of disk) + 4109) 4544 disk =
+    lent i 4109 8653 disk (omega arith) ∙ ap (λ (n : ℕ). part (n + 4109) 4544 disk) c.image_at-image.ensures in
+    let log : part (17307 + h.counters.logend) (33691 - (17307 + h.counters.logend)) disk ≡ log_from h.counters.logend disk =
+    log_lent h.counters.logend disk l.within in
+    ap₂ (λ (t g : List ℕ). record { number = 0; heads = h; txs = t; log = g }) txs log ∙ l.is
+
+pub returns-clause-memory_after : goal.returns-clause-memory_after
+returns-clause-memory_after c =
+    let l = loaded c.args.disk.now c.if-pointer-gt-NAMES_B.false c.in-Some.heads (sym c.in-Some.ensures.value) in
+    c.load.ensures.memory_after ∙ l.memory
