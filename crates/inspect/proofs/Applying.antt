@@ -3,7 +3,7 @@ use Prim.Native.Nat.{ℕ, ◌≤◌}
 use native.Mathlib.Omega.{arith}
 use mathlib.Core.Bool.{Bool, true, false, ◌&&◌}
 use mathlib.Core.List.{List}
-use mathlib.Core.Path.{◌≡◌, refl, sym, ap, ◌∙◌}
+use mathlib.Core.Path.{◌≡◌, refl, ap}
 use lib.ListN.{length}
 use lib.Dec.{eqb}
 use borrow.Author.Tests.{eq-eqb, ne_eqb}
@@ -12,11 +12,7 @@ use Rattle.restart.specs.declared.forward.Pass.{Pass}
 use Rattle.restart.specs.Forward.{first_of}
 use Rattle.restart.proofs.First.{first_within}
 use Rattle.disk.specs.Open.{open_of}
-use Rattle.inspect.specs.Groups.{GroupsTold, refused_groups, GroupsLeft, pass_of, applied_by, first_groups_of}
-
--- what was told and left is what a definition has, if it is what an equal one has
-pub as_left : {x y : GroupsLeft} {r : GroupsTold} {m : List ℕ} → x ≡ y → r ≡ y.result → m ≡ y.memory → (r ≡ x.result) × (m ≡ x.memory)
-as_left e p q = (p ∙ sym (ap (λ (z : GroupsLeft). z.result) e), q ∙ sym (ap (λ (z : GroupsLeft). z.memory) e))
+use Rattle.inspect.specs.Groups.{refused_groups, GroupsLeft, pass_of, applied_by, first_groups_of}
 
 pub and_no : (a : Bool) → a && false ≡ false
 and_no true = refl

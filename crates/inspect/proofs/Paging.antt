@@ -3,12 +3,11 @@ use Prim.Native.Nat.{ℕ, zero, suc, ◌+◌, ◌*◌, ◌-◌, ◌≤◌, ◌<�
 use native.Mathlib.Omega.{arith}
 use mathlib.Core.List.{List, [], ◌++◌}
 use mathlib.Core.Path.{◌≡◌, refl, sym, ap, ◌∙◌}
-use lib.ListN.{length, take, drop, replicate, length-drop, replicate-append-replicate}
-use lib.Seq.{sets, length-take-le, take-add, take_all}
+use lib.ListN.{length, take, drop, replicate, replicate-append-replicate}
+use lib.Seq.{take-add, take_all}
 use lib.Dec.{eqb}
 use borrow.Author.Tests.{eq-eqb, ne_eqb, le-leb, lt-leb}
-use Rattle.redolog.proofs.StoreLaws.{sets_all}
-use Rattle.store.specs.Answer.{Word, done, refused}
+use Rattle.store.specs.Answer.{done, refused}
 use Rattle.store.specs.Stored.{DiskOutcome}
 use Rattle.store.proofs.Stepping.{same_or_other}
 use Rattle.disk.specs.Examine.{examine_of}
@@ -19,10 +18,6 @@ use Rattle.disk.proofs.Accepted.{accepted_is, memory_length}
 use Rattle.disk.proofs.Restarting.{restart_done, restart_refused}
 use Rattle.inspect.specs.Page.{PageLeft, page_in, refused_page, page_of, laid_together, LikeRestart, PagesLikeRestart}
 use Rattle.inspect.proofs.Applying.{and_no}
-
--- what was told and left is what a definition has, if it is what an equal one has
-pub as_page : {x y : PageLeft} {w : Word} {b : List ℕ} → x ≡ y → w ≡ y.says → b ≡ y.buffer → (w ≡ x.says) × (b ≡ x.buffer)
-as_page e p q = (p ∙ sym (ap (λ (z : PageLeft). z.says) e), q ∙ sym (ap (λ (z : PageLeft). z.buffer) e))
 
 -- ---- by cases
 
@@ -52,15 +47,10 @@ module _ (disk buffer : List ℕ) (page : ℕ) where
       page_done e =
           rw (eq-eqb (length disk) 33691 d, eq-eqb (length buffer) 256 b, lt-leb 16 page h, eq-eqb (examine_of disk).result.number 0 e)
 
--- ---- a page as it is lent, copied over a whole buffer
+-- ---- a page as it is lent
 
-pub page_copied : (page : ℕ) (memory buffer : List ℕ) → length memory ≡ 4096 → page < 16 → length buffer ≡ 256
-    → sets buffer 0 (take (page * 256 + 256 - page * 256) (drop (page * 256) memory)) ≡ page_in page memory
-page_copied page memory buffer m h b =
-    let k : page * 256 + 256 - page * 256 ≡ 256 = omega arith in
-    let l : length (page_in page memory) ≡ 256 =
-    length-take-le 256 (drop (page * 256) memory) (omega (arith, length-drop (page * 256) memory)) in
-    ap (λ (n : ℕ). sets buffer 0 (take n (drop (page * 256) memory))) k ∙ sets_all (page_in page memory) buffer (omega arith)
+pub page_lent : (page : ℕ) (memory : List ℕ) → take (page * 256 + 256 - page * 256) (drop (page * 256) memory) ≡ page_in page memory
+page_lent page memory = let k : page * 256 + 256 - page * 256 ≡ 256 = omega arith in ap (λ (n : ℕ). take n (drop (page * 256) memory)) k
 
 -- ---- sixteen pages
 

@@ -1,25 +1,32 @@
--- The list of outcomes: what is noted beside the ids, the search, the walk, and what it comes to.
-use Prim.Native.Nat.{ℕ, zero, suc, ◌+◌, ◌-◌, ◌/◌, ◌≤◌, ◌<◌}
+-- The list of outcomes: what is noted beside the ids, the walk, and what it comes to.
+use Prim.Native.Nat.{ℕ, zero, suc, ◌+◌, ◌≤◌, ◌<◌}
 use native.Mathlib.Numerals.{add-one}
 use native.Mathlib.Omega.{arith}
 use mathlib.Core.Bool.{Bool, true, false, cond}
 use mathlib.Core.List.{List, [], ◌∷◌, map}
 use mathlib.Core.Option.{Option, none, some}
-use mathlib.Core.Path.{◌≡◌, refl, sym, ap, ap₂, ◌∙◌}
-use lib.ListN.{length, get_or, set, drop, replicate, drop_of_length-le, length-set, length-drop, length-replicate}
-use lib.Seq.{drop-cons, drop-drop, get_or-set_same, get_or-set_other, ext_get_or}
+use mathlib.Core.Path.{◌≡◌, refl, sym, ap, ◌∙◌, subst}
+use lib.ListN.{length, get_or, set, drop, replicate, length-set, length-drop, length-replicate}
+use lib.Seq.{drop-drop, get_or-set_same, get_or-set_other, ext_get_or}
 use lib.Dec.{eqb, ltb}
 use borrow.Author.Tests.{eq-eqb, ne_eqb, eqb-true, eqb-false, lt-ltb, le-ltb, ltb-true, ltb-false}
-use Rattle.recovery.specs.Group.{Group, group_size}
+use Rattle.std.specs.Prelude.{Some, None, Ok, Err}
+use Rattle.std.specs.List.{IsAllAdjacentAnswer}
+use Rattle.recovery.specs.Group.{Group, committed, aborted, group_size}
 use Rattle.recovery.specs.Lists.{or_else}
 use Rattle.recovery.specs.Restart.{group_id}
+use Rattle.redolog.specs.declared.group.GroupEnd.{GroupEnd}
+use Rattle.redolog.specs.declared.group.GroupEnd.TheVariants.{Aborted, Committed}
+use Rattle.redolog.specs.declared.stop.Stop.{Stop}
+use Rattle.redolog.specs.Group.{group_with, end_of}
 use Rattle.redolog.specs.Log.{next_after, read_log_with}
-use Rattle.redolog.proofs.Basics.{and_left, and_right}
+use Rattle.redolog.proofs.Basics.{clash, and_left, and_right}
 use Rattle.redolog.proofs.GroupLaws.{group_with_within}
 use Rattle.redolog.proofs.LogLaws.{log_with_none, log_with_more}
+use Rattle.inspect.specs.declared.outcomes.Passed.{Passed}
 use Rattle.inspect.specs.declared.outcomes.Walk.{Walk}
-use Rattle.inspect.specs.Outcomes.{last_group, outcome_of, outcome_by, last_outcome, rising_after, rising, WalkTold, OutcomesLeft, refused_outcomes, groups_on, walked_log, outcomes_of}
-use Rattle.inspect.specs.Walk.{beside, noted_at, noted_in, group_at, past_group, walk_step, note_group, group_noted, walked_over}
+use Rattle.inspect.specs.Outcomes.{last_group, outcome_of, outcome_by, last_outcome, rising_after, rising, refused_outcomes, groups_on, walked_log, outcomes_of}
+use Rattle.inspect.specs.Walk.{beside, noted_at, noted_in, group_at, past_group, passed_by, walked_over}
 use Rattle.inspect.proofs.Applying.{and_no}
 
 -- ---- beside the ids
@@ -73,32 +80,43 @@ rising_below (x ∷ xs) r i zero h l = absurd (omega arith)
 rising_below (x ∷ xs) r zero (suc j) h l = rising_above x xs r j (omega arith)
 rising_below (x ∷ xs) r (suc i) (suc j) h l = rising_below xs (rising_rest x xs r) i j (omega arith) (omega arith)
 
--- as the code goes over it
-pub rising_none : (ids : List ℕ) → length ids ≡ 0 → true ≡ rising ids
-rising_none [] e = refl
-rising_none (x ∷ xs) e = absurd (omega arith)
+pub rising_le : (ids : List ℕ) → rising ids ≡ true → (i j : ℕ) → i ≤ j → j < length ids → get_or ids i 0 ≤ get_or ids j 0
+rising_le ids r i j h l = go (eqb i j) refl
+  where
+    go : (b : Bool) → eqb i j ≡ b → get_or ids i 0 ≤ get_or ids j 0
+    go true e = rw (eqb-true i j e) (omega arith)
+    go false e = omega (arith, rising_below ids r i j (omega (arith, h, eqb-false i j e)) l)
 
-pub rising_first : (ids : List ℕ) → (length ids ≡ 0 → ⊥) → rising ids ≡ rising_after (get_or ids 0 0) (drop 1 ids)
-rising_first [] n = absurd (n refl)
-rising_first (x ∷ xs) n = refl
+-- as the library answers: each id is below the next, or one is not
+rising_if : (x : ℕ) (xs : List ℕ) → ((k : ℕ) → k < length xs → get_or (x ∷ xs) k 0 < get_or xs k 0) → rising_after x xs ≡ true
+rising_if x [] h = refl
+rising_if x (y ∷ ys) h = rw (lt-ltb x y (h 0 (omega arith))) (rising_if y ys (λ k l. h (suc k) (omega arith)))
 
-module _ (ids : List ℕ) (last i : ℕ) where
-  here_first : i < length ids → drop i ids ≡ get_or ids i 0 ∷ drop (i + 1) ids
-  here_first h = rw (add-one, drop-cons ids i 0)
+rising_not : (x : ℕ) (xs : List ℕ) (k : ℕ) → k < length xs → get_or xs k 0 ≤ get_or (x ∷ xs) k 0 → rising_after x xs ≡ false
+rising_not x [] k l h = absurd (omega arith)
+rising_not x (y ∷ ys) zero l h = rw (le-ltb x y h)
+rising_not x (y ∷ ys) (suc k) l h = rw (rising_not y ys k (omega arith) h) (and_no (ltb x y))
 
-  pub rising_stop : i < length ids → get_or ids i 0 ≤ last → rising_after last (drop i ids) ≡ false
-  rising_stop h k = rw (here_first h, le-ltb last (get_or ids i 0) k)
+pub rising_answer : (ids : List ℕ) (r : Bool) → IsAllAdjacentAnswer (λ x y b. b ≡ ltb x y) ids r → r ≡ rising ids
+rising_answer [] true h = refl
+rising_answer [] false h = let e : h.0 + 1 < 0 = h.1 in absurd (omega arith)
+rising_answer (x ∷ xs) true h =
+    sym (rising_if x xs (λ k l. let e = rw add-one at (h k 0 (omega (arith, l))) in ltb-true (get_or (x ∷ xs) k 0) (get_or xs k 0) (sym e)))
+rising_answer (x ∷ xs) false h =
+    let k : ℕ = h.0 in
+    let e = rw add-one at (h.2 0) in
+    sym (rising_not x xs k (omega (arith, h.1)) (ltb-false (get_or (x ∷ xs) k 0) (get_or xs k 0) (sym e)))
 
-  pub rising_go : i < length ids → last < get_or ids i 0 → rising_after last (drop i ids) ≡ rising_after (get_or ids i 0) (drop (i + 1) ids)
-  rising_go h k = ap (rising_after last) (here_first h) ∙ rw (lt-ltb last (get_or ids i 0) k)
-
-  pub rising_end : length ids ≤ i → rising_after last (drop i ids) ≡ true
-  rising_end h = ap (rising_after last) (drop_of_length-le ids {i = i} h)
+-- what is below the id on one side and above it on the other does not hold it
+pub between : (ids : List ℕ) (id i : ℕ) → ((k : ℕ) → k < i → get_or ids k 0 < id) → ((k : ℕ) → i ≤ k → k < length ids → id < get_or ids k 0)
+    → (k : ℕ) → k < length ids → get_or ids k 0 ≡ id → ⊥
+between ids id i below above k l e = go (ltb k i) refl
+  where
+    go : (b : Bool) → ltb k i ≡ b → ⊥
+    go true t = omega (arith, e, below k (ltb-true k i t))
+    go false t = omega (arith, e, above k (ltb-false k i t) l)
 
 -- ---- the search by halves
-
-pub middle_within : (low high : ℕ) → low < high → (low ≤ low + (high - low) / 2) × (low + (high - low) / 2 < high)
-middle_within low high h = (omega arith, omega arith)
 
 module _ (ids : List ℕ) (id : ℕ) (r : rising ids ≡ true) (m : ℕ) (l : m < length ids) where
   pub below_middle : get_or ids m 0 < id → (j : ℕ) → j < m + 1 → get_or ids j 0 < id
@@ -197,86 +215,80 @@ groups_from log w = read_log_with w.next (drop w.at log)
 abbrev pub walks_from : List ℕ → List ℕ → Walk → List ℕ → Walks
 walks_from ids log w out = record { groups = w.groups + length (groups_from log w); out = walked_over ids (groups_from log w) out }
 
+-- its end, as the code reads it
+abbrev pub end_in : GroupEnd → ℕ
+end_in (Aborted id end) = end
+end_in (Committed id csn end) = end
+
+pub end_within : (next : ℕ) (s : List ℕ) (why : Stop) (e : GroupEnd) → Ok e ≡ end_of why (group_with next s) → end_in e ≤ length s
+end_within next s why e q = go (group_with next s) refl
+  where
+    go : (x : Option Group) → group_with next s ≡ x → end_in e ≤ length s
+    go none p = let z : Ok e ≡ Err why = q ∙ ap (end_of why) p in clash (cc)
+    go (some (aborted id)) p =
+        let z : Ok e ≡ Ok (Aborted (record { 0 = id }) (group_size (aborted id))) = q ∙ ap (end_of why) p in
+        let k : e ≡ Aborted (record { 0 = id }) (group_size (aborted id)) = cc in
+        omega (arith, ap end_in k, group_with_within next s _ p)
+    go (some (committed id csn ws)) p =
+        let z : Ok e ≡ Ok (Committed (record { 0 = id }) (record { 0 = csn }) (group_size (committed id csn ws))) = q ∙ ap (end_of why) p in
+        let k : e ≡ Committed (record { 0 = id }) (record { 0 = csn }) (group_size (committed id csn ws)) = cc in
+        omega (arith, ap end_in k, group_with_within next s _ p)
+
 module _ (ids log : List ℕ) (w : Walk) (out : List ℕ) where
-  past_by : (x : Option Group) → group_at log w ≡ x → walk_step log w ≡ past_group x w
-  unfolding walk_step
-  past_by x e = ap (λ (y : Option Group). past_group y w) e
+  -- where no group stands the walk ends
+  walk_none : group_at log w ≡ none → walks_from ids log w out ≡ record { groups = w.groups; out = out }
+  walk_none e =
+      ap (λ (gs : List Group). record { groups = w.groups + length gs; out = walked_over ids gs out }) (log_with_none _ _ e)
+      ∙ ap (λ (n : ℕ). record { groups = n; out = out }) (omega arith)
 
-  noted_by : (x : Option Group) → group_at log w ≡ x → group_noted log w ids out ≡ note_group ids x out
-  unfolding group_noted
-  noted_by x e = ap (λ (y : Option Group). note_group ids y out) e
-
-  -- a turn of the code, from the group that it read
-  pub turn_by : (x : Option Group) (v : Walk) (o : List ℕ) → group_at log w ≡ x → v ≡ past_group x w → o ≡ note_group ids x out
-      → (v ≡ walk_step log w) × (o ≡ group_noted log w ids out)
-  turn_by x v o e p q = (p ∙ sym (past_by x e), q ∙ sym (noted_by x e))
-
-  pub walk_step_lem : walks_from ids log w out ≡ walks_from ids log (walk_step log w) (group_noted log w ids out)
-  walk_step_lem = go (group_at log w) refl
+  pub walk_done : passed_by (group_at log w) w ≡ None → walks_from ids log w out ≡ record { groups = w.groups; out = out }
+  walk_done e = go (group_at log w) refl
     where
-      here : (x : Option Group) → group_at log w ≡ x
-          → walks_from ids log (past_group x w) (note_group ids x out) ≡ walks_from ids log (walk_step log w) (group_noted log w ids out)
-      here x e = sym (ap₂ (walks_from ids log) (past_by x e) (noted_by x e))
+      go : (x : Option Group) → group_at log w ≡ x → walks_from ids log w out ≡ record { groups = w.groups; out = out }
+      go none p = walk_none p
+      go (some g) p = let z : passed_by (some g) w ≡ None = sym (ap (λ (x : Option Group). passed_by x w) p) ∙ e in clash (cc)
 
-      go : (x : Option Group) → group_at log w ≡ x → walks_from ids log w out ≡ walks_from ids log (walk_step log w) (group_noted log w ids out)
-      go none e = here none e
-      go (some g) e =
-          ap (λ (gs : List Group). record { groups = w.groups + length gs; out = walked_over ids gs out }) (log_with_more _ _ g e)
-          ∙ ap (λ (s : List ℕ). record {
-            groups = w.groups + suc (length (read_log_with (next_after w.next g) s));
-            out = walked_over ids (read_log_with (next_after w.next g) s) (noted_in ids (group_id g) (outcome_of g) out);
-          }) (drop-drop (group_size g) w.at log)
-          ∙ ap (λ (n : ℕ). record {
-            groups = n;
-            out = walked_over ids (groups_from log (past_group (some g) w)) (noted_in ids (group_id g) (outcome_of g) out);
-          }) (omega arith)
-          ∙ here (some g) e
+  -- else it goes on behind the group, with its outcome noted
+  pub record Turned (p : Passed) : Type 0 where
+    pub within : p.walk.at ≤ length log
+    pub further : w.at < p.walk.at
+    pub groups : p.walk.groups ≤ p.walk.at
+    pub beside : length (noted_in ids p.id.0 p.outcome out) ≡ length ids
+    pub same : walks_from ids log w out ≡ walks_from ids log p.walk (noted_in ids p.id.0 p.outcome out)
 
-  grown : (g : Group) → group_at log w ≡ some g → (walk_step log w).at ≡ w.at + group_size g
-  grown g e = ap (λ (v : Walk). v.at) (past_by (some g) e)
+  module _ (h : w.at ≤ length log) (k : w.groups ≤ w.at) (l : length out ≡ length ids) where
+    turn : (g : Group) → group_at log w ≡ some g
+        → Turned (record { id = record { 0 = group_id g }; outcome = outcome_of g; walk = past_group g w })
+    turn g e =
+        let i = group_with_within _ _ g e in
+        let d = length-drop w.at log in
+        record {
+          within = omega arith;
+          further = omega arith;
+          groups = omega arith;
+          beside = noted_length ids out (group_id g) (outcome_of g) l ∙ l;
+          same = ap (λ (gs : List Group). record { groups = w.groups + length gs; out = walked_over ids gs out }) (log_with_more _ _ g e)
+              ∙ ap (λ (s : List ℕ). record {
+                groups = w.groups + suc (length (read_log_with (next_after w.next g) s));
+                out = walked_over ids (read_log_with (next_after w.next g) s) (noted_in ids (group_id g) (outcome_of g) out);
+              }) (drop-drop (group_size g) w.at log)
+              ∙ ap (λ (n : ℕ). record {
+                groups = n;
+                out = walked_over ids (groups_from log (past_group g w)) (noted_in ids (group_id g) (outcome_of g) out);
+              }) (omega arith);
+        }
 
-  -- where the walk stands still there is no group
-  pub walk_done : (walk_step log w).at ≡ w.at
-      → walks_from ids log w out ≡ record { groups = (walk_step log w).groups; out = group_noted log w ids out }
-  walk_done h = go (group_at log w) refl
-    where
-      go : (x : Option Group) → group_at log w ≡ x → walks_from ids log w out ≡ record { groups = (walk_step log w).groups; out = group_noted log w ids out }
-      go none e =
-          ap (λ (gs : List Group). record { groups = w.groups + length gs; out = walked_over ids gs out }) (log_with_none _ _ e)
-          ∙ ap (λ (n : ℕ). record { groups = n; out = out }) (omega arith)
-          ∙ ap₂ (λ (v : Walk) (o : List ℕ). record { groups = v.groups; out = o }) (sym (past_by none e)) (sym (noted_by none e))
-      go (some g) e = absurd (omega (arith, grown g e, group_with_within _ _ g e))
-
-  pub walk_within : w.at ≤ length log → w.groups ≤ w.at
-      → ((walk_step log w).at ≤ length log) × (w.at ≤ (walk_step log w).at) × ((walk_step log w).groups ≤ (walk_step log w).at)
-  walk_within h k = go (group_at log w) refl
-    where
-      go : (x : Option Group) → group_at log w ≡ x
-          → ((walk_step log w).at ≤ length log) × (w.at ≤ (walk_step log w).at) × ((walk_step log w).groups ≤ (walk_step log w).at)
-      go none e =
-          let p = past_by none e in
-          let a : (walk_step log w).at ≡ w.at = ap (λ (v : Walk). v.at) p in
-          let n : (walk_step log w).groups ≡ w.groups = ap (λ (v : Walk). v.groups) p in
-          (omega arith, omega arith, omega arith)
-      go (some g) e =
-          let i = group_with_within _ _ g e in
-          let d = length-drop w.at log in
-          let a = grown g e in
-          let n : (walk_step log w).groups ≡ w.groups + 1 = ap (λ (v : Walk). v.groups) (past_by (some g) e) in
-          (omega arith, omega arith, omega arith)
-
-  pub note_kept : length out ≡ length ids → length (group_noted log w ids out) ≡ length ids
-  note_kept l = go (group_at log w) refl
-    where
-      go : (x : Option Group) → group_at log w ≡ x → length (group_noted log w ids out) ≡ length ids
-      go none e = ap length (noted_by none e) ∙ l
-      go (some g) e = ap length (noted_by (some g) e) ∙ noted_length ids out (group_id g) (outcome_of g) l ∙ l
+    pub turned : (p : Passed) → passed_by (group_at log w) w ≡ Some p → Turned p
+    turned p e = go (group_at log w) refl
+      where
+        go : (x : Option Group) → group_at log w ≡ x → Turned p
+        go none q = let z : passed_by none w ≡ Some p = sym (ap (λ (x : Option Group). passed_by x w) q) ∙ e in clash (cc)
+        go (some g) q =
+            let z : passed_by (some g) w ≡ Some p = sym (ap (λ (x : Option Group). passed_by x w) q) ∙ e in
+            let is : record { id = record { 0 = group_id g }; outcome = outcome_of g; walk = past_group g w } ≡ p = cc in
+            subst Turned is (turn g q)
 
 -- ---- the call by cases
-
--- what was told and left is what a definition has, if it is what an equal one has
-pub as_outcomes : {x y : OutcomesLeft} {r : WalkTold} {o : List ℕ} → x ≡ y → r ≡ y.result → o ≡ y.outcomes → (r ≡ x.result) × (o ≡ x.outcomes)
-as_outcomes e p q = (p ∙ sym (ap (λ (z : OutcomesLeft). z.result) e), q ∙ sym (ap (λ (z : OutcomesLeft). z.outcomes) e))
 
 module _ (disk ids out : List ℕ) where
   pub outcomes_no_disk : (length disk ≡ 33691 → ⊥) → outcomes_of disk ids out ≡ refused_outcomes 1 out

@@ -1,11 +1,13 @@
 -- "given disk, memory and a number of groups, it leaves the memory as it is after step 3's first so many groups, or all if fewer, and tells the
 -- log end and last commit number reached; 1, 3 and 4 as at restart" (document 02, A.3).
-use Rattle.std.specs.Prelude.{ℕ, ◌+◌, cond, ◌&&◌, List, length, eqb}
+use Rattle.std.specs.Prelude.{ℕ, ◌+◌, cond, ◌&&◌, List, length, eqb, Result, Ok, Err}
 use Rattle.layout.specs.{memory_len, disk_len}
+use Rattle.layout.specs.declared.refusal.Refusal.{Refusal}
+use Rattle.layout.specs.Refusal.{number_of}
 use Rattle.restart.specs.Forward.{Went, first_of}
-use Rattle.store.specs.Answer.{Word, done, refused, word}
+use Rattle.redolog.specs.declared.scan.Reached.{Reached}
+use Rattle.store.specs.Answer.{Word, done, refused}
 use Rattle.disk.specs.Open.{OpenedDisk, open_of}
-use Rattle.inspect.specs.declared.groups.Applied.{Applied}
 
 -- what is told: the word, the log's end reached, and the last commit number reached
 pub record GroupsTold : Type 0 where
@@ -13,12 +15,13 @@ pub record GroupsTold : Type 0 where
   pub end : ℕ
   pub csn : ℕ
 
-abbrev pub of_applied : Applied → GroupsTold
-of_applied r = record { says = word r.answer; end = r.end; csn = r.csn.0 }
-
 -- a refusal "reports 0 for every id or count"
 abbrev pub refused_groups : ℕ → GroupsTold
 refused_groups n = record { says = refused n; end = 0; csn = 0 }
+
+abbrev pub of_applied : Result Reached Refusal → GroupsTold
+of_applied (Ok r) = record { says = done; end = r.end; csn = r.csn.0 }
+of_applied (Err r) = refused_groups (number_of r)
 
 -- with what stands in memory then
 pub record GroupsLeft : Type 0 where

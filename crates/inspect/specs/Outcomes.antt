@@ -1,16 +1,17 @@
 -- "The ids come as a lent list of 16-bit numbers in rising order, the outcomes go into a second list of equal length: 1 committed, 2 aborted, 0
 -- neither found. One walk over the log from its first byte serves the whole list, and the count of groups walked is reported and equals those in
 -- the log. If an id has several groups, its last counts." (document 02, A.8)
-use Rattle.std.specs.Prelude.{ℕ, Bool, true, cond, ◌&&◌, List, [], ◌∷◌, map, length, eqb, ltb}
+use Rattle.std.specs.Prelude.{ℕ, Bool, true, cond, ◌&&◌, List, [], ◌∷◌, map, length, eqb, ltb, Result, Ok, Err}
 use Rattle.std.proofs.Math.Option.{Option, none, some}
 use Rattle.layout.specs.{disk_len}
+use Rattle.layout.specs.declared.refusal.Refusal.{Refusal}
+use Rattle.layout.specs.Refusal.{number_of}
 use Rattle.layout.specs.Parts.{log_part}
 use Rattle.recovery.specs.Group.{Group, committed, aborted}
 use Rattle.recovery.specs.Lists.{or_else}
 use Rattle.recovery.specs.Restart.{group_id}
 use Rattle.redolog.specs.Log.{read_log}
-use Rattle.store.specs.Answer.{Word, done, refused, word}
-use Rattle.inspect.specs.declared.outcomes.Walked.{Walked}
+use Rattle.store.specs.Answer.{Word, done, refused}
 
 -- ---- the outcome of an id in a log
 
@@ -48,11 +49,12 @@ pub record WalkTold : Type 0 where
   pub says : Word
   pub groups : ℕ
 
-abbrev pub of_walked : Walked → WalkTold
-of_walked r = record { says = word r.answer; groups = r.groups }
-
 abbrev pub refused_walk : ℕ → WalkTold
 refused_walk n = record { says = refused n; groups = 0 }
+
+abbrev pub of_walked : Result ℕ Refusal → WalkTold
+of_walked (Ok n) = record { says = done; groups = n }
+of_walked (Err r) = refused_walk (number_of r)
 
 -- with what stands in the list of outcomes then
 pub record OutcomesLeft : Type 0 where

@@ -1,26 +1,19 @@
 // Which transactions went through (document 02, A.8): of a list of ids, by one walk over the log from its first byte.
 ghost use Rattle.std.specs.Prelude.{true, ◌≡◌, ◌≤◌, length};
 ghost use Rattle.redolog.specs.Log.{read_log_with};
-ghost use Rattle.inspect.specs.Outcomes.{rising, of_walked, refused_walk, outcomes_of};
-ghost use Rattle.inspect.specs.Walk.{FoundAs, noted_in, group_noted, walk_step, walked_over};
+ghost use Rattle.inspect.specs.Outcomes.{rising, of_walked, outcomes_of};
+ghost use Rattle.inspect.specs.Walk.{noted_in, group_at, passed_by, walked_over};
 
+use layout::refusal::Refusal;
 use layout::{DISK_LEN, LOG_LEN, LOG_START};
 use redolog::TxId;
 use redolog::group::{GroupEnd, read_next};
 use redolog::stores::fill_zero;
-use store::Answer;
 
-// What an id's last group is. No group: 0.
+// What an id's last group is. No group: 0. Numbers, since they are the bytes of a list that C lends.
 pub const COMMITTED: u8 = 1;
 
 pub const ABORTED: u8 = 2;
-
-// The groups walked; 0 where refused.
-#[derive(Clone, Copy)]
-pub struct Walked {
-    pub answer: Answer,
-    pub groups: usize,
-}
 
 // Where the walk is in the log, the commit number expected there, and the groups walked so far.
 #[derive(Clone, Copy)]
@@ -30,61 +23,18 @@ struct Walk {
     groups: usize,
 }
 
-// The place of an id in the list.
+// A group of the walk: its id, its outcome, and where the walk is behind it.
 #[derive(Clone, Copy)]
-enum Place {
-    At(usize),
-    Nowhere,
-}
-
-fn refused(number: u8) -> Walked
-    ensures { of_walked result ≡ refused_walk number }
-{
-    Walked {
-        answer: Answer::Refused(number),
-        groups: 0,
-    }
+struct Passed {
+    id: TxId,
+    outcome: u8,
+    walk: Walk,
 }
 
 fn is_rising(ids: &[u16]) -> bool
     ensures { result ≡ rising ids.now }
 {
-    if ids.len() == 0 {
-        return true;
-    }
-    let mut last = ids[0];
-    let mut i: usize = 1;
-    while i < ids.len() {
-        let next = ids[i];
-        if next <= last {
-            return false;
-        }
-        last = next;
-        i += 1;
-    }
-    true
-}
-
-// By halves: the list is rising.
-fn find(ids: &[u16], id: u16) -> Place
-    requires { rising ids.now ≡ true }
-    ensures { FoundAs ids.now id result }
-{
-    let mut low: usize = 0;
-    let mut high = ids.len();
-    while low < high {
-        let middle = low + (high - low) / 2;
-        let here = ids[middle];
-        if here == id {
-            return Place::At(middle);
-        }
-        if here < id {
-            low = middle + 1;
-        } else {
-            high = middle;
-        }
-    }
-    Place::Nowhere
+    ids.is_sorted_by(|a, b| *a < *b)
 }
 
 // A group of this id: its outcome takes the place of an earlier one.
@@ -92,44 +42,32 @@ fn note(ids: &[u16], out: &mut [u8], id: TxId, outcome: u8)
     requires { (rising ids.now ≡ true) × (length out.old ≡ length ids.now) }
     ensures { out.new ≡ noted_in ids.now id.0 outcome out.old }
 {
-    let place = find(ids, id.0);
-    let Place::At(i) = place else {
-        return;
-    };
-    out[i] = outcome;
+    if let Ok(i) = ids.binary_search(&id.0) {
+        out[i] = outcome;
+    }
 }
 
-// Past the group that stands where w is, if one does.
-fn step(log: &[u8], w: Walk, ids: &[u16], out: &mut [u8]) -> Walk
-    requires at_in_bounds { (w.at ≤ length log.now) × (w.groups ≤ w.at) }
-    requires ids_value { (rising ids.now ≡ true) × (length out.old ≡ length ids.now) }
-    ensures value { result ≡ walk_step log.now w }
-    ensures out_after { out.new ≡ group_noted log.now w ids.now out.old }
+// The group that stands where w is, if one does.
+fn step(log: &[u8], w: Walk) -> Option<Passed>
+    requires { (w.at ≤ length log.now) × (w.groups ≤ w.at) }
+    ensures { result ≡ passed_by (group_at log.now w) w }
 {
-    let at = w.at;
-    let next = w.next;
-    let group = read_next(&log[at..], next);
-    match group {
-        GroupEnd::Aborted { id, end } => {
-            note(ids, out, id, ABORTED);
-            return Walk {
-                at: at + end,
-                next: next,
-                groups: w.groups + 1,
-            };
-        }
-        GroupEnd::Committed { id, csn, end } => {
-            note(ids, out, id, COMMITTED);
-            return Walk {
-                at: at + end,
-                next: csn.0 as u64 + 1,
-                groups: w.groups + 1,
-            };
-        }
-        GroupEnd::NoGroup(_) => {
-            return w;
-        }
-    }
+    let Ok(group) = read_next(&log[w.at..], w.next) else {
+        return None;
+    };
+    let (id, outcome, end, next) = match group {
+        GroupEnd::Aborted { id, end } => (id, ABORTED, end, w.next),
+        GroupEnd::Committed { id, csn, end } => (id, COMMITTED, end, csn.0 as u64 + 1),
+    };
+    Some(Passed {
+        id,
+        outcome,
+        walk: Walk {
+            at: w.at + end,
+            next,
+            groups: w.groups + 1,
+        },
+    })
 }
 
 // The groups of the log, which is walked once. next is its first commit number.
@@ -140,36 +78,32 @@ fn walk_log(log: &[u8], next: u64, ids: &[u16], out: &mut [u8]) -> usize
 {
     let mut w = Walk {
         at: 0,
-        next: next,
+        next,
         groups: 0,
     };
-    loop {
-        let at = w.at;
-        w = step(log, w, ids, out);
-        if w.at == at {
-            return w.groups;
-        }
+    // A group has its own length, and no iterator steps by what it reads.
+    while let Some(group) = step(log, w) {
+        note(ids, out, group.id, group.outcome);
+        w = group.walk;
     }
+    w.groups
 }
 
-// Each outcome is that of the id in its place.
-pub fn outcomes(disk: &[u8], ids: &[u16], out: &mut [u8]) -> Walked
+// Each outcome is that of the id in its place. Returns the groups walked.
+pub fn outcomes(disk: &[u8], ids: &[u16], out: &mut [u8]) -> Result<usize, Refusal>
     ensures result_value { of_walked result ≡ (outcomes_of disk.now ids.now out.old).result }
     ensures out_after { out.new ≡ (outcomes_of disk.now ids.now out.old).outcomes }
 {
     if disk.len() != DISK_LEN {
-        return refused(1);
+        return Err(Refusal::WrongLength);
     }
     if ids.len() != out.len() {
-        return refused(20);
+        return Err(Refusal::BadList);
     }
     if !is_rising(ids) {
-        return refused(20);
+        return Err(Refusal::BadList);
     }
     fill_zero(out);
     let groups = walk_log(&disk[LOG_START..LOG_START + LOG_LEN], 1, ids, out);
-    Walked {
-        answer: Answer::Done,
-        groups: groups,
-    }
+    Ok(groups)
 }

@@ -10,17 +10,20 @@ use lib.Dec.{eqb, ltb}
 use borrow.Author.Tests.{eqb-true, eqb-false, ne_eqb, ltb-true, ltb-false}
 use Rattle.layout.specs.Parts.{pointer_of}
 use Rattle.redolog.proofs.Basics.{clash}
-use Rattle.store.specs.declared.Answer.{Answer}
-use Rattle.store.specs.declared.Answer.TheVariants.{Done, Cut, Refused}
-use Rattle.store.specs.Answer.{cut, word, Told}
-use Rattle.store.specs.Answer as words
+use Rattle.std.specs.Prelude.{Result, Ok, Err}
+use Rattle.layout.specs.declared.refusal.Refusal.{Refusal}
+use Rattle.layout.specs.Refusal.{number_of}
+use Rattle.store.specs.declared.Failure.{Failure}
+use Rattle.store.specs.declared.Failure.TheVariants.{Cut, Refused}
+use Rattle.store.specs.Answer.{cut, says_stored, Told}
 use Rattle.store.specs.Stored.{DiskOutcome}
+use Rattle.disk.specs.declared.call.Recovery.{Recovery}
 use Rattle.disk.specs.declared.call.Restarted.{Restarted}
 use Rattle.disk.specs.Examine.{examine_of}
-use Rattle.disk.specs.Restart.{of_restarted, refused_restart, restart_of}
+use Rattle.disk.specs.Restart.{of_restarted, refused_restart, restart_of, stop_told}
 use Rattle.disk.proofs.Examining.{roomy}
 use Rattle.disk.proofs.Restarting.{done_from, restart_1, restart_refused, restart_done}
-use Rattle.listing.specs.Lines.{found_text, stop_line, refused_text}
+use Rattle.listing.specs.Lines.{found_text, stop_text, stop_line, refused_text}
 use Rattle.listing.specs.Listing.{restart_whole, stopped_whole, listing_of, Printed}
 
 pub data Ending (disk : List ℕ) : Type 0 where
@@ -70,30 +73,18 @@ few_undone disk = go (ending disk)
 
 -- ---- the text by cases
 
--- an answer that is no refusal does not say one
-not_refused : (n : ℕ) (a : Answer) → word a ≡ words.refused n → ((m : ℕ) → a ≡ Refused m → ⊥) → ⊥
-not_refused n Done e k = clash (cc)
-not_refused n Cut e k = clash (cc)
-not_refused n (Refused m) e k = k m refl
-
-module _ (disk : List ℕ) (r : Restarted) (e : of_restarted r ≡ (restart_whole disk).result) (s : r.stop ≡ stopped_whole disk) where
-  pub listing_refused : (n : ℕ) → r.answer ≡ Refused n → listing_of disk ≡ refused_text n
+module _ (disk : List ℕ) (r : Restarted) (e : of_restarted r ≡ (restart_whole disk).result) (s : stop_told r.result ≡ stopped_whole disk) where
+  pub listing_refused : (n : Refusal) → r.result ≡ Err (Refused n) → listing_of disk ≡ refused_text (number_of n)
   unfolding listing_of
   listing_refused n a = rw (← e, a)
 
-  abbrev Found : ℕ → Type 0
-  Found pointer = listing_of disk ≡ found_text pointer r.state.logend r.state.ondisk.0 r.state.lastid.0 r.undone ++ stop_line r.stop
+  pub listing_done : (pointer : ℕ) → pointer ≡ pointer_of disk → (x : Recovery) → r.result ≡ Ok x
+      → listing_of disk ≡ found_text pointer r.state.logend r.state.ondisk.0 r.state.lastid.0 x.undone ++ stop_text x.stop
+  unfolding listing_of stop_line
+  listing_done pointer p x a = rw (← e, ← s, a, p)
 
-  listing_done : (pointer : ℕ) → pointer ≡ pointer_of disk → word r.answer ≡ words.done → Found pointer
-  unfolding listing_of
-  listing_done pointer p a = rw (← e, ← s, a, p)
-
-  pub listing_found : (pointer : ℕ) → pointer ≡ pointer_of disk → ((n : ℕ) → r.answer ≡ Refused n → ⊥) → Found pointer
-  listing_found pointer p k = go (ending disk)
-    where
-      go : Ending disk → Found pointer
-      go (refused n x) = absurd (not_refused n r.answer (ap (λ (y : Told). y.says) (e ∙ x)) k)
-      go (done x) = listing_done pointer p (ap (λ (y : Told). y.says) e ∙ ap (λ (o : DiskOutcome). o.result.says) x)
+  pub never_cut : r.result ≡ Err Cut → ⊥
+  never_cut a = uncut disk (sym (ap (λ (t : Told). t.says) e) ∙ ap (λ (x : Result Recovery Failure). says_stored x) a)
 
 pub printed : {x y out : List ℕ} {r : ℕ} → x ≡ y → Printed x r out → Printed y r out
 printed {out = out} {r} e l = subst (λ (text : List ℕ). Printed text r out) e l

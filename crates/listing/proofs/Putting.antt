@@ -6,12 +6,11 @@ use mathlib.Core.Path.{◌≡◌, sym, ap, ap₂, ◌∙◌}
 use lib.ListN.{length, take, drop, replicate, length-append, length-replicate}
 use lib.Seq.{sets-eq, take-append_seam}
 use Rattle.redolog.proofs.StoreLaws.{drop_zeros}
+use Rattle.redolog.specs.declared.stop.Stop.{Stop}
 use Rattle.redolog.specs.declared.stop.Stop.TheVariants.{Full, Zero, Torn}
-use Rattle.disk.specs.declared.call.Stopped.{Stopped}
-use Rattle.disk.specs.declared.call.Stopped.TheVariants.{Untold, At}
 use Rattle.text.specs.{ascii, decimal, Put}
 use Rattle.text.proofs.Decimal.{power_of_ten, decimal_short}
-use Rattle.listing.specs.Lines.{line, found_text, stop_line, refused_text}
+use Rattle.listing.specs.Lines.{line, found_text, stop_text, refused_text}
 use Rattle.listing.specs.Listing.{padded, Printed}
 
 -- a text at the front of zeros
@@ -60,17 +59,15 @@ pub found_short : {pointer end csn id undone : ℕ} → Short pointer end csn id
 unfolding found_text
 found_short s = simp length-append (omega arith)
 
-pub stop_short : (stopped : Stopped) → length (stop_line stopped) ≤ 10
-unfolding stop_line
-stop_short Untold = omega arith
-stop_short (At Full) = omega arith
-stop_short (At Zero) = omega arith
-stop_short (At Torn) = omega arith
+pub stop_short : (stop : Stop) → length (stop_text stop) ≤ 10
+stop_short Full = omega arith
+stop_short Zero = omega arith
+stop_short Torn = omega arith
 
-pub text_short : {pointer end csn id undone : ℕ} → Short pointer end csn id undone → (stopped : Stopped)
-    → length (found_text pointer end csn id undone ++ stop_line stopped) ≤ 80
-text_short {pointer} {end} {csn} {id} {undone} s stopped =
-    omega (arith, length-append (found_text pointer end csn id undone) (stop_line stopped), found_short s, stop_short stopped)
+pub text_short : {pointer end csn id undone : ℕ} → Short pointer end csn id undone → (stop : Stop)
+    → length (found_text pointer end csn id undone ++ stop_text stop) ≤ 80
+text_short {pointer} {end} {csn} {id} {undone} s stop =
+    omega (arith, length-append (found_text pointer end csn id undone) (stop_text stop), found_short s, stop_short stop)
 
 pub refused_short : (n : ℕ) → n < 256 → length (refused_text n) ≤ 80
 unfolding refused_text

@@ -1,9 +1,7 @@
 -- The lines of disklist's text.
-use Rattle.std.specs.Prelude.{ℕ, List, [], ◌∷◌, ◌++◌}
+use Rattle.std.specs.Prelude.{ℕ, List, [], ◌∷◌, ◌++◌, Option, Some, None}
 use Rattle.redolog.specs.declared.stop.Stop.{Stop}
 use Rattle.redolog.specs.declared.stop.Stop.TheVariants.{Full, Zero, Torn}
-use Rattle.disk.specs.declared.call.Stopped.{Stopped}
-use Rattle.disk.specs.declared.call.Stopped.TheVariants.{Untold, At}
 use Rattle.text.specs.{ascii, decimal}
 
 -- a name, a number, a line feed
@@ -22,9 +20,9 @@ stop_text Full = ascii "stop=full\n"
 stop_text Zero = ascii "stop=zero\n"
 stop_text Torn = ascii "stop=torn\n"
 
-unfoldable pub stop_line : Stopped → List ℕ
-stop_line Untold = []
-stop_line (At stop) = stop_text stop
+unfoldable pub stop_line : Option Stop → List ℕ
+stop_line None = []
+stop_line (Some stop) = stop_text stop
 
 -- "A refusal prints only refused= and its number"
 unfoldable pub refused_text : ℕ → List ℕ

@@ -1,10 +1,10 @@
 -- Program disklist: "reads one disk on standard input, runs restart on a copy and prints" what it found.
-use Rattle.std.specs.Prelude.{ℕ, ◌-◌, ◌≤◌, List, [], ◌++◌, ◌≡◌, length, take, replicate}
+use Rattle.std.specs.Prelude.{ℕ, ◌-◌, ◌≤◌, List, [], ◌++◌, ◌≡◌, length, take, replicate, Option}
 use Rattle.layout.specs.{memory_len, tail_len, log_len}
 use Rattle.layout.specs.Parts.{pointer_of}
+use Rattle.redolog.specs.declared.stop.Stop.{Stop}
 use Rattle.store.specs.Answer.{Word, done, cut, refused, Told}
 use Rattle.store.specs.Stored.{DiskOutcome}
-use Rattle.disk.specs.declared.call.Stopped.{Stopped}
 use Rattle.disk.specs.Restart.{restart_of, stopped_of}
 use Rattle.listing.specs.Lines.{found_text, stop_line, refused_text}
 
@@ -13,11 +13,11 @@ abbrev pub restart_whole : List ℕ → DiskOutcome
 restart_whole disk = restart_of disk (replicate memory_len 0) (replicate tail_len 0) log_len
 
 -- and why the log ended, as it tells it
-abbrev pub stopped_whole : List ℕ → Stopped
+abbrev pub stopped_whole : List ℕ → Option Stop
 stopped_whole disk = stopped_of disk (replicate memory_len 0) (replicate tail_len 0) log_len
 
 -- it is never cut: `uncut` (proofs/Endings.antt)
-abbrev pub text_of : ℕ → Told → Stopped → Word → List ℕ
+abbrev pub text_of : ℕ → Told → Option Stop → Word → List ℕ
 text_of pointer r stop done = found_text pointer r.state.logend r.state.ondisk.0 r.state.lastid.0 r.value ++ stop_line stop
 text_of pointer r stop cut = []
 text_of pointer r stop (refused n) = refused_text n

@@ -11,7 +11,7 @@ use crate::lines::{put_found, put_line, put_stop};
 use disk::call::restart;
 use layout::{DISK_LEN, LOG_LEN, MEMORY_LEN, TAIL_LEN};
 use redolog::stores::fill_zero;
-use store::Answer;
+use store::Failure;
 
 // Bytes of a text: the longest has 68.
 pub const TEXT_LEN: usize = 80;
@@ -20,10 +20,7 @@ pub const TEXT_LEN: usize = 80;
 fn pointer_of(disk: &[u8]) -> u8
     ensures { result ≡ pointer_of disk.now }
 {
-    if disk.len() == 0 {
-        return 0;
-    }
-    disk[0]
+    disk.first().copied().unwrap_or(0)
 }
 
 // Runs restart on the copy that is lent, with stores enough. The text goes to the front of out, zeros after it; its length is returned.
@@ -35,15 +32,16 @@ pub fn list(disk: &mut [u8], out: &mut [u8; TEXT_LEN]) -> usize
     let mut memory = [0u8; MEMORY_LEN];
     let mut tail = [0u8; TAIL_LEN];
     let found = restart(disk, &mut memory, &mut tail, LOG_LEN);
-    let answer = found.answer;
     fill_zero(out);
-    if let Answer::Refused(number) = answer {
-        return put_line(out, 0, b"refused=", number as u32);
+    match found.result {
+        Ok(recovery) => {
+            let at = put_found(out, pointer, found.state, recovery.undone);
+            put_stop(out, at, recovery.stop)
+        }
+        Err(Failure::Refused(refusal)) => put_line(out, 0, b"refused=", refusal.number() as u32),
+        // No log has more places than that.
+        Err(Failure::Cut) => unreachable!(),
     }
-    let state = found.state;
-    let stopped = found.stop;
-    let at = put_found(out, pointer, state, found.undone);
-    put_stop(out, at, stopped)
 }
 
 // The text of the first count bytes, or of all if there are fewer.

@@ -1,10 +1,9 @@
 // Lines of text: a name, a number in decimal or a word, a line feed.
 ghost use Rattle.std.specs.Prelude.{◌≡◌, ◌+◌, ◌≤◌, length};
 ghost use Rattle.text.specs.{Put};
-ghost use Rattle.listing.specs.Lines.{line, found_text, stop_line};
+ghost use Rattle.listing.specs.Lines.{line, found_text, stop_text};
 ghost use Rattle.listing.specs.Listing.{text_len};
 
-use disk::call::Stopped;
 use redolog::stop::Stop;
 use redolog::stores::copy;
 use store::State;
@@ -42,14 +41,11 @@ fn put_text(out: &mut [u8], at: usize, text: &[u8]) -> usize
     at + text.len()
 }
 
-// The sixth line; none where no stop is told. Returns where it ends.
-pub(crate) fn put_stop(out: &mut [u8], at: usize, stopped: Stopped) -> usize
+// The sixth line. Returns where it ends.
+pub(crate) fn put_stop(out: &mut [u8], at: usize, stop: Stop) -> usize
     requires { at + 10 ≤ length out.old }
-    ensures { Put out.old at (stop_line stopped) result out.new }
+    ensures { Put out.old at (stop_text stop) result out.new }
 {
-    let Stopped::At(stop) = stopped else {
-        return at;
-    };
     match stop {
         Stop::Full => put_text(out, at, b"stop=full\n"),
         Stop::Zero => put_text(out, at, b"stop=zero\n"),

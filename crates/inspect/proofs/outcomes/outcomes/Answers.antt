@@ -32,7 +32,7 @@ module _ (disk ids out : List ℕ) (d : length disk ≡ 33691) (l : length ids �
 pub returns-then-disk-ne-DISK_LEN-clause-result_value : goal.returns-then-disk-ne-DISK_LEN-clause-result_value
 returns-then-disk-ne-DISK_LEN-clause-result_value c =
     let a = c.args in
-    rw (outcomes_no_disk a.disk.now a.ids.now a.out.now c.if-disk-ne-DISK_LEN.true) c.refused.ensures
+    rw (outcomes_no_disk a.disk.now a.ids.now a.out.now c.if-disk-ne-DISK_LEN.true)
 
 pub returns-then-disk-ne-DISK_LEN-clause-out_after : goal.returns-then-disk-ne-DISK_LEN-clause-out_after
 returns-then-disk-ne-DISK_LEN-clause-out_after c = let a = c.args in rw (outcomes_no_disk a.disk.now a.ids.now a.out.now c.if-disk-ne-DISK_LEN.true)
@@ -40,7 +40,7 @@ returns-then-disk-ne-DISK_LEN-clause-out_after c = let a = c.args in rw (outcome
 pub returns-then-ids-out-clause-result_value : goal.returns-then-ids-out-clause-result_value
 returns-then-ids-out-clause-result_value c =
     let a = c.args in
-    rw (outcomes_unequal a.disk.now a.ids.now a.out.now c.if-disk-ne-DISK_LEN.false c.if-ids-out.true) c.refused-then-ids-out.ensures
+    rw (outcomes_unequal a.disk.now a.ids.now a.out.now c.if-disk-ne-DISK_LEN.false c.if-ids-out.true)
 
 pub returns-then-ids-out-clause-out_after : goal.returns-then-ids-out-clause-out_after
 returns-then-ids-out-clause-out_after c =
@@ -51,7 +51,7 @@ pub returns-then-not-is_rising-clause-result_value : goal.returns-then-not-is_ri
 returns-then-not-is_rising-clause-result_value c =
     let a = c.args in
     let r : rising a.ids.now ≡ false = sym c.is_rising.ensures ∙ c.if-not-is_rising.true in
-    rw (outcomes_unsorted a.disk.now a.ids.now a.out.now c.if-disk-ne-DISK_LEN.false r) c.refused-then-not-is_rising.ensures
+    rw (outcomes_unsorted a.disk.now a.ids.now a.out.now c.if-disk-ne-DISK_LEN.false r)
 
 pub returns-then-not-is_rising-clause-out_after : goal.returns-then-not-is_rising-clause-out_after
 returns-then-not-is_rising-clause-out_after c =

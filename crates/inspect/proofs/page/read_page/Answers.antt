@@ -1,66 +1,65 @@
-use Prim.Native.Nat.{ℕ}
-use mathlib.Core.Path.{sym, ap, ◌∙◌}
+use Rattle.std.proofs.Common.{ℕ, List, ◌≡◌, length, sym, ap, ◌∙◌}
 use lib.ListN.{replicate}
-use Rattle.store.specs.Answer.{refused}
-use Rattle.disk.specs.declared.examine.Examined.{Examined}
-use Rattle.inspect.specs.Page.{PageLeft, page_in}
-use Rattle.inspect.proofs.Paging.{page_no_disk, page_no_buffer, page_above, page_refused, page_done, page_copied}
+use borrow.Author.Tests.{eqb-false}
+use Rattle.layout.specs.Refusal.{number_of}
+use Rattle.store.specs.Answer.{Word, refused}
+use Rattle.store.proofs.Checks.{refused_some}
+use Rattle.disk.specs.Examine.{Examined}
+use Rattle.inspect.specs.Page.{PageLeft, page_in, page_of}
+use Rattle.inspect.proofs.Paging.{page_no_disk, page_no_buffer, page_above, page_refused, page_done, page_lent}
 use Rattle.inspect.proofs.page.read_page.Goals as goal
 
-pub returns-then-disk-ne-DISK_LEN-clause-result_value : goal.returns-then-disk-ne-DISK_LEN-clause-result_value
-returns-then-disk-ne-DISK_LEN-clause-result_value c = let a = c.args in rw (page_no_disk a.disk.now a.buffer.now a.page c.if-disk-ne-DISK_LEN.true)
+abbrev says_in : PageLeft → Word
+says_in x = x.says
 
-pub returns-then-disk-ne-DISK_LEN-clause-buffer_after : goal.returns-then-disk-ne-DISK_LEN-clause-buffer_after
-returns-then-disk-ne-DISK_LEN-clause-buffer_after c = let a = c.args in rw (page_no_disk a.disk.now a.buffer.now a.page c.if-disk-ne-DISK_LEN.true)
+abbrev buffer_in : PageLeft → List ℕ
+buffer_in x = x.buffer
 
-pub returns-then-buffer-ne-PAGE_LEN-clause-result_value : goal.returns-then-buffer-ne-PAGE_LEN-clause-result_value
-returns-then-buffer-ne-PAGE_LEN-clause-result_value c = let a = c.args in rw (page_no_buffer a.disk.now a.buffer.now a.page c.if-buffer-ne-PAGE_LEN.true)
-
-pub returns-then-buffer-ne-PAGE_LEN-clause-buffer_after : goal.returns-then-buffer-ne-PAGE_LEN-clause-buffer_after
-returns-then-buffer-ne-PAGE_LEN-clause-buffer_after c = let a = c.args in rw (page_no_buffer a.disk.now a.buffer.now a.page c.if-buffer-ne-PAGE_LEN.true)
-
-pub returns-then-page-ge-PAGES-clause-result_value : goal.returns-then-page-ge-PAGES-clause-result_value
-returns-then-page-ge-PAGES-clause-result_value c =
+pub returns-in_default : goal.returns-in_default
+returns-in_default c =
     let a = c.args in
-    rw (page_above a.disk.now a.buffer.now a.page c.if-disk-ne-DISK_LEN.false c.if-buffer-ne-PAGE_LEN.false c.if-page-ge-PAGES.true)
+    let e = page_no_disk a.disk.now a.buffer.now a.page c.in_default.ensures.cases in
+    record { result_value = sym (ap says_in e); buffer_after = sym (ap buffer_in e) }
 
-pub returns-then-page-ge-PAGES-clause-buffer_after : goal.returns-then-page-ge-PAGES-clause-buffer_after
-returns-then-page-ge-PAGES-clause-buffer_after c =
+pub returns-then-buffer-ne-PAGE_LEN : goal.returns-then-buffer-ne-PAGE_LEN
+returns-then-buffer-ne-PAGE_LEN c =
     let a = c.args in
-    rw (page_above a.disk.now a.buffer.now a.page c.if-disk-ne-DISK_LEN.false c.if-buffer-ne-PAGE_LEN.false c.if-page-ge-PAGES.true)
+    let e = page_no_buffer a.disk.now a.buffer.now a.page c.if-buffer-ne-PAGE_LEN.true in
+    record { result_value = sym (ap says_in e); buffer_after = sym (ap buffer_in e) }
 
--- ---- once the disk was looked at
-
-pub returns-then-number-ne0-clause-result_value : goal.returns-then-number-ne0-clause-result_value
-returns-then-number-ne0-clause-result_value c =
+pub returns-then-page-ge-PAGES : goal.returns-then-page-ge-PAGES
+returns-then-page-ge-PAGES c =
     let a = c.args in
-    let n = ap (λ (x : Examined). x.number) c.judge-seen.ensures.judged_as.found in
-    let p = page_refused a.disk.now a.buffer.now a.page c.if-disk-ne-DISK_LEN.false c.if-buffer-ne-PAGE_LEN.false c.if-page-ge-PAGES.false
-    (λ z. c.if-number-ne0.true (n ∙ z)) in
-    ap refused n ∙ sym (ap (λ (x : PageLeft). x.says) p)
+    let e = page_above a.disk.now a.buffer.now a.page c.in-Some.ensures.cases.long c.if-buffer-ne-PAGE_LEN.false c.if-page-ge-PAGES.true in
+    record { result_value = sym (ap says_in e); buffer_after = sym (ap buffer_in e) }
 
-pub returns-then-number-ne0-clause-buffer_after : goal.returns-then-number-ne0-clause-buffer_after
-returns-then-number-ne0-clause-buffer_after c =
-    let a = c.args in
-    let n = ap (λ (x : Examined). x.number) c.judge-seen.ensures.judged_as.found in
-    let p = page_refused a.disk.now a.buffer.now a.page c.if-disk-ne-DISK_LEN.false c.if-buffer-ne-PAGE_LEN.false c.if-page-ge-PAGES.false
-    (λ z. c.if-number-ne0.true (n ∙ z)) in
-    c.fill_zero.ensures ∙ ap (λ (k : ℕ). replicate k 0) c.if-buffer-ne-PAGE_LEN.false ∙ sym (ap (λ (x : PageLeft). x.buffer) p)
+-- ---- once the disk was looked at, as an array
 
-pub returns-clause-result_value : goal.returns-clause-result_value
-returns-clause-result_value c =
-    let a = c.args in
-    let n = ap (λ (x : Examined). x.number) c.judge-seen.ensures.judged_as.found in
-    rw (page_done a.disk.now a.buffer.now a.page c.if-disk-ne-DISK_LEN.false c.if-buffer-ne-PAGE_LEN.false c.if-page-ge-PAGES.false
-    (sym n ∙ c.if-number-ne0.false))
+at_disk : (disk array buffer : List ℕ) (page : ℕ) → array ≡ disk → {x : PageLeft} → page_of array buffer page ≡ x → x ≡ page_of disk buffer page
+at_disk disk array buffer page same e = sym e ∙ ap (λ (y : List ℕ). page_of y buffer page) same
 
-pub returns-clause-buffer_after : goal.returns-clause-buffer_after
-returns-clause-buffer_after c =
+pub returns-in-Err : goal.returns-in-Err
+returns-in-Err c =
     let a = c.args in
-    let n = ap (λ (x : Examined). x.number) c.judge-seen.ensures.judged_as.found in
-    let p = page_done a.disk.now a.buffer.now a.page c.if-disk-ne-DISK_LEN.false c.if-buffer-ne-PAGE_LEN.false c.if-page-ge-PAGES.false
-    (sym n ∙ c.if-number-ne0.false) in
-    c.copy.ensures
-    ∙ page_copied a.page c.judge-seen.new.memory a.buffer.now c.judge-seen.auto.memory c.if-page-ge-PAGES.false c.if-buffer-ne-PAGE_LEN.false
-    ∙ ap (page_in a.page) c.judge-seen.ensures.memory_after
-    ∙ sym (ap (λ (x : PageLeft). x.buffer) p)
+    let d = c.in-Some.ensures.cases in
+    let r = c.in-Err.refusal in
+    let n = ap (λ (x : Examined). x.number) c.in-Err.ensures.judged_as.found in
+    let e = at_disk a.disk.now c.in-Some.disk.now a.buffer.now a.page d.same
+    (page_refused c.in-Some.disk.now a.buffer.now a.page (ap length d.same ∙ d.long) c.if-buffer-ne-PAGE_LEN.false c.if-page-ge-PAGES.false
+    (λ z. eqb-false (number_of r) 0 (refused_some r) (n ∙ z))) in
+    record {
+      result_value = ap refused n ∙ ap says_in e;
+      buffer_after = c.fill_zero.ensures ∙ ap (λ (k : ℕ). replicate k 0) c.if-buffer-ne-PAGE_LEN.false ∙ ap buffer_in e;
+    }
+
+pub returns : goal.returns
+returns c =
+    let a = c.args in
+    let d = c.in-Some.ensures.cases in
+    let n = ap (λ (x : Examined). x.number) c.in_default-judge.ensures.judged_as.found in
+    let e = at_disk a.disk.now c.in-Some.disk.now a.buffer.now a.page d.same
+    (page_done c.in-Some.disk.now a.buffer.now a.page (ap length d.same ∙ d.long) c.if-buffer-ne-PAGE_LEN.false c.if-page-ge-PAGES.false (sym n)) in
+    record {
+      result_value = ap says_in e;
+      buffer_after = c.copy_from_slice.ensures.after ∙ page_lent a.page c.judge.new.memory ∙ ap (page_in a.page) c.judge.ensures.memory_after ∙ ap buffer_in e;
+    }
