@@ -6,11 +6,11 @@ use mathlib.Core.List.{List}
 use mathlib.Core.Path.{◌≡◌, refl, ap}
 use lib.ListN.{length}
 use lib.Dec.{eqb, ltb}
+use Rattle.std.specs.Prelude.{Option, Some, None}
+use Rattle.redolog.specs.declared.stop.Stop.{Stop}
 use Rattle.redolog.specs.declared.stop.Stop.TheVariants.{Full, Zero, Torn}
 use Rattle.store.specs.Answer.{Word, done, cut, refused, Told, tells}
 use Rattle.store.specs.Stored.{DiskOutcome, cut_short, made_whole, carried_out}
-use Rattle.disk.specs.declared.call.Stopped.{Stopped}
-use Rattle.disk.specs.declared.call.Stopped.TheVariants.{Untold, At}
 use Rattle.disk.specs.Layout.{lengths_ok}
 use Rattle.disk.specs.Examine.{examine_of}
 use Rattle.disk.specs.Restart.{restart_plan, refused_with, of_meaning, restart_of}
@@ -23,14 +23,14 @@ word_back cut = refl
 word_back (refused n) = refl
 
 -- nothing that a call tells is lost in a reply
-pub told_back : (t : Told) (stopped : Stopped) → of_reply (restart_reply t stopped) ≡ t
+pub told_back : (t : Told) (stopped : Option Stop) → of_reply (restart_reply t stopped) ≡ t
 told_back t stopped = ap (λ (w : Word). tells w t.value t.stores t.state) (word_back t.says)
 
-pub stop_back : (t : Told) (stopped : Stopped) → stopped_by (restart_reply t stopped).stop ≡ stopped
-stop_back t Untold = refl
-stop_back t (At Full) = refl
-stop_back t (At Zero) = refl
-stop_back t (At Torn) = refl
+pub stop_back : (t : Told) (stopped : Option Stop) → stopped_by (restart_reply t stopped).stop ≡ stopped
+stop_back t None = refl
+stop_back t (Some Full) = refl
+stop_back t (Some Zero) = refl
+stop_back t (Some Torn) = refl
 
 -- ---- restart's count of transactions undone fits its field
 

@@ -1,9 +1,9 @@
 -- A call's answer as numbers, for hosts in other languages.
-use Rattle.std.specs.Prelude.{ℕ, cond, eqb}
+use Rattle.std.specs.Prelude.{ℕ, cond, eqb, Option, Some, None, Result, Ok, Err}
+use Rattle.store.specs.declared.Failure.{Failure}
 use Rattle.store.specs.Answer.{Word, done, cut, refused, Told, tells}
+use Rattle.redolog.specs.declared.stop.Stop.{Stop}
 use Rattle.redolog.specs.declared.stop.Stop.TheVariants.{Full, Zero, Torn}
-use Rattle.disk.specs.declared.call.Stopped.{Stopped}
-use Rattle.disk.specs.declared.call.Stopped.TheVariants.{Untold, At}
 use Rattle.luppaneth.specs.declared.Reply.{Reply}
 
 -- which word: 0 done, 1 cut, 2 refused
@@ -18,15 +18,20 @@ number_of done = 0
 number_of cut = 0
 number_of (refused n) = n
 
+-- the value of a call that is done, else 0
+abbrev pub value_by : Result ℕ Failure → ℕ
+value_by (Ok n) = n
+value_by (Err f) = 0
+
 -- why the log ended: 0 untold, 1 full, 2 zero, 3 torn
-abbrev pub stop_number : Stopped → ℕ
-stop_number Untold = 0
-stop_number (At Full) = 1
-stop_number (At Zero) = 2
-stop_number (At Torn) = 3
+abbrev pub stop_number : Option Stop → ℕ
+stop_number None = 0
+stop_number (Some Full) = 1
+stop_number (Some Zero) = 2
+stop_number (Some Torn) = 3
 
 -- all that restart tells, each field of it
-abbrev pub restart_reply : Told → Stopped → Reply
+abbrev pub restart_reply : Told → Option Stop → Reply
 restart_reply t stopped =
     record {
       answer = answer_of t.says;
@@ -39,7 +44,7 @@ restart_reply t stopped =
 
 -- any other call tells no stop
 abbrev pub reply_of : Told → Reply
-reply_of t = restart_reply t Untold
+reply_of t = restart_reply t None
 
 -- ---- back: what a host reads in a reply. That it is what the call told: `told_back`, `stop_back` (proofs/Replies.antt)
 
@@ -49,5 +54,5 @@ word_of answer number = cond (eqb answer 0) done (cond (eqb answer 1) cut (refus
 abbrev pub of_reply : Reply → Told
 of_reply r = tells (word_of r.answer r.number) r.value r.stores r.state
 
-abbrev pub stopped_by : ℕ → Stopped
-stopped_by n = cond (eqb n 1) (At Full) (cond (eqb n 2) (At Zero) (cond (eqb n 3) (At Torn) Untold))
+abbrev pub stopped_by : ℕ → Option Stop
+stopped_by n = cond (eqb n 1) (Some Full) (cond (eqb n 2) (Some Zero) (cond (eqb n 3) (Some Torn) None))

@@ -7,7 +7,7 @@ ghost use Rattle.disk.specs.Equal.{equal_of};
 ghost use Rattle.listing.specs.Listing.{restart_whole, listing_of, Printed};
 ghost use Rattle.luppaneth.specs.Reply.{reply_of, restart_reply};
 
-use crate::{Reply, answered, stop_number};
+use crate::{Reply, stop_number};
 use disk::call::restart;
 use disk::equal::equal;
 use listing::{TEXT_LEN, list};
@@ -27,10 +27,7 @@ pub extern "C" fn luppaneth_flush(
     ensures memory_after { memory.new ≡ (flush_of state disk.old memory.old tail.old groups allowed).memory }
     ensures tail_after { tail.new ≡ (flush_of state disk.old memory.old tail.old groups allowed).tail }
 {
-    let r = state.flush(disk, memory, tail, groups, allowed);
-    let answer = r.answer;
-    let s = r.state;
-    answered(answer, 0, r.stores, s)
+    state.flush(disk, memory, tail, groups, allowed).into()
 }
 
 #[unsafe(no_mangle)]
@@ -46,10 +43,7 @@ pub extern "C" fn luppaneth_checkpoint(
     ensures memory_after { memory.new ≡ (checkpoint_of state disk.old memory.old tail.old allowed).memory }
     ensures tail_after { tail.new ≡ (checkpoint_of state disk.old memory.old tail.old allowed).tail }
 {
-    let r = state.checkpoint(disk, memory, tail, allowed);
-    let answer = r.answer;
-    let s = r.state;
-    answered(answer, 0, r.stores, s)
+    state.checkpoint(disk, memory, tail, allowed).into()
 }
 
 #[unsafe(no_mangle)]
@@ -65,12 +59,13 @@ pub extern "C" fn luppaneth_restart(
     ensures tail_after { tail.new ≡ (restart_of disk.old memory.old tail.old allowed).tail }
 {
     let r = restart(disk, memory, tail, allowed);
-    let answer = r.answer;
-    let stopped = r.stop;
-    let s = r.state;
-    let mut reply = answered(answer, r.undone as u32, r.stores, s);
-    reply.stop = stop_number(stopped);
-    reply
+    match r.result {
+        Ok(recovery) => Reply {
+            stop: stop_number(recovery.stop),
+            ..Reply::new(Ok(recovery.undone as u32), r.stores, r.state)
+        },
+        Err(failure) => Reply::new(Err(failure), r.stores, r.state),
+    }
 }
 
 #[unsafe(no_mangle)]

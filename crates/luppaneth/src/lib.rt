@@ -8,18 +8,20 @@ mod memory;
 mod sizes;
 mod version;
 
-ghost use Rattle.std.specs.Prelude.{◌≡◌};
+ghost use Rattle.std.specs.Prelude.{◌≡◌, Some};
 ghost use Rattle.store.specs.State.{unrecovered};
-ghost use Rattle.store.specs.Answer.{word, tells};
-ghost use Rattle.luppaneth.specs.Reply.{answer_of, number_of, reply_of, stop_number};
+ghost use Rattle.store.specs.Answer.{says_stored, tells, of_begun, of_precommitted, of_returned, of_stored};
+ghost use Rattle.luppaneth.specs.Reply.{reply_of, stop_number, value_by};
 
-use disk::call::Stopped;
 use redolog::stop::Stop;
-use store::{Answer, State};
+use redolog::{Csn, TxId};
+use store::call::Returned;
+use store::stored::Stored;
+use store::{Failure, State};
 
 // answer: 0 done, 1 cut, 2 refused. number: document 01's where refused, else 0. value: begin's id, precommit's commit number, restart's count
 // of transactions undone, else 0. stores: those made, where the call stores on the disk, else 0. stop: of a restart that is done why the log
-// ended, 1 full, 2 zero, 3 torn; else 0.
+// ended, 1 full, 2 zero, 3 torn; else 0. C reads them: numbers, and no enum, Option or Result.
 #[repr(C)]
 #[derive(Clone, Copy)]
 pub struct Reply {
@@ -31,40 +33,72 @@ pub struct Reply {
     pub state: State,
 }
 
-// An answer and its number.
-#[derive(Clone, Copy)]
-pub(crate) struct Pair(u8, u8);
+pub(crate) const DONE: u8 = 0;
 
-pub(crate) fn numbers(answer: Answer) -> Pair
-    ensures { result ≡ record { 0 = answer_of (word answer); 1 = number_of (word answer) } }
-{
-    match answer {
-        Answer::Done => Pair(0, 0),
-        Answer::Cut => Pair(1, 0),
-        Answer::Refused(n) => Pair(2, n),
+pub(crate) const CUT: u8 = 1;
+
+pub(crate) const REFUSED: u8 = 2;
+
+impl Reply {
+    // Of a call that gives a value if it is done.
+    pub(crate) fn new(told: Result<u32, Failure>, stores: usize, state: State) -> Self
+        ensures { result ≡ reply_of (tells (says_stored told) (value_by told) stores state) }
+    {
+        let (answer, number, value) = match told {
+            Ok(value) => (DONE, 0, value),
+            Err(Failure::Cut) => (CUT, 0, 0),
+            Err(Failure::Refused(refusal)) => (REFUSED, refusal.number(), 0),
+        };
+        Reply {
+            answer,
+            number,
+            stop: 0,
+            value,
+            stores,
+            state,
+        }
     }
 }
 
-pub(crate) fn answered(answer: Answer, value: u32, stores: usize, state: State) -> Reply
-    ensures { result ≡ reply_of (tells (word answer) value stores state) }
-{
-    let n = numbers(answer);
-    Reply {
-        answer: n.0,
-        number: n.1,
-        stop: 0,
-        value: value,
-        stores: stores,
-        state: state,
+// Each call's value has a type of its own: a trait for all three would have more lines than these.
+impl From<Returned<TxId>> for Reply {
+    ghost from_gives = { λ r reply. reply ≡ reply_of (of_begun r) };
+
+    fn from(r: Returned<TxId>) -> Reply {
+        let value = r.result.map(|id| u32::from(id.0));
+        Reply::new(value.map_err(Failure::Refused), 0, r.state)
     }
 }
 
-pub(crate) fn stop_number(stopped: Stopped) -> u8
-    ensures { result ≡ stop_number stopped }
+impl From<Returned<Csn>> for Reply {
+    ghost from_gives = { λ r reply. reply ≡ reply_of (of_precommitted r) };
+
+    fn from(r: Returned<Csn>) -> Reply {
+        let value = r.result.map(|csn| csn.0);
+        Reply::new(value.map_err(Failure::Refused), 0, r.state)
+    }
+}
+
+impl From<Returned<()>> for Reply {
+    ghost from_gives = { λ r reply. reply ≡ reply_of (of_returned r) };
+
+    fn from(r: Returned<()>) -> Reply {
+        let value = r.result.map(|()| 0);
+        Reply::new(value.map_err(Failure::Refused), 0, r.state)
+    }
+}
+
+impl From<Stored> for Reply {
+    ghost from_gives = { λ r reply. reply ≡ reply_of (of_stored r) };
+
+    fn from(r: Stored) -> Reply {
+        Reply::new(r.result.map(|()| 0), r.stores, r.state)
+    }
+}
+
+pub(crate) fn stop_number(stop: Stop) -> u8
+    ensures { result ≡ stop_number (Some stop) }
 {
-    let Stopped::At(stop) = stopped else {
-        return 0;
-    };
     match stop {
         Stop::Full => 1,
         Stop::Zero => 2,

@@ -3,7 +3,7 @@ ghost use Rattle.std.specs.Prelude.{◌≡◌, length};
 ghost use Rattle.store.specs.Calls.{begin_of, write_of, read_of, read_answer_of, savepoint_of, go_back_of, precommit_of, abort_of, settle_of};
 ghost use Rattle.luppaneth.specs.Reply.{reply_of};
 
-use crate::{Reply, answered};
+use crate::Reply;
 use redolog::TxId;
 use store::State;
 
@@ -11,10 +11,7 @@ use store::State;
 pub extern "C" fn luppaneth_begin(state: State, memory: &[u8], tail: &[u8]) -> Reply
     ensures { result ≡ reply_of (begin_of state memory.now tail.now) }
 {
-    let r = state.begin(memory, tail);
-    let answer = r.answer;
-    let s = r.state;
-    answered(answer, r.id.0 as u32, 0, s)
+    state.begin(memory, tail).into()
 }
 
 #[unsafe(no_mangle)]
@@ -29,10 +26,7 @@ pub extern "C" fn luppaneth_write(
     ensures value { result ≡ reply_of (write_of state memory.old tail.now (record { 0 = id }) addr bytes.now).result }
     ensures memory_after { memory.new ≡ (write_of state memory.old tail.now (record { 0 = id }) addr bytes.now).memory }
 {
-    let r = state.write(memory, tail, TxId(id), addr, bytes);
-    let answer = r.answer;
-    let s = r.state;
-    answered(answer, 0, 0, s)
+    state.write(memory, tail, TxId(id), addr, bytes).into()
 }
 
 // The length of the part that is read: the part is memory[addr..addr + that]. 0 if refused.
@@ -47,8 +41,7 @@ pub extern "C" fn luppaneth_read(
 ) -> usize
     ensures { result ≡ length (read_of state memory.now tail.now (record { 0 = id }) addr len) }
 {
-    let part = state.read(memory, tail, TxId(id), addr, len);
-    part.len()
+    state.read(memory, tail, TxId(id), addr, len).len()
 }
 
 #[unsafe(no_mangle)]
@@ -62,10 +55,7 @@ pub extern "C" fn luppaneth_read_answer(
 ) -> Reply
     ensures { result ≡ reply_of (read_answer_of state memory.now tail.now (record { 0 = id }) addr len) }
 {
-    let r = state.read_answer(memory, tail, TxId(id), addr, len);
-    let answer = r.answer;
-    let s = r.state;
-    answered(answer, 0, 0, s)
+    state.read_answer(memory, tail, TxId(id), addr, len).into()
 }
 
 #[unsafe(no_mangle)]
@@ -78,10 +68,7 @@ pub extern "C" fn luppaneth_savepoint(
 ) -> Reply
     ensures { result ≡ reply_of (savepoint_of state memory.now tail.now (record { 0 = id }) name) }
 {
-    let r = state.savepoint(memory, tail, TxId(id), name);
-    let answer = r.answer;
-    let s = r.state;
-    answered(answer, 0, 0, s)
+    state.savepoint(memory, tail, TxId(id), name).into()
 }
 
 #[unsafe(no_mangle)]
@@ -95,10 +82,7 @@ pub extern "C" fn luppaneth_go_back(
     ensures value { result ≡ reply_of (go_back_of state memory.old tail.now (record { 0 = id }) name).result }
     ensures memory_after { memory.new ≡ (go_back_of state memory.old tail.now (record { 0 = id }) name).memory }
 {
-    let r = state.go_back(memory, tail, TxId(id), name);
-    let answer = r.answer;
-    let s = r.state;
-    answered(answer, 0, 0, s)
+    state.go_back(memory, tail, TxId(id), name).into()
 }
 
 #[unsafe(no_mangle)]
@@ -111,10 +95,7 @@ pub extern "C" fn luppaneth_precommit(
     ensures value { result ≡ reply_of (precommit_of state memory.now tail.old (record { 0 = id })).result }
     ensures tail_after { tail.new ≡ (precommit_of state memory.now tail.old (record { 0 = id })).tail }
 {
-    let r = state.precommit(memory, tail, TxId(id));
-    let answer = r.answer;
-    let s = r.state;
-    answered(answer, r.csn.0, 0, s)
+    state.precommit(memory, tail, TxId(id)).into()
 }
 
 #[unsafe(no_mangle)]
@@ -128,18 +109,12 @@ pub extern "C" fn luppaneth_abort(
     ensures memory_after { memory.new ≡ (abort_of state memory.old tail.old (record { 0 = id })).memory }
     ensures tail_after { tail.new ≡ (abort_of state memory.old tail.old (record { 0 = id })).tail }
 {
-    let r = state.abort(memory, tail, TxId(id));
-    let answer = r.answer;
-    let s = r.state;
-    answered(answer, 0, 0, s)
+    state.abort(memory, tail, TxId(id)).into()
 }
 
 #[unsafe(no_mangle)]
 pub extern "C" fn luppaneth_settle(state: State, memory: &[u8], tail: &[u8], id: u16) -> Reply
     ensures { result ≡ reply_of (settle_of state memory.now tail.now (record { 0 = id })) }
 {
-    let r = state.settle(memory, tail, TxId(id));
-    let answer = r.answer;
-    let s = r.state;
-    answered(answer, 0, 0, s)
+    state.settle(memory, tail, TxId(id)).into()
 }
