@@ -1,68 +1,65 @@
 // What the story is told with: plain text on standard output.
+use layout::refusal::Refusal;
 use layout::{DISK_LEN, MEMORY_LEN};
 use listing::{TEXT_LEN, list};
-use std::io;
 use std::io::Write;
-use store::Answer;
+use std::{fmt, io};
+use store::Failure;
 
-pub(crate) fn text<W: Write>(to: &mut W, s: &[u8]) -> io::Result<()> {
-    to.write_all(s)
-}
+// The three places that a booking writes.
+pub(crate) const PANE: usize = 100;
 
-pub(crate) fn number<W: Write>(to: &mut W, n: usize) -> io::Result<()> {
-    write!(to, "{n}")
-}
+pub(crate) const LEAD: usize = 200;
 
-// The call's name and what it answered.
-pub(crate) fn call<W: Write>(to: &mut W, name: &[u8], answer: Answer) -> io::Result<()> {
-    text(to, b"  ")?;
-    text(to, name)?;
-    text(to, b": ")?;
-    match answer {
-        Answer::Done => text(to, b"done"),
-        Answer::Cut => text(to, b"cut"),
-        Answer::Refused(n) => {
-            text(to, b"refused by number ")?;
-            number(to, n as usize)
+pub(crate) const COLOUR: usize = 300;
+
+// What a call answered.
+#[derive(Clone, Copy)]
+pub(crate) struct Told<T, E>(pub(crate) Result<T, E>);
+
+impl<T> fmt::Display for Told<T, Refusal> {
+    fn fmt<W: fmt::Write>(&self, f: &mut fmt::Formatter<W>) -> fmt::Result {
+        match self.0 {
+            Ok(_) => f.write_str("done"),
+            Err(refusal) => write!(f, "refused by number {}", refusal.number()),
         }
     }
 }
 
-// A byte of memory; a dot for 0.
-fn shown<W: Write>(to: &mut W, b: u8) -> io::Result<()> {
-    if b == 0 {
-        return text(to, b".");
+impl<T> fmt::Display for Told<T, Failure> {
+    fn fmt<W: fmt::Write>(&self, f: &mut fmt::Formatter<W>) -> fmt::Result {
+        match self.0 {
+            Ok(_) => f.write_str("done"),
+            Err(Failure::Cut) => f.write_str("cut"),
+            Err(Failure::Refused(refusal)) => {
+                write!(f, "refused by number {}", refusal.number())
+            }
+        }
     }
-    text(to, &[b; 1])
 }
 
-fn all_shown<W: Write>(to: &mut W, s: &[u8]) -> io::Result<()> {
-    for b in s {
-        shown(to, *b)?;
+// The bytes at a place of memory; a dot for 0.
+fn place<W: Write>(to: &mut W, addr: usize, bytes: &[u8]) -> io::Result<()> {
+    write!(to, "    at {addr}: ")?;
+    for b in bytes {
+        let shown = if *b == 0 { b'.' } else { *b };
+        to.write_all(&[shown])?;
     }
-    Ok(())
+    writeln!(to)
 }
 
-fn place<W: Write>(to: &mut W, addr: usize, s: &[u8]) -> io::Result<()> {
-    text(to, b"    at ")?;
-    number(to, addr)?;
-    text(to, b": ")?;
-    all_shown(to, s)?;
-    text(to, b"\n")
-}
-
-// The three places that the bookings write.
+// The bytes at these places.
 pub(crate) fn memory_places<W: Write>(to: &mut W, memory: &[u8; MEMORY_LEN]) -> io::Result<()> {
-    text(to, b"  memory:\n")?;
+    writeln!(to, "  memory:")?;
     let m = &memory[..];
-    place(to, 100, &m[100..106])?;
-    place(to, 200, &m[200..210])?;
-    place(to, 300, &m[300..304])
+    place(to, PANE, &m[PANE..PANE + 6])?;
+    place(to, LEAD, &m[LEAD..LEAD + 10])?;
+    place(to, COLOUR, &m[COLOUR..COLOUR + 4])
 }
 
 // disklist's lines, of a copy of the disk.
 pub(crate) fn listing<W: Write>(to: &mut W, mut disk: [u8; DISK_LEN]) -> io::Result<()> {
     let mut out = [0u8; TEXT_LEN];
     let n = list(&mut disk, &mut out);
-    text(to, &out[..n])
+    to.write_all(&out[..n])
 }

@@ -8,7 +8,7 @@ use std::io::{Read, Write};
 // Fills the buffer from the front as far as the input goes, and says how far. A read that fails counts as the input's end.
 fn read_full<R: Read>(from: &mut R, buffer: &mut [u8]) -> usize {
     let mut there = 0usize;
-    for turn in 0..buffer.len() {
+    for _ in 0..buffer.len() {
         match from.read(&mut buffer[there..]) {
             Ok(0) => break,
             Ok(n) => there += n,

@@ -4,8 +4,8 @@ use native.Mathlib.Omega.{arith}
 use mathlib.Core.Bool.{Bool, true, false, cond}
 use mathlib.Core.List.{List}
 use mathlib.Core.Path.{◌≡◌, refl, ap, ap₂, ◌∙◌}
-use lib.ListN.{length, get_or, set, replicate}
-use lib.Seq.{sets}
+use lib.ListN.{length, get_or, set, take, replicate}
+use lib.Seq.{sets, length-take-le}
 use lib.Dec.{eqb}
 use borrow.Author.Tests.{eq-eqb, ne_eqb}
 use Rattle.redolog.specs.Number.{be16}
@@ -52,3 +52,7 @@ ids_length b = go (eqb (length b) 64)
     go : (c : Bool) → length (cond c (ids_from b 20 24) (replicate 20 0)) ≡ 20
     go true = refl
     go false = refl
+
+-- so as many as are counted can be taken
+pub ids_taken : (b : List ℕ) → length (take (ids_count b) (ids_of b)) ≡ ids_count b
+ids_taken b = length-take-le (ids_count b) (ids_of b) (omega (arith, count_few b, ids_length b))

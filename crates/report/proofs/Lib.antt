@@ -1,4 +1,4 @@
--- Laws of Adler-32 (Adler), and of a record's parts (Parts) and ids (Ids).
+-- Laws of Adler-32 (Adler), of the ids of a record (Ids), and of sums over the transactions listed (Counts).
 pub mod Adler
-pub mod Parts
 pub mod Ids
+pub mod Counts

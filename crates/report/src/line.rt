@@ -1,60 +1,103 @@
 // The line that a call prints.
-ghost use Rattle.std.specs.Prelude.{◌≡◌, ◌≤◌};
+ghost use Rattle.std.specs.Prelude.{◌≡◌, ◌≤◌, length, take, Some, None};
+ghost use Rattle.std.specs.Fn.{FnReturnsAt};
+ghost use Rattle.layout.specs.Refusal.{number_of};
+ghost use Rattle.report.specs.declared.line.Verdict.TheVariants.{Done, Refused};
 ghost use Rattle.report.specs.Adler.{adler_of};
-ghost use Rattle.report.specs.Report.{stored_of, restarted_of, read_of, count_in, counted_in, compared_of};
+ghost use Rattle.report.specs.Report.{answered, judged, stored_of, restarted_of, begun_of, precommitted_of, returned_of, recovered_of, read_of, savepoints_in, reads_in, counted_in, Counts, compared_of, verdict_text};
 
-use disk::call::Stopped;
-use layout::MAX_TXS;
+use crate::call::Call;
+use disk::call::Restarted;
+use layout::refusal::Refusal;
 use redolog::stop::Stop;
-use std::io;
+use redolog::{Csn, TxId};
 use std::io::Write;
-use store::{Answer, State};
+use std::{fmt, io};
+use store::call::Returned;
+use store::stored::Stored;
+use store::{Failure, State};
 use transaction::Tx;
 
 // A line's second field: a call's answer, the length of read's part, or whether two disks are equal in meaning.
 #[derive(Clone, Copy)]
 pub enum Verdict {
-    Answered(Answer),
+    Done,
+    Cut,
+    // Any number, whether the list of refusals has it or not.
+    Refused(u8),
     Part(usize),
     Equal(bool),
 }
-
-// The call whose line has a ninth field.
-const RESTART: u8 = 10;
 
 #[derive(Clone, Copy)]
 pub struct Report {
     pub verdict: Verdict,
     pub value: usize,
     pub stores: usize,
-    pub stop: Stopped,
+    pub stop: Option<Stop>,
     pub state: State,
+}
+
+impl<T: Drop> From<Result<T, Failure>> for Verdict {
+    ghost from_gives = { λ x v. v ≡ answered x };
+
+    fn from(x: Result<T, Failure>) -> Verdict {
+        match x {
+            Ok(_) => Verdict::Done,
+            Err(Failure::Cut) => Verdict::Cut,
+            Err(Failure::Refused(refusal)) => Verdict::Refused(refusal.number()),
+        }
+    }
+}
+
+impl<T: Drop> From<Result<T, Refusal>> for Verdict {
+    ghost from_gives = { λ x v. v ≡ judged x };
+
+    fn from(x: Result<T, Refusal>) -> Verdict {
+        match x {
+            Ok(_) => Verdict::Done,
+            Err(refusal) => Verdict::Refused(refusal.number()),
+        }
+    }
 }
 
 impl Report {
     pub fn restarted(
-        answer: Answer,
+        verdict: Verdict,
         value: usize,
         stores: usize,
-        stop: Stopped,
+        stop: Option<Stop>,
         state: State,
     ) -> Self
-        ensures { result ≡ restarted_of answer value stores stop state }
+        ensures { result ≡ restarted_of verdict value stores stop state }
     {
         Report {
-            verdict: Verdict::Answered(answer),
-            value: value,
-            stores: stores,
-            stop: stop,
-            state: state,
+            verdict,
+            value,
+            stores,
+            stop,
+            state,
         }
     }
 
     // Any call but restart.
-    pub fn stored(answer: Answer, value: usize, stores: usize, state: State) -> Self
-        ensures { result ≡ stored_of answer value stores state }
+    pub fn stored(verdict: Verdict, value: usize, stores: usize, state: State) -> Self
+        ensures { result ≡ stored_of verdict value stores state }
     {
-        Report::restarted(answer, value, stores, Stopped::Untold, state)
+        Report::restarted(verdict, value, stores, None, state)
+    }
+
+    // A call of the stream's own, which is always done.
+    pub fn done(state: State) -> Self
+        ensures { result ≡ stored_of Done 0 0 state }
+    {
+        Report::stored(Verdict::Done, 0, 0, state)
+    }
+
+    pub fn refused(refusal: Refusal, state: State) -> Self
+        ensures { result ≡ stored_of (Refused (number_of refusal)) 0 0 state }
+    {
+        Report::stored(Verdict::Refused(refusal.number()), 0, 0, state)
     }
 
     pub fn read(part: &[u8], state: State) -> Self
@@ -64,8 +107,8 @@ impl Report {
             verdict: Verdict::Part(part.len()),
             value: adler(part) as usize,
             stores: 0,
-            stop: Stopped::Untold,
-            state: state,
+            stop: None,
+            state,
         }
     }
 
@@ -76,139 +119,168 @@ impl Report {
             verdict: Verdict::Equal(equal),
             value: 0,
             stores: 0,
-            stop: Stopped::Untold,
-            state: state,
+            stop: None,
+            state,
         }
     }
 }
 
-fn byte(x: u8) -> u32
-    ensures { result ≡ x }
-{
-    x as u32
+// Each call's value has a type of its own: a trait for all three would have more lines than these.
+impl From<Returned<TxId>> for Report {
+    ghost from_gives = { λ x r. r ≡ begun_of x };
+
+    fn from(x: Returned<TxId>) -> Report {
+        match x.result {
+            Ok(id) => Report::stored(Verdict::Done, usize::from(id.0), 0, x.state),
+            Err(refusal) => Report::refused(refusal, x.state),
+        }
+    }
+}
+
+impl From<Returned<Csn>> for Report {
+    ghost from_gives = { λ x r. r ≡ precommitted_of x };
+
+    fn from(x: Returned<Csn>) -> Report {
+        match x.result {
+            Ok(csn) => Report::stored(Verdict::Done, csn.0 as usize, 0, x.state),
+            Err(refusal) => Report::refused(refusal, x.state),
+        }
+    }
+}
+
+impl From<Returned<()>> for Report {
+    ghost from_gives = { λ x r. r ≡ returned_of x };
+
+    fn from(x: Returned<()>) -> Report {
+        match x.result {
+            Ok(()) => Report::done(x.state),
+            Err(refusal) => Report::refused(refusal, x.state),
+        }
+    }
+}
+
+impl From<Stored> for Report {
+    ghost from_gives = { λ x r. r ≡ stored_of (answered x.result) 0 x.stores x.state };
+
+    fn from(x: Stored) -> Report {
+        Report::stored(x.result.into(), 0, x.stores, x.state)
+    }
+}
+
+impl From<Restarted> for Report {
+    ghost from_gives = { λ x r. r ≡ recovered_of x };
+
+    fn from(x: Restarted) -> Report {
+        match x.result {
+            Ok(found) => Report::restarted(
+                Verdict::Done,
+                found.undone,
+                x.stores,
+                Some(found.stop),
+                x.state,
+            ),
+            Err(_) => Report::stored(x.result.into(), 0, x.stores, x.state),
+        }
+    }
 }
 
 // Adler-32 (RFC 1950).
+#[tactic(auto, using(crate::proofs::Adler::sums_more, crate::proofs::Adler::sums_done), unfolding(crate::specs::Adler::adler_of))]
 pub fn adler(s: &[u8]) -> u32
     ensures { result ≡ adler_of s.now }
 {
     let mut a: u32 = 1;
     let mut b: u32 = 0;
-    let mut i: usize = 0;
-    while i < s.len() {
-        a = (a + byte(s[i])) % 65521;
+    for x in s {
+        a = (a + u32::from(*x)) % 65521;
         b = (b + a) % 65521;
-        i += 1;
     }
     b * 65536 + a
 }
 
-fn text<W: Write>(to: &mut W, s: &[u8]) -> io::Result<()> {
-    to.write_all(s)
-}
+impl fmt::Display for Verdict {
+    ghost output = { λ v. Some (verdict_text v) };
 
-fn number<W: Write>(to: &mut W, n: usize) -> io::Result<()> {
-    write!(to, "{n}")
-}
-
-fn blank_number<W: Write>(to: &mut W, n: usize) -> io::Result<()> {
-    text(to, b" ")?;
-    number(to, n)
-}
-
-fn comma_number<W: Write>(to: &mut W, n: usize) -> io::Result<()> {
-    text(to, b",")?;
-    number(to, n)
-}
-
-pub fn print_unknown<W: Write>(to: &mut W) -> io::Result<()> {
-    text(to, b"unknown\n")
-}
-
-fn print_answer<W: Write>(to: &mut W, answer: Answer) -> io::Result<()> {
-    match answer {
-        Answer::Done => text(to, b" done"),
-        Answer::Cut => text(to, b" cut"),
-        Answer::Refused(n) => {
-            text(to, b" refused=")?;
-            number(to, n as usize)
+    fn fmt<W: fmt::Write>(&self, f: &mut fmt::Formatter<W>) -> fmt::Result {
+        match self {
+            Verdict::Done => f.write_str("done"),
+            Verdict::Cut => f.write_str("cut"),
+            Verdict::Refused(number) => write!(f, "refused={number}"),
+            Verdict::Part(length) => write!(f, "part={length}"),
+            Verdict::Equal(true) => f.write_str("yes"),
+            Verdict::Equal(false) => f.write_str("no"),
         }
     }
 }
 
-fn print_verdict<W: Write>(to: &mut W, verdict: Verdict) -> io::Result<()> {
-    match verdict {
-        Verdict::Answered(answer) => print_answer(to, answer),
-        Verdict::Part(length) => {
-            text(to, b" part=")?;
-            number(to, length)
-        }
-        Verdict::Equal(true) => text(to, b" yes"),
-        Verdict::Equal(false) => text(to, b" no"),
-    }
-}
-
-// What is counted of a transaction: its savepoints, or the ranges that it has read.
-const SAVEPOINTS: bool = true;
-
-const READS: bool = false;
-
-// How many savepoints a transaction has, or how many ranges it has read.
-fn count_of(t: Tx, savepoints: bool) -> usize
-    ensures value { result ≡ count_in savepoints t }
-    ensures upper_bound { result ≤ 255 }
+// The transactions listed.
+fn listed(s: &State) -> &[Tx]
+    ensures value { result.now ≡ take s.now.count s.now.txs }
+    ensures few { length result.now ≤ 255 }
 {
-    if savepoints {
-        return t.extras.savepoints.count as usize;
-    }
-    t.extras.reads.count as usize
+    let txs = &s.txs[..];
+    let count = usize::from(s.count).min(txs.len());
+    &txs[..count]
 }
 
-// The same of the transactions listed, together.
-fn counted(s: State, savepoints: bool) -> usize
-    ensures { result ≡ counted_in savepoints s }
+// What is counted of each of them, together.
+fn counted<F: Fn(&Tx) -> u8>(s: &State, count: F) -> usize
+    requires { F.IsAlwaysCallable count }
+    ensures { Counts (FnReturnsAt F.Fn count) s.now result }
 {
-    let n = s.count as usize;
-    let mut sum: usize = 0;
-    let mut i: usize = 0;
-    while i < n {
-        if i < MAX_TXS {
-            let t = s.txs[i];
-            sum = sum + count_of(t, savepoints);
-        }
-        i += 1;
+    let txs = listed(s);
+    let mut sum = 0;
+    for t in txs {
+        sum += usize::from(count(t));
     }
     sum
 }
 
+// How many savepoints they have together.
+fn savepoints(s: &State) -> usize
+    ensures { result ≡ counted_in savepoints_in s.now }
+{
+    counted(s, |t| t.extras.savepoints.count)
+}
+
+// How many ranges they have read together.
+fn reads(s: &State) -> usize
+    ensures { result ≡ counted_in reads_in s.now }
+{
+    counted(s, |t| t.extras.reads.count)
+}
+
 // Recovered, log end, number on disk, number assigned, last id, transactions listed, ranges that they have read, savepoints.
-fn print_state<W: Write>(to: &mut W, s: State) -> io::Result<()> {
-    if s.recovered {
-        text(to, b" 1")?;
-    } else {
-        text(to, b" 0")?;
-    }
-    comma_number(to, s.logend as usize)?;
-    comma_number(to, s.ondisk.0 as usize)?;
-    comma_number(to, s.assigned.0 as usize)?;
-    comma_number(to, s.lastid.0 as usize)?;
-    comma_number(to, s.count as usize)?;
-    comma_number(to, counted(s, READS))?;
-    comma_number(to, counted(s, SAVEPOINTS))
+fn print_state<W: Write>(to: &mut W, s: &State) -> io::Result<()> {
+    write!(
+        to,
+        " {},{},{},{},{},{},{},{}",
+        u8::from(s.recovered),
+        s.logend,
+        s.ondisk.0,
+        s.assigned.0,
+        s.lastid.0,
+        s.count,
+        reads(s),
+        savepoints(s)
+    )
 }
 
 // Restart's ninth field.
-fn print_stop<W: Write>(to: &mut W, stopped: Stopped) -> io::Result<()> {
-    let Stopped::At(stop) = stopped else {
-        return text(to, b" -");
-    };
+fn stop_word(stop: Option<Stop>) -> &'static str {
     match stop {
-        Stop::Full => text(to, b" full"),
-        Stop::Zero => text(to, b" zero"),
-        Stop::Torn => text(to, b" torn"),
+        None => "-",
+        Some(Stop::Full) => "full",
+        Some(Stop::Zero) => "zero",
+        Some(Stop::Torn) => "torn",
     }
 }
 
+pub fn print_unknown<W: Write>(to: &mut W) -> io::Result<()> {
+    writeln!(to, "unknown")
+}
+
+// Of any byte, as before: that it is a call is asked where the ninth field is.
 pub fn print_line<W: Write>(
     to: &mut W,
     call: u8,
@@ -217,16 +289,19 @@ pub fn print_line<W: Write>(
     memory: &[u8],
     tail: &[u8],
 ) -> io::Result<()> {
-    number(to, call as usize)?;
-    print_verdict(to, out.verdict)?;
-    blank_number(to, out.value)?;
-    blank_number(to, out.stores)?;
-    blank_number(to, adler(disk) as usize)?;
-    blank_number(to, adler(memory) as usize)?;
-    blank_number(to, adler(tail) as usize)?;
-    print_state(to, out.state)?;
-    if call == RESTART {
-        print_stop(to, out.stop)?;
+    write!(
+        to,
+        "{call} {} {} {} {} {} {}",
+        out.verdict,
+        out.value,
+        out.stores,
+        adler(disk),
+        adler(memory),
+        adler(tail)
+    )?;
+    print_state(to, &out.state)?;
+    if Call::try_from(call) == Ok(Call::Restart) {
+        write!(to, " {}", stop_word(out.stop))?;
     }
-    text(to, b"\n")
+    writeln!(to)
 }

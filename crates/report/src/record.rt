@@ -4,8 +4,18 @@ ghost use Rattle.report.specs.Record.{record_of, data_of, ids_count, ids_of};
 
 use redolog::TxId;
 use redolog::number::{be16, be32};
-use redolog::stores::least;
 
+pub const RECORD_LEN: usize = 64;
+
+// Where a record's data stands, and how many bytes it has room for.
+const DATA: usize = 24;
+
+const MAX_DATA: usize = 40;
+
+// The most ids of a record, two bytes each: as many as the data has room for.
+pub const IDS: usize = 20;
+
+// The call is a byte, since not every byte is a call (`Call::try_from`).
 #[derive(Clone, Copy)]
 pub struct Record {
     pub call: u8,
@@ -17,11 +27,12 @@ pub struct Record {
     pub allowed: usize,
 }
 
-// All zero, which is no call, where the bytes are not 64.
+// All zero, which is no call, where the bytes are not 64: no `Option`, since `record_of` tells a record of any bytes.
+#[tactic(auto, unfolding(crate::specs::Record::record_of))]
 pub fn read_record(b: &[u8]) -> Record
     ensures { result ≡ record_of b.now }
 {
-    if b.len() != 64 {
+    if b.len() != RECORD_LEN {
         return Record {
             call: 0,
             name: 0,
@@ -44,51 +55,39 @@ pub fn read_record(b: &[u8]) -> Record
 }
 
 // The data bytes; a count above 40 counts as 40.
+#[tactic(auto, unfolding(crate::specs::Record::data_of))]
 pub fn data_of(b: &[u8]) -> &[u8]
     ensures { result.now ≡ data_of b.now }
 {
-    if b.len() != 64 {
-        return &b[0..0];
+    if b.len() != RECORD_LEN {
+        return &b[..0];
     }
-    let n = b[1];
-    if 40 < n {
-        return &b[24..64];
-    }
-    let end = 24 + wide(n);
-    &b[24..end]
+    let count = usize::from(b[1]).min(MAX_DATA);
+    &b[DATA..DATA + count]
 }
 
-// The most ids of a record of call 19, two bytes each: as many as the data has room for.
-pub const IDS: usize = 20;
-
-// How many of them: a count above 20 counts as 20.
+// How many ids the record has: a count above 20 counts as 20.
+#[tactic(auto, unfolding(crate::specs::Record::ids_count))]
 pub fn ids_count(b: &[u8]) -> usize
     ensures { result ≡ ids_count b.now }
 {
-    if b.len() != 64 {
+    if b.len() != RECORD_LEN {
         return 0;
     }
-    least(wide(b[1]), IDS)
+    usize::from(b[1]).min(IDS)
 }
 
 // All that the data has room for. Zeros, where the bytes are not 64.
+#[tactic(auto, using(crate::proofs::Ids::ids_none, crate::proofs::Ids::ids_is, crate::proofs::Ids::laid_end))]
 pub fn ids_of(b: &[u8]) -> [u16; IDS]
     ensures { result ≡ ids_of b.now }
 {
-    if b.len() != 64 {
-        return [0; IDS];
-    }
     let mut ids = [0u16; IDS];
-    let mut i: usize = 0;
-    while i < IDS {
-        ids[i] = be16(b, 24 + 2 * i);
-        i += 1;
+    if b.len() != RECORD_LEN {
+        return ids;
+    }
+    for i in 0..IDS {
+        ids[i] = be16(b, DATA + 2 * i);
     }
     ids
-}
-
-fn wide(x: u8) -> usize
-    ensures { result ≡ x }
-{
-    x as usize
 }

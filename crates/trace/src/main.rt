@@ -10,258 +10,142 @@ use inspect::groups::first_groups;
 use inspect::outcomes::outcomes;
 use inspect::page::read_page;
 use layout::{DISK_LEN, MEMORY_LEN, PAGE_LEN, TAIL_LEN};
-use redolog::stores::{copy, fill, least};
-use report::line::{Report, adler, print_line, print_unknown};
-use report::record::{IDS, Record, data_of, ids_count, ids_of, read_record};
+use redolog::stores::copy;
+use report::call::Call;
+use report::line::{Report, Verdict, adler, print_line, print_unknown};
+use report::record::{IDS, RECORD_LEN, Record, data_of, ids_count, ids_of, read_record};
 use std::io;
 use std::io::{Read, Write};
-use store::{Answer, State};
+use store::State;
+
+// What the stream fills a buffer with before a call looks at it.
+const FILLED: u8 = 165;
 
 // Stores the bytes of src from an offset on, those that lie within dst: `sets` leaves out what is past the end.
+#[tactic(auto, using(crate::proofs::PastEnd::sets_out, crate::proofs::PastEnd::sets_room))]
 fn lay(dst: &mut [u8], at: usize, src: &[u8])
     ensures { dst.new ≡ sets dst.old at src.now }
 {
     if dst.len() <= at {
         return;
     }
-    let room = dst.len() - at;
-    if room < src.len() {
-        copy(dst, at, &src[..room]);
-        return;
-    }
-    copy(dst, at, src);
+    let room = src.len().min(dst.len() - at);
+    copy(dst, at, &src[..room]);
 }
 
-// The calls that store on the disk.
-fn disk_call(r: Record, s: State, disk: &mut [u8], memory: &mut [u8], tail: &mut [u8]) -> Report {
-    if r.call == 7 {
-        let x = s.flush(disk, memory, tail, r.groups, r.allowed);
-        let answer = x.answer;
-        let state = x.state;
-        return Report::stored(answer, 0, x.stores, state);
-    }
-    if r.call == 9 {
-        let x = s.checkpoint(disk, memory, tail, r.allowed);
-        let answer = x.answer;
-        let state = x.state;
-        return Report::stored(answer, 0, x.stores, state);
-    }
-    let x = restart(disk, memory, tail, r.allowed);
-    let answer = x.answer;
-    let stop = x.stop;
-    let state = x.state;
-    Report::restarted(answer, x.undone, x.stores, stop, state)
+// What the calls of a stream work on, and the copy of the disk that the stream keeps.
+#[derive(Drop)]
+struct Store {
+    disk: [u8; DISK_LEN],
+    kept: [u8; DISK_LEN],
+    memory: [u8; MEMORY_LEN],
+    tail: [u8; TAIL_LEN],
+    state: State,
 }
 
-// What befalls the store between calls, and whether its disk means what the kept one does.
-fn stream_call(
-    r: Record,
-    data: &[u8],
-    s: State,
-    disk: &mut [u8],
-    kept: &mut [u8],
-    memory: &mut [u8],
-    tail: &mut [u8],
-) -> Report {
-    if r.call == 11 {
-        fill(memory, 165);
-        fill(tail, 165);
-        let none = State::unrecovered();
-        return Report::stored(Answer::Done, 0, 0, none);
+impl Store {
+    // The current fails between two calls.
+    fn power_fails(&mut self) -> Report {
+        self.memory = [FILLED; MEMORY_LEN];
+        self.tail = [FILLED; TAIL_LEN];
+        Report::done(State::unrecovered())
     }
-    if r.call == 12 {
-        lay(disk, r.addr, data);
-        return Report::stored(Answer::Done, 0, 0, s);
-    }
-    if r.call == 13 {
-        lay(kept, 0, &*disk);
-        return Report::stored(Answer::Done, 0, 0, s);
-    }
-    Report::compared(equal(&*disk, &*kept), s)
-}
 
-// The first groups; value and stores are the end and the number reached.
-fn groups_call(r: Record, s: State, disk: &[u8], seen: &mut [u8]) -> Report {
-    let x = first_groups(disk, seen, r.groups);
-    let answer = x.answer;
-    Report::stored(answer, x.end, x.csn.0 as usize, s)
-}
+    // The first groups; value and stores are the end and the number reached. The line's memory is the buffer lent.
+    fn first_groups<W: Write>(&self, to: &mut W, r: Record) -> io::Result<()> {
+        let mut seen = [FILLED; MEMORY_LEN];
+        let out = match first_groups(&self.disk, &mut seen, r.groups) {
+            Ok(x) => Report::stored(Verdict::Done, x.end, x.csn.0 as usize, self.state),
+            Err(refusal) => Report::refused(refusal, self.state),
+        };
+        print_line(to, r.call, out, &self.disk, &seen, &self.tail)
+    }
 
-fn page_call(r: Record, s: State, disk: &[u8], seen: &mut [u8]) -> Report {
-    let answer = read_page(disk, seen, r.addr);
-    Report::stored(answer, 0, 0, s)
-}
+    // The line's memory is the buffer lent.
+    fn one_page<W: Write>(&self, to: &mut W, r: Record) -> io::Result<()> {
+        let mut seen = [FILLED; PAGE_LEN];
+        let out = match read_page(&self.disk, &mut seen, r.addr) {
+            Ok(()) => Report::done(self.state),
+            Err(refusal) => Report::refused(refusal, self.state),
+        };
+        print_line(to, r.call, out, &self.disk, &seen, &self.tail)
+    }
 
-// The outcomes of the record's ids. They go into the first len places of the list, or into all of it where it has fewer. The line's value and stores
-// are the groups walked and the checksum of these places.
-fn outcomes_call(bytes: &[u8], s: State, disk: &[u8], list: &mut [u8], len: usize) -> Report {
-    let ids = ids_of(bytes);
-    let count = ids_count(bytes);
-    let room = least(len, list.len());
-    let x = outcomes(disk, &ids[..count], &mut list[..room]);
-    let answer = x.answer;
-    Report::stored(answer, x.groups, adler(&list[..room]) as usize, s)
-}
+    // The outcomes of the record's ids. They go into the first len places of the list, or into all of it where it has fewer. The line's value and
+    // stores are the groups walked and the checksum of these places.
+    #[tactic(auto, using(report::proofs::Ids::count_few, report::proofs::Ids::ids_length, report::proofs::Ids::ids_taken))]
+    fn outcomes(&self, bytes: &[u8], len: usize) -> Report {
+        let ids = ids_of(bytes);
+        let count = ids_count(bytes);
+        let mut list = [FILLED; IDS];
+        let room = len.min(IDS);
+        let walked = outcomes(&self.disk, &ids[..count], &mut list[..room]);
+        let groups = walked.unwrap_or(0);
+        Report::stored(
+            walked.into(),
+            groups,
+            adler(&list[..room]) as usize,
+            self.state,
+        )
+    }
 
-// The calls that look at the disk without a state, into a buffer of the stream's own, which is the line's memory; the list of outcomes is not.
-fn look<W: Write>(
-    to: &mut W,
-    bytes: &[u8],
-    r: Record,
-    s: State,
-    disk: &[u8],
-    memory: &[u8],
-    tail: &[u8],
-) -> io::Result<State> {
-    let call = r.call;
-    if call == 15 {
-        let mut seen = [165u8; MEMORY_LEN];
-        let out = groups_call(r, s, disk, &mut seen);
-        print_line(to, call, out, disk, &seen, tail)?;
-        return Ok(out.state);
-    }
-    if call == 16 {
-        let mut seen = [165u8; PAGE_LEN];
-        let out = page_call(r, s, disk, &mut seen);
-        print_line(to, call, out, disk, &seen, tail)?;
-        return Ok(out.state);
-    }
-    let mut list = [165u8; IDS];
-    let out = outcomes_call(bytes, s, disk, &mut list, r.len);
-    print_line(to, call, out, disk, memory, tail)?;
-    Ok(out.state)
-}
-
-// The calls that work in memory.
-fn memory_call(r: Record, data: &[u8], s: State, memory: &mut [u8], tail: &mut [u8]) -> Report {
-    let id = r.id;
-    if r.call == 1 {
-        let x = s.begin(&*memory, &*tail);
-        let answer = x.answer;
-        let state = x.state;
-        return Report::stored(answer, x.id.0 as usize, 0, state);
-    }
-    if r.call == 2 {
-        let x = s.write(memory, &*tail, id, r.addr, data);
-        let answer = x.answer;
-        let state = x.state;
-        return Report::stored(answer, 0, 0, state);
-    }
-    if r.call == 3 {
-        let part = s.read(&*memory, &*tail, id, r.addr, r.len);
-        return Report::read(part, s);
-    }
-    if r.call == 4 {
-        let x = s.read_answer(&*memory, &*tail, id, r.addr, r.len);
-        let answer = x.answer;
-        let state = x.state;
-        return Report::stored(answer, 0, 0, state);
-    }
-    if r.call == 5 {
-        let x = s.precommit(&*memory, tail, id);
-        let answer = x.answer;
-        let state = x.state;
-        return Report::stored(answer, x.csn.0 as usize, 0, state);
-    }
-    if r.call == 6 {
-        let x = s.abort(memory, tail, id);
-        let answer = x.answer;
-        let state = x.state;
-        return Report::stored(answer, 0, 0, state);
-    }
-    let x = s.settle(&*memory, &*tail, id);
-    let answer = x.answer;
-    let state = x.state;
-    Report::stored(answer, 0, 0, state)
-}
-
-// A savepoint is set, or gone back to.
-fn savepoint_call(r: Record, s: State, memory: &mut [u8], tail: &[u8]) -> Report {
-    let id = r.id;
-    if r.call == 17 {
-        let x = s.savepoint(&*memory, tail, id, r.name);
-        let answer = x.answer;
-        let state = x.state;
-        return Report::stored(answer, 0, 0, state);
-    }
-    let x = s.go_back(memory, tail, id, r.name);
-    let answer = x.answer;
-    let state = x.state;
-    Report::stored(answer, 0, 0, state)
-}
-
-// One record: the call, its line, and the state that it leaves.
-fn step<W: Write>(
-    to: &mut W,
-    bytes: &[u8],
-    s: State,
-    disk: &mut [u8],
-    kept: &mut [u8],
-    memory: &mut [u8],
-    tail: &mut [u8],
-) -> io::Result<State> {
-    let r = read_record(bytes);
-    let call = r.call;
-    match call {
-        7 | 9 | 10 => {
-            let out = disk_call(r, s, disk, memory, tail);
-            print_line(to, call, out, &*disk, &*memory, &*tail)?;
-            Ok(out.state)
-        }
-        1..=6 | 8 => {
-            let out = memory_call(r, data_of(bytes), s, memory, tail);
-            print_line(to, call, out, &*disk, &*memory, &*tail)?;
-            Ok(out.state)
-        }
-        17 | 18 => {
-            let out = savepoint_call(r, s, memory, &*tail);
-            print_line(to, call, out, &*disk, &*memory, &*tail)?;
-            Ok(out.state)
-        }
-        11..=14 => {
-            let out = stream_call(r, data_of(bytes), s, disk, kept, memory, tail);
-            print_line(to, call, out, &*disk, &*memory, &*tail)?;
-            Ok(out.state)
-        }
-        15 | 16 | 19 => look(to, bytes, r, s, &*disk, &*memory, &*tail),
-        _ => {
-            print_unknown(to)?;
-            Ok(s)
-        }
-    }
-}
-
-// Whether a whole record was there. A part of one ends the stream, as does a read that fails.
-fn next_record<R: Read>(from: &mut R, record: &mut [u8]) -> bool {
-    match from.read_exact(record) {
-        Ok(()) => true,
-        Err(_) => false,
+    // One record: the call, and its line.
+    fn step<W: Write>(&mut self, to: &mut W, bytes: &[u8]) -> io::Result<()> {
+        let r = read_record(bytes);
+        let Ok(call) = Call::try_from(r.call) else {
+            return print_unknown(to);
+        };
+        let s = self.state;
+        let (disk, memory, tail) = (&mut self.disk, &mut self.memory, &mut self.tail);
+        let out = match call {
+            Call::Begin => s.begin(memory, tail).into(),
+            Call::Write => s.write(memory, tail, r.id, r.addr, data_of(bytes)).into(),
+            Call::Read => Report::read(s.read(memory, tail, r.id, r.addr, r.len), s),
+            Call::CheckRead => s.read_answer(memory, tail, r.id, r.addr, r.len).into(),
+            Call::Precommit => s.precommit(memory, tail, r.id).into(),
+            Call::Abort => s.abort(memory, tail, r.id).into(),
+            Call::Flush => s.flush(disk, memory, tail, r.groups, r.allowed).into(),
+            Call::Settle => s.settle(memory, tail, r.id).into(),
+            Call::Checkpoint => s.checkpoint(disk, memory, tail, r.allowed).into(),
+            Call::Restart => restart(disk, memory, tail, r.allowed).into(),
+            Call::PowerFails => self.power_fails(),
+            Call::Damage => {
+                lay(disk, r.addr, data_of(bytes));
+                Report::done(s)
+            }
+            Call::KeepCopy => {
+                self.kept = *disk;
+                Report::done(s)
+            }
+            Call::Equal => Report::compared(equal(disk, &self.kept), s),
+            Call::FirstGroups => return self.first_groups(to, r),
+            Call::OnePage => return self.one_page(to, r),
+            Call::SetSavepoint => s.savepoint(memory, tail, r.id, r.name).into(),
+            Call::GoBack => s.go_back(memory, tail, r.id, r.name).into(),
+            Call::Outcomes => self.outcomes(bytes, r.len),
+        };
+        self.state = out.state;
+        print_line(to, r.call, out, &self.disk, &self.memory, &self.tail)
     }
 }
 
 fn main(rt: HostRuntime) -> io::Result<()> {
-    let mut disk = [0u8; DISK_LEN];
-    let mut kept = [0u8; DISK_LEN];
-    let mut memory = [0u8; MEMORY_LEN];
-    let mut tail = [0u8; TAIL_LEN];
-    let mut record = [0u8; 64];
-    let mut s = State::unrecovered();
+    let mut store = Store {
+        disk: [0; DISK_LEN],
+        kept: [0; DISK_LEN],
+        memory: [0; MEMORY_LEN],
+        tail: [0; TAIL_LEN],
+        state: State::unrecovered(),
+    };
+    let mut record = [0u8; RECORD_LEN];
     let mut from = rt.reader();
     let mut to = io::writer(&rt);
     // A proved loop ends: no stream has so many records.
     for _ in 0..u64::MAX {
-        if !next_record(&mut from, &mut record) {
+        if from.read_exact(&mut record).is_err() {
             break;
         }
-        s = step(
-            &mut to,
-            &record,
-            s,
-            &mut disk,
-            &mut kept,
-            &mut memory,
-            &mut tail,
-        )?;
+        store.step(&mut to, &record)?;
     }
     Ok(())
 }

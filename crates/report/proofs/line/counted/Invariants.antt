@@ -1,13 +1,11 @@
-use Rattle.std.proofs.Common.{◌+◌, ◌-◌, ◌*◌, ◌≡◌, ◌≤◌, ◌<◌}
-use Rattle.transaction.specs.Lists.{up_from, sum_of}
-use Rattle.store.specs.State.{tx_at}
-use Rattle.report.specs.Report.{count_in, counted_in}
+use Rattle.std.proofs.Common.{ℕ, ◌+◌, ◌*◌, ◌≡◌, ◌≤◌, drop}
+use Rattle.std.specs.Fn.{FnReturnsAt}
+use Rattle.transaction.specs.declared.Tx.{Tx}
+use Rattle.transaction.specs.Lists.{sum_of}
 use Rattle.report.proofs.line.counted.Given as goal
 
-abbrev pub invariant-loop-i : goal.invariant-loop-i
-invariant-loop-i l =
-    (l.i ≤ l.n) × (l.n < 256) × (l.sum ≤ 255 * l.i)
-    × (counted_in l.savepoints l.s ≡ l.sum + sum_of (count_in l.savepoints) (up_from (tx_at l.s) (l.n - l.i) l.i))
-
-abbrev pub decreases-loop-i : goal.decreases-loop-i
-decreases-loop-i l = l.n - l.i
+-- the sum so far, which with that of the rest is that of all
+abbrev pub invariant-loop-t : goal.invariant-loop-t
+invariant-loop-t g l =
+    (l.sum ≤ 255 * l.t-index)
+    × ((count : Tx → ℕ) → ((t : Tx) (r : ℕ) → FnReturnsAt g.F.Fn l.count t r → r ≡ count t) → sum_of count l.txs ≡ l.sum + sum_of count (drop l.t-index l.txs))
