@@ -20,7 +20,7 @@ struct Booking {
 }
 
 // The disk, which lasts, and what a power failure takes.
-#[derive(Drop)]
+#[derive(Clone, Copy)]
 struct Store {
     disk: [u8; DISK_LEN],
     memory: [u8; MEMORY_LEN],

@@ -34,7 +34,7 @@ fn lay(dst: &mut [u8], at: usize, src: &[u8])
 }
 
 // What the calls of a stream work on, and the copy of the disk that the stream keeps.
-#[derive(Drop)]
+#[derive(Clone, Copy)]
 struct Store {
     disk: [u8; DISK_LEN],
     kept: [u8; DISK_LEN],
