@@ -1,5 +1,5 @@
 -- The list of outcomes: what is noted beside the ids, the walk, and what it comes to.
-use Prim.Native.Nat.{ℕ, zero, suc, ◌+◌, ◌≤◌, ◌<◌}
+use Prim.Native.Nat.{ℕ, zero, suc, ◌+◌, ◌-◌, ◌≤◌, ◌<◌, ◌/◌}
 use native.Mathlib.Numerals.{add-one}
 use native.Mathlib.Omega.{arith}
 use mathlib.Core.Bool.{Bool, true, false, cond}
@@ -117,6 +117,9 @@ between ids id i below above k l e = go (ltb k i) refl
     go false t = omega (arith, e, above k (ltb-false k i t) l)
 
 -- ---- the search by halves
+
+pub middle_within : (low high : ℕ) → low < high → (low ≤ low + (high - low) / 2) × (low + (high - low) / 2 < high)
+middle_within low high h = (omega arith, omega arith)
 
 module _ (ids : List ℕ) (id : ℕ) (r : rising ids ≡ true) (m : ℕ) (l : m < length ids) where
   pub below_middle : get_or ids m 0 < id → (j : ℕ) → j < m + 1 → get_or ids j 0 < id
@@ -241,14 +244,50 @@ module _ (ids log : List ℕ) (w : Walk) (out : List ℕ) where
       ap (λ (gs : List Group). record { groups = w.groups + length gs; out = walked_over ids gs out }) (log_with_none _ _ e)
       ∙ ap (λ (n : ℕ). record { groups = n; out = out }) (omega arith)
 
-  pub walk_done : passed_by (group_at log w) w ≡ None → walks_from ids log w out ≡ record { groups = w.groups; out = out }
-  walk_done e = go (group_at log w) refl
+  -- where the walk stands still there is no group
+  pub walk_done : ((p : Passed) → passed_by (group_at log w) w ≡ Some p → p.walk.at ≡ w.at)
+      → walks_from ids log w out ≡ record { groups = w.groups; out = out }
+  walk_done h = go (group_at log w) refl
     where
       go : (x : Option Group) → group_at log w ≡ x → walks_from ids log w out ≡ record { groups = w.groups; out = out }
-      go none p = walk_none p
-      go (some g) p = let z : passed_by (some g) w ≡ None = sym (ap (λ (x : Option Group). passed_by x w) p) ∙ e in clash (cc)
+      go none e = walk_none e
+      go (some g) e = absurd (omega (arith, h _ (ap (λ (x : Option Group). passed_by x w) e), group_with_within _ _ g e))
+
+  -- as the code sees it
+  pub walk_ended : passed_by (group_at log w) w ≡ None → walks_from ids log w out ≡ record { groups = w.groups; out = out }
+  walk_ended e = walk_done (λ p q. let z : None ≡ Some p = sym e ∙ q in clash (cc))
 
   -- else it goes on behind the group, with its outcome noted
+  walk_group : (g : Group) → group_at log w ≡ some g
+      → walks_from ids log w out ≡ walks_from ids log (past_group g w) (noted_in ids (group_id g) (outcome_of g) out)
+  walk_group g e =
+      ap (λ (gs : List Group). record { groups = w.groups + length gs; out = walked_over ids gs out }) (log_with_more _ _ g e)
+      ∙ ap (λ (s : List ℕ). record {
+        groups = w.groups + suc (length (read_log_with (next_after w.next g) s));
+        out = walked_over ids (read_log_with (next_after w.next g) s) (noted_in ids (group_id g) (outcome_of g) out);
+      }) (drop-drop (group_size g) w.at log)
+      ∙ ap (λ (n : ℕ). record {
+        groups = n;
+        out = walked_over ids (groups_from log (past_group g w)) (noted_in ids (group_id g) (outcome_of g) out);
+      }) (omega arith)
+
+  -- the group that was passed
+  passed_is : (p : Passed) → passed_by (group_at log w) w ≡ Some p
+      → (g : Group) × (group_at log w ≡ some g) × (record { id = record { 0 = group_id g }; outcome = outcome_of g; walk = past_group g w } ≡ p)
+  passed_is p e = go (group_at log w) refl
+    where
+      go : (x : Option Group) → group_at log w ≡ x
+          → (g : Group) × (group_at log w ≡ some g) × (record { id = record { 0 = group_id g }; outcome = outcome_of g; walk = past_group g w } ≡ p)
+      go none q = let z : passed_by none w ≡ Some p = sym (ap (λ (x : Option Group). passed_by x w) q) ∙ e in clash (cc)
+      go (some g) q = let z : passed_by (some g) w ≡ Some p = sym (ap (λ (x : Option Group). passed_by x w) q) ∙ e in (g, q, cc)
+
+  pub walk_step_lem : (p : Passed) → passed_by (group_at log w) w ≡ Some p
+      → walks_from ids log w out ≡ walks_from ids log p.walk (noted_in ids p.id.0 p.outcome out)
+  walk_step_lem p e =
+      let i = passed_is p e in
+      subst (λ (p : Passed). walks_from ids log w out ≡ walks_from ids log p.walk (noted_in ids p.id.0 p.outcome out)) i.2 (walk_group i.0 i.1)
+
+  -- of a walk within the log and lists of one length
   pub record Turned (p : Passed) : Type 0 where
     pub within : p.walk.at ≤ length log
     pub further : w.at < p.walk.at
@@ -267,26 +306,11 @@ module _ (ids log : List ℕ) (w : Walk) (out : List ℕ) where
           further = omega arith;
           groups = omega arith;
           beside = noted_length ids out (group_id g) (outcome_of g) l ∙ l;
-          same = ap (λ (gs : List Group). record { groups = w.groups + length gs; out = walked_over ids gs out }) (log_with_more _ _ g e)
-              ∙ ap (λ (s : List ℕ). record {
-                groups = w.groups + suc (length (read_log_with (next_after w.next g) s));
-                out = walked_over ids (read_log_with (next_after w.next g) s) (noted_in ids (group_id g) (outcome_of g) out);
-              }) (drop-drop (group_size g) w.at log)
-              ∙ ap (λ (n : ℕ). record {
-                groups = n;
-                out = walked_over ids (groups_from log (past_group g w)) (noted_in ids (group_id g) (outcome_of g) out);
-              }) (omega arith);
+          same = walk_group g e;
         }
 
     pub turned : (p : Passed) → passed_by (group_at log w) w ≡ Some p → Turned p
-    turned p e = go (group_at log w) refl
-      where
-        go : (x : Option Group) → group_at log w ≡ x → Turned p
-        go none q = let z : passed_by none w ≡ Some p = sym (ap (λ (x : Option Group). passed_by x w) q) ∙ e in clash (cc)
-        go (some g) q =
-            let z : passed_by (some g) w ≡ Some p = sym (ap (λ (x : Option Group). passed_by x w) q) ∙ e in
-            let is : record { id = record { 0 = group_id g }; outcome = outcome_of g; walk = past_group g w } ≡ p = cc in
-            subst Turned is (turn g q)
+    turned p e = let i = passed_is p e in subst Turned i.2 (turn i.0 i.1)
 
 -- ---- the call by cases
 

@@ -1,5 +1,5 @@
 -- What the contracts of the inner functions cite: an outcome noted, and single turns of the walk. `outcomes_of` has none of it.
-use Rattle.std.specs.Prelude.{ℕ, ◌+◌, cond, List, [], ◌∷◌, drop, eqb, Option as Maybe, Some, None}
+use Rattle.std.specs.Prelude.{ℕ, ◌+◌, ◌<◌, ◌≡◌, cond, List, [], ◌∷◌, length, get_or, drop, eqb, Option as Maybe, Some, None}
 use Rattle.std.proofs.Math.Option.{Option, none, some}
 use Rattle.recovery.specs.Group.{Group, group_size}
 use Rattle.recovery.specs.Restart.{group_id}
@@ -8,6 +8,11 @@ use Rattle.redolog.specs.Log.{next_after}
 use Rattle.inspect.specs.declared.outcomes.Walk.{Walk}
 use Rattle.inspect.specs.declared.outcomes.Passed.{Passed}
 use Rattle.inspect.specs.Outcomes.{outcome_of}
+
+-- the id stands there, or nowhere
+abbrev pub FoundAs : List ℕ → ℕ → Maybe ℕ → Type 0
+FoundAs ids id (Some i) = (i < length ids) × (get_or ids i 0 ≡ id)
+FoundAs ids id None = (i : ℕ) → i < length ids → get_or ids i 0 ≡ id → ⊥
 
 -- f of each id and what stands in its place
 abbrev pub beside : (ℕ → ℕ → ℕ) → List ℕ → List ℕ → List ℕ

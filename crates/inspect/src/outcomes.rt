@@ -2,7 +2,7 @@
 ghost use Rattle.std.specs.Prelude.{true, ◌≡◌, ◌≤◌, length};
 ghost use Rattle.redolog.specs.Log.{read_log_with};
 ghost use Rattle.inspect.specs.Outcomes.{rising, of_walked, outcomes_of};
-ghost use Rattle.inspect.specs.Walk.{noted_in, group_at, passed_by, walked_over};
+ghost use Rattle.inspect.specs.Walk.{FoundAs, noted_in, group_at, passed_by, walked_over};
 
 use layout::refusal::Refusal;
 use layout::{DISK_LEN, LOG_LEN, LOG_START};
@@ -37,12 +37,34 @@ fn is_rising(ids: &[u16]) -> bool
     ids.is_sorted_by(|a, b| *a < *b)
 }
 
+// By halves: the list is rising. No `binary_search`: it goes on to the end, also where it has met the id on the way.
+fn find(ids: &[u16], id: u16) -> Option<usize>
+    requires { rising ids.now ≡ true }
+    ensures { FoundAs ids.now id result }
+{
+    let mut low: usize = 0;
+    let mut high = ids.len();
+    while low < high {
+        let middle = low + (high - low) / 2;
+        let here = ids[middle];
+        if here == id {
+            return Some(middle);
+        }
+        if here < id {
+            low = middle + 1;
+        } else {
+            high = middle;
+        }
+    }
+    None
+}
+
 // A group of this id: its outcome takes the place of an earlier one.
 fn note(ids: &[u16], out: &mut [u8], id: TxId, outcome: u8)
     requires { (rising ids.now ≡ true) × (length out.old ≡ length ids.now) }
     ensures { out.new ≡ noted_in ids.now id.0 outcome out.old }
 {
-    if let Ok(i) = ids.binary_search(&id.0) {
+    if let Some(i) = find(ids, id.0) {
         out[i] = outcome;
     }
 }

@@ -21,13 +21,13 @@ use Rattle.redolog.proofs.Basics.{clash}
 
 abbrev head_id : Result Head Stop → ℕ
 head_id (Ok (Redo i a n)) = i.0
-head_id (Ok (Commit i n)) = i.0
+head_id (Ok (Commit n i)) = i.0
 head_id (Ok (Abort i)) = i.0
 head_id (Err q) = 0
 
 abbrev head_csn : Result Head Stop → ℕ
 head_csn (Ok (Redo i a n)) = 0
-head_csn (Ok (Commit i n)) = n.0
+head_csn (Ok (Commit n i)) = n.0
 head_csn (Ok (Abort i)) = 0
 head_csn (Err q) = 0
 
@@ -38,7 +38,7 @@ head_redo why (some (redo j w)) i a n e = (w, ap (λ (k : ℕ). some (redo k w))
 head_redo why (some (commit j m)) i a n e = clash (cc)
 head_redo why (some (abort j)) i a n e = clash (cc)
 
-pub head_commit : (why : Stop) (x : Option Record) (i : TxId) (n : Csn) → head_of why x ≡ Ok (Commit i n) → x ≡ some (commit i.0 n.0)
+pub head_commit : (why : Stop) (x : Option Record) (i : TxId) (n : Csn) → head_of why x ≡ Ok (Commit n i) → x ≡ some (commit i.0 n.0)
 head_commit why none i n e = clash (cc)
 head_commit why (some (redo j w)) i n e = clash (cc)
 head_commit why (some (commit j m)) i n e = ap₂ (λ (x y : ℕ). some (commit x y)) (ap head_id e) (ap head_csn e)

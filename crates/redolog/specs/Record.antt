@@ -66,5 +66,5 @@ read_record s = cond (eqb (be16 s 1) 0) none (read_kind (get_or s 0 0) (be16 s 1
 abbrev pub head_of : Stop → Option Record → Result Head Stop
 head_of why none = Err why
 head_of why (some (redo id w)) = Ok (Redo (record { 0 = id }) w.addr (length w.bytes))
-head_of why (some (commit id csn)) = Ok (Commit (record { 0 = id }) (record { 0 = csn }))
+head_of why (some (commit id csn)) = Ok (Commit (record { 0 = csn }) (record { 0 = id }))
 head_of why (some (abort id)) = Ok (Abort (record { 0 = id }))

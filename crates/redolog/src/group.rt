@@ -21,6 +21,8 @@ pub enum GroupEnd {
 }
 
 // The redo records of this id at the front of s, and their commit.
+// A hint to LLVM: an abort is read without the registers that this takes.
+#[inline(never)]
 fn read_body(s: &[u8], id: TxId, next: u64) -> Result<GroupEnd, Stop>
     ensures { result ≡ end_of (stop_of s.now) (committed_if id.0 next (read_body next id.0 s.now)) }
 {
@@ -60,6 +62,8 @@ fn read_body(s: &[u8], id: TxId, next: u64) -> Result<GroupEnd, Stop>
 }
 
 // next is the commit number expected. Behind the highest one it is 2^32, which no commit has.
+// A hint to LLVM: a log can have thousands of aborts, each told without a call then.
+#[inline(always)]
 #[tactic(auto, using(crate::proofs::GroupLaws::group_fronts))]
 pub fn read_next(s: &[u8], next: u64) -> Result<GroupEnd, Stop>
     ensures { result ≡ end_of (stop_of s.now) (group_with next s.now) }

@@ -12,11 +12,12 @@ use crate::stores::copy;
 use crate::{Csn, TxId};
 use layout::{ABORT, ABORT_LEN, COMMIT, COMMIT_LEN, MAX_WRITE, MEMORY_LEN, REDO, REDO_LEN};
 
-// A record as read. The new bytes of a redo record are the len bytes at 6.
+// A record as read. The new bytes of a redo record are the len bytes at 6. A commit's number stands before its id: so a record has twelve bytes, and
+// not eight, which LLVM would pack into one number and take apart again.
 #[derive(Clone, Copy)]
 pub enum Record {
     Redo { id: TxId, addr: u16, len: u8 },
-    Commit { id: TxId, csn: Csn },
+    Commit { csn: Csn, id: TxId },
     Abort(TxId),
 }
 

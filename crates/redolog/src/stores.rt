@@ -3,13 +3,14 @@ ghost use Rattle.std.specs.Prelude.{◌≡◌, ◌+◌, ◌-◌, ◌≤◌, min,
 ghost use Rattle.std.proofs.lemmas.List.Edits.{sets};
 ghost use Rattle.redolog.specs.Stores.{apply, copies, clears, shifted};
 
-// All of src, from at on.
-#[tactic(auto, using(crate::proofs::StoreLaws::sets_part))]
+// All of src, from at on. No `copy_from_slice`: most copies are of a write's few bytes, for which its call takes longer than a loop of wide moves.
 pub fn copy(b: &mut [u8], at: usize, src: &[u8])
     requires { at + length src.now ≤ length b.old }
     ensures { b.new ≡ sets b.old at src.now }
 {
-    b[at..at + src.len()].copy_from_slice(src);
+    for (i, x) in src.iter().enumerate() {
+        b[at + i] = *x;
+    }
 }
 
 // One value throughout. It has a name of its own, as `copy` has: other crates' contracts and edits rest on both.

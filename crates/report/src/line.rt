@@ -276,8 +276,9 @@ fn stop_word(stop: Option<Stop>) -> &'static str {
     }
 }
 
+// In one piece: each piece of a format is a write of its own.
 pub fn print_unknown<W: Write>(to: &mut W) -> io::Result<()> {
-    writeln!(to, "unknown")
+    to.write_all(b"unknown\n")
 }
 
 // Of any byte, as before: that it is a call is asked where the ninth field is.

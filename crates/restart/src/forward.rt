@@ -52,9 +52,11 @@ impl Pass {
         self.end = end;
         self.csn = csn;
         self.last = self.last.max(id);
-        if let Some(i) = slot
-            && self.found[i].is_none()
-        {
+        // Most groups are of no transaction of the image: what was found is not copied for them.
+        let Some(i) = slot else {
+            return self;
+        };
+        if self.found[i].is_none() {
             self.found[i] = Some(ending);
         }
         self

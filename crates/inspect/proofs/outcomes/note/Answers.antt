@@ -1,16 +1,15 @@
-use Rattle.std.proofs.Common.{Ok, Err}
-use Rattle.std.proofs.lemmas.List.Sorted.{searched}
-use Rattle.inspect.proofs.Walking.{rising_le, between, note_at, note_nowhere}
+use Rattle.std.proofs.Common.{subst}
+use Rattle.inspect.specs.Walk.{FoundAs}
+use Rattle.inspect.proofs.Walking.{note_at, note_nowhere}
 use Rattle.inspect.proofs.outcomes.note.Goals as goal
 
-pub returns-in-Ok : goal.returns-in-Ok
-returns-in-Ok c =
+pub returns-in-Some : goal.returns-in-Some
+returns-in-Some c =
     let a = c.args in
-    let s = searched a.ids.now a.id.0 (Ok c.in-Ok.i) c.in-Ok.ensures.position (rising_le a.ids.now c.requires.0) in
-    note_at a.ids.now a.out.now a.id.0 a.outcome c.requires.1 c.requires.0 c.in-Ok.i s.0 s.1
+    let p = subst (FoundAs a.ids.now a.id.0) c.in-Some.is c.find.ensures in
+    note_at a.ids.now a.out.now a.id.0 a.outcome c.requires.1 c.requires.0 c.in-Some.i p.0 p.1
 
 pub returns-in_default : goal.returns-in_default
 returns-in_default c =
     let a = c.args in
-    let s = searched a.ids.now a.id.0 (Err c.in_default.field-0) c.in_default.ensures.position (rising_le a.ids.now c.requires.0) in
-    note_nowhere a.ids.now a.out.now a.id.0 a.outcome c.requires.1 (between a.ids.now a.id.0 c.in_default.field-0 s.1 s.2)
+    note_nowhere a.ids.now a.out.now a.id.0 a.outcome c.requires.1 (subst (FoundAs a.ids.now a.id.0) c.in_default.is c.find.ensures)

@@ -1,5 +1,5 @@
 use Rattle.std.proofs.Common.{arith, sym, ap, ◌∙◌}
-use Rattle.inspect.proofs.Walking.{Walks, walk_done, turned}
+use Rattle.inspect.proofs.Walking.{Walks, walk_ended, turned}
 use Rattle.inspect.proofs.outcomes.walk_log.Goals as goal
 
 pub loop-group-smaller : goal.loop-group-smaller
@@ -24,11 +24,11 @@ loop-group-preserved c =
 pub returns-clause-value : goal.returns-clause-value
 returns-clause-value c =
     let l = c.loop-group in
-    let e = l.invariant.same ∙ walk_done c.args.ids.now c.args.log.now l.w l.out (sym c.step.ensures ∙ c.in_default.is) in
+    let e = l.invariant.same ∙ walk_ended c.args.ids.now c.args.log.now l.w l.out (sym c.step.ensures ∙ c.in_default.is) in
     omega (arith, ap (λ (x : Walks). x.groups) e)
 
 pub returns-clause-out_after : goal.returns-clause-out_after
 returns-clause-out_after c =
     let l = c.loop-group in
-    let e = l.invariant.same ∙ walk_done c.args.ids.now c.args.log.now l.w l.out (sym c.step.ensures ∙ c.in_default.is) in
+    let e = l.invariant.same ∙ walk_ended c.args.ids.now c.args.log.now l.w l.out (sym c.step.ensures ∙ c.in_default.is) in
     sym (ap (λ (x : Walks). x.out) e)
