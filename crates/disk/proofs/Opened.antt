@@ -157,7 +157,7 @@ pub handed_parts : (disk : List ℕ) → (open_of disk).number ≡ 0 → opened_
 unfolding opened_of
 handed_parts disk e = rw (eq-eqb (open_of disk).number 0 e)
 
-handed_number : (disk : List ℕ) → (opened_of disk).number ≡ (open_of disk).number
+pub handed_number : (disk : List ℕ) → (opened_of disk).number ≡ (open_of disk).number
 unfolding opened_of shut_by
 handed_number disk = go (eqb (open_of disk).number 0) refl
   where
@@ -175,24 +175,14 @@ unfolding shut_by
 handed_not disk r e = sym (ap (λ (o : HandedOn). o.number) e ∙ handed_number disk)
 
 -- else the heads show the image by the bytes of its transactions, and the log is that from its place on
-pub record Handed (o : Opened) (disk : List ℕ) : Type 0 where
-  pub opened : (open_of disk).number ≡ 0
-  pub shows : HeadsFit o.heads o.txs.now
-  pub image : image_by o.heads o.txs.now ≡ (open_of disk).image
+pub record Handed (o : HandedOn) (disk : List ℕ) : Type 0 where
+  pub shows : HeadsFit o.heads o.txs
+  pub image : image_by o.heads o.txs ≡ (open_of disk).image
   pub logend : o.heads.counters.logend ≡ (open_of disk).image.logend
-  pub log : o.log.now ≡ (open_of disk).log
+  pub log : o.log ≡ (open_of disk).log
 
-abbrev Shows : HandedOn → List ℕ → Type 0
-Shows o disk =
-    record {
-      shows : HeadsFit o.heads o.txs;
-      image : image_by o.heads o.txs ≡ (open_of disk).image;
-      logend : o.heads.counters.logend ≡ (open_of disk).image.logend;
-      log : o.log ≡ (open_of disk).log;
-    }
-
-parts_shown : (disk : List ℕ) → (open_of disk).number ≡ 0 → Shows (parts_in disk) disk
-parts_shown disk e = go (heads_named p disk) refl
+pub handed : (disk : List ℕ) → (open_of disk).number ≡ 0 → Handed (opened_of disk) disk
+handed disk e = subst (λ (o : HandedOn). Handed o disk) (sym (handed_parts disk e)) (go (heads_named p disk) refl)
   where
     p : ℕ
     p = pointer_of disk
@@ -200,7 +190,7 @@ parts_shown disk e = go (heads_named p disk) refl
     o : IsOpen disk
     o = open_inv disk e
 
-    go : (h : Option Heads) → heads_named p disk ≡ h → Shows (parts_in disk) disk
+    go : (h : Option Heads) → heads_named p disk ≡ h → Handed (parts_in disk) disk
     go None q = let z : false ≡ true = sym (not_named p disk q) ∙ o.ok in clash (cc)
     go (Some h) q =
         let n = named p disk h q in
@@ -212,10 +202,18 @@ parts_shown disk e = go (heads_named p disk) refl
           log = sym (opened_log disk e);
         })
 
-pub handed : (disk : List ℕ) (o : Opened) → handed_on (Ok o) ≡ opened_of disk → Handed o disk
-handed disk o e =
+-- the same of what the code answers
+pub record HandedOk (o : Opened) (disk : List ℕ) : Type 0 where
+  pub opened : (open_of disk).number ≡ 0
+  pub shows : HeadsFit o.heads o.txs.now
+  pub image : image_by o.heads o.txs.now ≡ (open_of disk).image
+  pub logend : o.heads.counters.logend ≡ (open_of disk).image.logend
+  pub log : o.log.now ≡ (open_of disk).log
+
+pub handed_ok : (disk : List ℕ) (o : Opened) → handed_on (Ok o) ≡ opened_of disk → HandedOk o disk
+handed_ok disk o e =
     let z : (open_of disk).number ≡ 0 = sym (ap (λ (x : HandedOn). x.number) e ∙ handed_number disk) in
-    let s = subst (λ (x : HandedOn). Shows x disk) (sym (e ∙ handed_parts disk z)) (parts_shown disk z) in
+    let s = subst (λ (x : HandedOn). Handed x disk) (sym e) (handed disk z) in
     record { opened = z; shows = s.shows; image = s.image; logend = s.logend; log = s.log }
 
 -- the code, with the heads that it read: what it hands on, and what it has in memory

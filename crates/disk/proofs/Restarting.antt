@@ -95,7 +95,7 @@ pub stop_found_lem : (disk : List ℕ) (end : ℕ) → end ≡ (examine_of disk)
 unfolding stop_found
 stop_found_lem disk end e = ap (λ (n : ℕ). stop_of (log_from n disk)) e
 
-stopped_by_lem : (disk memory tail : List ℕ) (allowed : ℕ) {o : DiskOutcome} → restart_of disk memory tail allowed ≡ o
+pub stopped_by_lem : (disk memory tail : List ℕ) (allowed : ℕ) {o : DiskOutcome} → restart_of disk memory tail allowed ≡ o
     → stopped_of disk memory tail allowed ≡ told_stop o.result.says (stop_found disk)
 unfolding stopped_of
 stopped_by_lem disk memory tail allowed e = ap (λ (o : DiskOutcome). told_stop o.result.says (stop_found disk)) e

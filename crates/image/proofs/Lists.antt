@@ -1,10 +1,11 @@
--- Laws of lists over the places of an array: mapped, read off the front of a list, laid into slots; and of a number in a part of a list.
-use Prim.Native.Nat.{ℕ, zero, suc, ◌+◌, ◌≤◌, ◌<◌}
+-- Laws of lists over the places of an array: mapped, read off the front of a list, laid into slots; and of numbers in a part of a list.
+use Prim.Native.Nat.{ℕ, zero, suc, ◌+◌, ◌*◌, ◌≤◌, ◌<◌}
 use native.Mathlib.Omega.{arith}
-use mathlib.Core.List.{List, [], ◌∷◌, ◌++◌, map}
-use mathlib.Core.Path.{◌≡◌, refl, ap, ◌∙◌}
+use mathlib.Core.List.{List, [], ◌∷◌, ◌++◌, append-nil, map}
+use mathlib.Core.Path.{◌≡◌, refl, sym, ap, ap₂, ◌∙◌}
 use lib.ListN.{length, get_or, set, drop, replicate, length-replicate, get_or-append}
 use lib.Seq.{sets, sets-eq, get_or-drop}
+use Rattle.redolog.specs.Number.{be16, be32}
 use Rattle.transaction.specs.Lists.{up_from}
 
 pub up_map : {A B : Type 0} (g : A → B) (f : ℕ → A) (n i : ℕ) → up_from (λ j. g (f j)) n i ≡ map g (up_from f n i)
@@ -20,15 +21,27 @@ up_front [] rest d = refl
 up_front {A = A} (x ∷ xs) rest d =
     ap (λ (ys : List A). x ∷ ys) (up_suc (λ j. get_or (x ∷ (xs ++ rest)) j d) (length xs) 0 ∙ up_front xs rest d)
 
+-- the whole of a list
+pub up_all : {A B : Type 0} (f : A → B) (xs : List A) (d : A) → up_from (λ j. f (get_or xs j d)) (length xs) 0 ≡ map f xs
+up_all {A = A} f xs d =
+    up_map f (λ j. get_or xs j d) (length xs) 0
+    ∙ ap (map f) (ap (λ (ys : List A). up_from (λ j. get_or ys j d) (length xs) 0) (sym (append-nil xs)) ∙ up_front xs [] d)
+
 pub map_self : {A : Type 0} (f : A → A) (xs : List A) → ((x : A) → f x ≡ x) → map f xs ≡ xs
 map_self f [] h = refl
 map_self {A = A} f (x ∷ xs) h = ap (λ (y : A). y ∷ map f xs) (h x) ∙ ap (λ (ys : List A). x ∷ ys) (map_self f xs h)
 
--- ---- a number in the part of a list from a place on
+-- ---- numbers in the part of a list from a place on
 
 module _ (s : List ℕ) (at : ℕ) where
   pub byte_at : (i j : ℕ) → at + i ≡ j → get_or (drop at s) i 0 ≡ get_or s j 0
   byte_at i j e = get_or-drop at s i 0 ∙ ap (λ (k : ℕ). get_or s k 0) e
+
+  pub be16_at : (i j : ℕ) → at + i ≡ j → be16 (drop at s) i ≡ be16 s j
+  be16_at i j e = ap₂ (λ (a b : ℕ). a * 256 + b) (byte_at i j e) (byte_at (i + 1) (j + 1) (omega (arith, e)))
+
+  pub be32_at : (i j : ℕ) → at + i ≡ j → be32 (drop at s) i ≡ be32 s j
+  be32_at i j e = ap₂ (λ (a b : ℕ). a * 65536 + b) (be16_at i j e) (be16_at (i + 2) (j + 2) (omega (arith, e)))
 
 -- ---- the first of n slots laid out, the others as they were
 

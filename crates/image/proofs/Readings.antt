@@ -22,7 +22,7 @@ use Rattle.transaction.specs.Rules.{range_ok}
 use Rattle.transaction.specs.View.{range_of}
 use Rattle.image.specs.Format.{undos_size}
 use Rattle.image.specs.Reading.{undo_here, first_undo, read_undos}
-use Rattle.image.specs.Heads.{undo_size, undo_starts}
+use Rattle.image.specs.Heads.{undo_size, undos_end, undo_starts}
 use Rattle.image.proofs.Lists.{byte_at}
 
 abbrev pub no_write : Write
@@ -73,6 +73,11 @@ undos_turn t n k h = let e : n - k ≡ suc (n - (k + 1)) = omega arith in ap (λ
 abbrev pub end_from : ℕ → Option (List Write) → Maybe ℕ
 end_from at none = None
 end_from at (some us) = Some (at + undos_size us)
+
+-- from a transaction's first record on, the same as without a place
+pub end_start : (x : Option (List Write)) → undos_end x ≡ end_from 8 x
+end_start none = refl
+end_start (some us) = refl
 
 end_next : (at n : ℕ) (u : Write) (x : Option (List Write)) → length u.bytes ≡ n → end_from at (and_then u x) ≡ end_from (at + (3 + n)) x
 end_next at n u none l = refl

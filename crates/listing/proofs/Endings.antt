@@ -86,6 +86,19 @@ module _ (disk : List ℕ) (r : Restarted) (e : of_restarted r ≡ (restart_whol
   pub never_cut : r.result ≡ Err Cut → ⊥
   never_cut a = uncut disk (sym (ap (λ (t : Told). t.says) e) ∙ ap (λ (x : Result Recovery Failure). says_stored x) a)
 
+  -- an answer that is no refusal tells what was found
+  pub listing_found : (pointer : ℕ) → pointer ≡ pointer_of disk → ((n : Refusal) → r.result ≡ Err (Refused n) → ⊥)
+      → (x : Recovery) × (r.result ≡ Ok x)
+      × (listing_of disk ≡ found_text pointer r.state.logend r.state.ondisk.0 r.state.lastid.0 x.undone ++ stop_text x.stop)
+  listing_found pointer p k = go r.result refl
+    where
+      go : (y : Result Recovery Failure) → r.result ≡ y
+          → (x : Recovery) × (r.result ≡ Ok x)
+          × (listing_of disk ≡ found_text pointer r.state.logend r.state.ondisk.0 r.state.lastid.0 x.undone ++ stop_text x.stop)
+      go (Ok x) a = (x, a, listing_done pointer p x a)
+      go (Err Cut) a = absurd (never_cut a)
+      go (Err (Refused n)) a = absurd (k n a)
+
 pub printed : {x y out : List ℕ} {r : ℕ} → x ≡ y → Printed x r out → Printed y r out
 printed {out = out} {r} e l = subst (λ (text : List ℕ). Printed text r out) e l
 

@@ -8,7 +8,7 @@ use lib.ListN.{length, take, drop, length-drop}
 use lib.Seq.{drop-drop, take_all, take-nil}
 use Rattle.recovery.specs.Group.{Group, committed, aborted, group_size, groups_size, csn_after, last_csn}
 use Rattle.redolog.specs.Group.{group_with, read_group}
-use Rattle.redolog.specs.Log.{next_after, on_group, log_step, read_log_with, read_log}
+use Rattle.redolog.specs.Log.{next_after, on_group, log_step, read_log_with, read_log, reached_of}
 use Rattle.redolog.specs.declared.scan.Reached.{Reached}
 use Rattle.redolog.proofs.Basics.{clash, Turned}
 use Rattle.redolog.proofs.Reader.{Shrinks, step}
@@ -58,6 +58,10 @@ log_more prev s g e =
 
 abbrev end_from : ℕ → ℕ → List Group → Reached
 end_from at prev gs = record { end = at + groups_size gs; csn = record { 0 = last_csn prev gs } }
+
+-- from place 0 on, the same as without a place
+pub first_start : (prev : ℕ) (gs : List Group) → reached_of prev gs ≡ end_from 0 prev gs
+first_start prev gs = ap (λ (k : ℕ). record { end = k; csn = record { 0 = last_csn prev gs } }) (omega arith)
 
 abbrev pub first_end : ℕ → ℕ → ℕ → List ℕ → Reached
 first_end at prev m s = end_from at prev (take m (read_log prev s))

@@ -11,7 +11,7 @@ use lib.ListN.{drop_of_length-le}
 use Rattle.std.specs.List.{copy_within}
 use borrow.Rule.Slice.PartMut.{put_mid}
 use lib.Seq.{sets, sets-eq, drop-drop, take-suc, take_all, take-length, take_at, length-take-le, take-set-le, drop-set-lt, drop-cons, drop-append-le}
-use lib.Seq.{get_or-set_same}
+use lib.Seq.{get_or-drop, get_or-set_same, get_or-set_other}
 use Rattle.redolog.specs.Number.{bytes16}
 use Rattle.redolog.specs.Record.{redo, encode}
 use Rattle.redolog.specs.Stores.{Store, store, apply, copies, clears, shifted}
@@ -150,6 +150,30 @@ sets_all vs l e =
     ∙ ap (λ (r : List ℕ). vs ++ r) (drop_of_length-le l {i = 0 + length vs} (omega arith))
     ∙ append-nil vs
 
+sets_past : (vs l : List ℕ) (i j : ℕ) → i + length vs ≤ j → get_or (sets l i vs) j 0 ≡ get_or l j 0
+sets_past [] l i j h = refl
+sets_past (v ∷ vs) l i j h = sets_past vs (set l i v) (suc i) j (omega arith) ∙ get_or-set_other l i j v 0 (λ e. omega arith)
+
+-- one more byte of those from n on
+pub shift_more : (b : List ℕ) (n i : ℕ) → i + n < length b
+    → set (sets b 0 (take i (drop n b))) i (get_or (sets b 0 (take i (drop n b))) (i + n) 0) ≡ sets b 0 (take (i + 1) (drop n b))
+shift_more b n i h =
+    let d : i < length (drop n b) = rw (length-drop n b) (omega arith) in
+    let t : length (take i (drop n b)) ≡ i = length-take-le i (drop n b) (omega arith) in
+    let s : n + i ≡ i + n = omega arith in
+    let v : get_or (drop n b) i 0 ≡ get_or (sets b 0 (take i (drop n b))) (i + n) 0 =
+    get_or-drop n b i 0 ∙ ap (λ (j : ℕ). get_or b j 0) s ∙ sym (sets_past (take i (drop n b)) b 0 (i + n) (omega arith)) in
+    let e : 0 + i ≡ i = omega arith in
+    ap₂ (λ (j x : ℕ). set (sets b 0 (take i (drop n b))) j x) (sym e) (sym v) ∙ sets_more b 0 (drop n b) i d
+
+-- what the moves leave in front of the rest
+pub shift_front : (b : List ℕ) (n : ℕ) → n ≤ length b → take (length b - n) (sets b 0 (take (length b - n) (drop n b))) ≡ drop n b
+shift_front b n h =
+    let d : length (drop n b) ≡ length b - n = length-drop n b in
+    ap (λ (vs : List ℕ). take (length b - n) (sets b 0 vs)) (take_all (length b - n) (drop n b) (omega arith))
+    ∙ ap (take (length b - n)) (sets-eq (drop n b) b 0 (omega arith))
+    ∙ take_at (drop n b) (drop (0 + length (drop n b)) b) (length b - n) d
+
 -- what stands from n on, or nothing
 drop_min : (n : ℕ) (b : List ℕ) → drop (min n (length b)) b ≡ drop n b
 drop_min n b =
@@ -175,6 +199,13 @@ shift_done n k b m ys q e z =
     let rest : ys ++ drop (length m - keep) (drop keep m) ≡ replicate (min n (length b)) 0 =
     rw (zeros, none) (append-nil (replicate (min n (length b)) 0)) in
     rw (front, rest)
+
+-- nothing is left of a buffer that is not longer than n
+pub shift_all : (b : List ℕ) (n : ℕ) → length b ≤ n → replicate (length b) 0 ≡ shifted n b
+unfolding shifted
+shift_all b n h =
+    let e : length b ≡ min n (length b) = omega arith in
+    sym (ap₂ ◌++◌ (drop_of_length-le b {i = n} h) (ap (λ (j : ℕ). replicate j 0) (sym e)))
 
 pub shift_none : (b : List ℕ) → b ≡ shifted 0 b
 unfolding shifted

@@ -29,7 +29,7 @@ use Rattle.restart.specs.Turns.{Best, StatusByCsn, running_in, first_running, be
 use Rattle.restart.specs.declared.forward.Ending.TheVariants.{Abort}
 use Rattle.std.specs.Prelude.{zip}
 use Rattle.std.proofs.lemmas.Slice.Zip.{length-zip, get_or-zip}
-use Rattle.restart.proofs.Shown.{Shown}
+use Rattle.restart.proofs.Shown.{HasKeys}
 use Rattle.restart.proofs.SlotLaws.{position_first, first_at, first_none, first_same, filter_both, filter_same, filter_none, filter_first}
 
 module _ (image : Image) (found : Endings) where
@@ -171,9 +171,9 @@ same_but p q i n a b h j l = go (eqb j i) refl
     go true e = let s = eqb-true j i e in ap q s ∙ b ∙ sym (ap p s ∙ a)
     go false e = h j (eqb-false j i e)
 
--- ---- by the heads as by the image
+-- ---- by the keys as by the image
 
-module _ (image : Image) (u : StatusByCsn image) (s : List ℕ) (txs : List TxHead) (v : Shown image s txs) (found : Endings)
+module _ (image : Image) (u : StatusByCsn image) (txs : List TxHead) (v : HasKeys image txs) (found : Endings)
     (long : image.count ≤ length found) where
   number_at : (j : ℕ) → j < image.count → (get_or txs j no_head).key.csn ≡ (slot_at image.txs j).csn
   number_at j h = ap (λ (k : Key). k.csn) (v.keys j h)
@@ -233,7 +233,7 @@ left_few image found n =
       filter_both (running_at image found) (lost_at image found n) (transaction_at image) image.count (λ j. not_both image found j n),
     )
 
-module _ (image : Image) (u : StatusByCsn image) (s : List ℕ) (txs : List TxHead) (v : Shown image s txs) (found : Endings)
+module _ (image : Image) (u : StatusByCsn image) (txs : List TxHead) (v : HasKeys image txs) (found : Endings)
     (long : image.count ≤ length found) (csn : Csn) where
   abbrev runs : ℕ → Bool
   runs = running_at image found
@@ -279,8 +279,8 @@ module _ (image : Image) (u : StatusByCsn image) (s : List ℕ) (txs : List TxHe
 
   next_by : next_of txs found csn ≡ or_best (first_below runs image.count) (best_at image found csn image.count)
   next_by =
-      ap₂ or_best (first_running_same image u s txs v found long)
-      (ap (best_of txs found csn) v.count ∙ best_same image u s txs v found long csn image.count (omega arith))
+      ap₂ or_best (first_running_same image u txs v found long)
+      (ap (best_of txs found csn) v.count ∙ best_same image u txs v found long csn image.count (omega arith))
 
   pub next_some : (i : ℕ) → next_of txs found csn ≡ Some i → Next i
   next_some i e = go (first_below runs image.count) refl (sym next_by ∙ e)

@@ -26,6 +26,14 @@ pub record Shown (image : Image) (s : List ℕ) (txs : List TxHead) : Type 0 whe
   pub read : (j : ℕ) → j < image.count → (t : Saved) × (read_tx (drop (get_or txs j no_head).at s) ≡ some t)
   pub undo : (j : ℕ) → j < image.count → undos_read (read_tx (drop (get_or txs j no_head).at s)) ≡ (transaction_at image j).undo
 
+-- the keys alone
+pub record HasKeys (image : Image) (txs : List TxHead) : Type 0 where
+  pub count : length txs ≡ image.count
+  pub keys : (j : ℕ) → j < image.count → (get_or txs j no_head).key ≡ key_of (slot_at image.txs j)
+
+pub has_keys : (image : Image) (s : List ℕ) (txs : List TxHead) → Shown image s txs → HasKeys image txs
+has_keys image s txs v = record { count = v.count; keys = v.keys }
+
 module _ (h : Heads) (s : List ℕ) (f : HeadsFit h s) (few : h.counters.count ≤ 8) where
   same : (j : ℕ) → j < (image_by h s).count → get_or (take h.counters.count h.txs) j no_head ≡ get_or h.txs j no_head
   same j l = get_or-take h.counters.count h.txs j no_head (omega (arith, l, shown_count h s f))

@@ -26,8 +26,8 @@ use Rattle.std.specs.List.{position_or_len}
 use Rattle.std.proofs.lemmas.List.Sums.{fails_before_first, passes_at_first}
 use Rattle.image.specs.Content.{transactions_in}
 use Rattle.restart.specs.Slots.{Slot, transaction_at, or_at, first_below, has_id_at, image_slot, one_if, filter_below}
-use Rattle.restart.specs.Turns.{slot_in}
-use Rattle.restart.proofs.Shown.{Shown}
+use Rattle.restart.specs.Turns.{Below, slot_in}
+use Rattle.restart.proofs.Shown.{HasKeys}
 
 module _ (p : ℕ → Bool) (i : ℕ) where
   pub first_hit : first_below p i ≡ None → p i ≡ true → (n : ℕ) → i < n → first_below p n ≡ Some i
@@ -66,14 +66,19 @@ first_at p (suc n) i e = go (first_at p n i) (first_below p n) refl (p n) refl e
     go ih None q true r z = let s : n ≡ i = cc in (omega arith, ap p (sym s) ∙ r)
     go ih None q false r z = clash (cc)
 
+-- one of the first n is one of the first m
+pub found_below : (p : ℕ → Bool) (n m : ℕ) (x : Slot) → n ≤ m → x ≡ first_below p n → Below m x
+found_below p n m None h e = tt {0}
+found_below p n m (Some i) h e = omega (arith, (first_at p n i (sym e)).0)
+
 -- by tests that agree
 pub first_same : (p q : ℕ → Bool) (n : ℕ) → ((j : ℕ) → j < n → q j ≡ p j) → first_below q n ≡ first_below p n
 first_same p q zero h = refl
 first_same p q (suc n) h = ap₂ (λ (f : Slot) (b : Bool). or_at f b n) (first_same p q n (λ j l. h j (omega arith))) (h n (omega arith))
 
--- by the heads as by the image
-pub slot_in_lem : (image : Image) (s : List ℕ) (txs : List TxHead) → Shown image s txs → (id : ℕ) → slot_in txs id ≡ image_slot image id
-slot_in_lem image s txs v id =
+-- by the keys as by the image
+pub slot_in_lem : (image : Image) (txs : List TxHead) → HasKeys image txs → (id : ℕ) → slot_in txs id ≡ image_slot image id
+slot_in_lem image txs v id =
     position_first (λ (t : TxHead). eqb t.key.id.0 id) txs no_head
     ∙ ap (first_below (λ i. eqb (get_or txs i no_head).key.id.0 id)) v.count
     ∙ first_same (has_id_at image id) (λ i. eqb (get_or txs i no_head).key.id.0 id) image.count (λ j h. ap (λ (k : Key). eqb k.id.0 id) (v.keys j h))

@@ -26,7 +26,7 @@ use Rattle.restart.specs.Slots.{Slot, transaction_at, image_slot}
 use Rattle.restart.specs.Forward.{Endings, open_at, Went, went_by, undo_logged, past, after_group, go_over}
 use Rattle.restart.specs.declared.forward.Ending.TheVariants.{Commit, Abort}
 use Rattle.restart.specs.Turns.{slot_in, unfinished_at, front_writes, TurnEnd, turn_end_by, on_group, turn_step}
-use Rattle.restart.proofs.Shown.{Shown}
+use Rattle.restart.proofs.Shown.{HasKeys}
 use Rattle.restart.proofs.SlotLaws.{slot_in_lem}
 use Rattle.std.proofs.lemmas.List.Quantifiers.{position-Some}
 use Rattle.restart.proofs.RedoLaws.{front_body}
@@ -102,6 +102,17 @@ module _ (image : Image) (log : List ℕ) (w : Went) where
           let r = step_room log w.pass g h e in
           (omega arith, omega arith)
 
+  -- the last turn where no group stands any more: the end stands still
+  pub rest_done : (k : ℕ) → (group_step image log w).pass.end ≡ w.pass.end → rest k image log w ≡ group_step image log w
+  rest_done k h = go here refl
+    where
+      go : (x : Option Group) → here ≡ x → rest k image log w ≡ group_step image log w
+      go none e = rest_none k e ∙ sym (step_none e)
+      go (some g) e =
+          let k = grown g e in
+          let z = group_within _ _ g e in
+          absurd (omega arith)
+
 -- ---- a turn of the code: what an abort undoes is undone after it
 
 -- the transaction in this slot undone
@@ -165,8 +176,9 @@ module _ (txs : List TxHead) (log : List ℕ) (w : Went) where
       go none e = (e, ap (λ (x : TurnEnd). x.memory) (turn_none e))
       go (some g) e = let z = sym (ap (λ (x : TurnEnd). x.turn) (turn_by (some g) e)) ∙ h in clash (cc)
 
-  -- one that is to be undone has a slot
-  pub turn_undo : (t : Turn) (i : ℕ) → (turn_step txs log w).turn ≡ Some t → t.undo ≡ Some i → i < length txs
+  -- one that is to be undone has a slot, and its abort record was passed
+  pub turn_undo : (t : Turn) (i : ℕ) → (turn_step txs log w).turn ≡ Some t → t.undo ≡ Some i → (i < length txs) × (w.pass.end < t.pass.end)
+  unfolding past
   turn_undo t i h u = go read refl
     where
       found : (id : ℕ) (x : Slot) → slot_in txs id ≡ x → unfinished_at w.pass.found x ≡ Some i → i < length txs
@@ -179,24 +191,27 @@ module _ (txs : List TxHead) (log : List ℕ) (w : Went) where
           at_same true j q = cc
           at_same false j q = clash (cc)
 
-      turned : (m : List ℕ) (p : Pass) (x : Slot) → turn_step txs log w ≡ turn_end_by m p x → x ≡ Some i
+      turned : (m : List ℕ) (p : Pass) (x : Slot) → turn_step txs log w ≡ turn_end_by m p x → (x ≡ Some i) × (p.end ≡ t.pass.end)
       turned m p x e =
           let z : ◌≡◌ {A = Maybe Turn} (Some (record { pass = p; undo = x })) (Some t) = sym (ap (λ (x : TurnEnd). x.turn) e) ∙ h in
           let y : ◌≡◌ {A = Turn} (record { pass = p; undo = x }) t = cc in
-          ap (λ (t : Turn). t.undo) y ∙ u
+          (ap (λ (t : Turn). t.undo) y ∙ u, ap (λ (t : Turn). t.pass.end) y)
 
-      go : (x : Option Group) → read ≡ x → i < length txs
+      go : (x : Option Group) → read ≡ x → (i < length txs) × (w.pass.end < t.pass.end)
       go none e = let z = sym (ap (λ (x : TurnEnd). x.turn) (turn_none e)) ∙ h in clash (cc)
-      go (some (committed id c ws)) e = let z = turned _ _ _ (turn_by _ e) in clash (cc)
-      go (some (aborted id)) e = found id (slot_in txs id) refl (turned _ _ _ (turn_by (some (aborted id)) e))
+      go (some (committed id c ws)) e = let z = (turned _ _ _ (turn_by _ e)).0 in clash (cc)
+      go (some (aborted id)) e =
+          let z = turned _ _ _ (turn_by (some (aborted id)) e) in
+          let k : w.pass.end + 4 ≡ t.pass.end = z.1 in
+          (found id (slot_in txs id) refl z.0, omega (arith, k))
 
--- for the heads of the image
-pub turn_step_lem : (image : Image) (s : List ℕ) (txs : List TxHead) (log : List ℕ) (w : Went) → Shown image s txs
+-- for heads that have the keys of the image
+pub turn_step_lem : (image : Image) (txs : List TxHead) (log : List ℕ) (w : Went) → HasKeys image txs
     → group_step image log w ≡ undone_turn image w (turn_step txs log w)
-turn_step_lem image s txs log w v = go (read_group w.pass.csn.0 (drop w.pass.end log)) refl
+turn_step_lem image txs log w v = go (read_group w.pass.csn.0 (drop w.pass.end log)) refl
   where
     same : (id : ℕ) → image_slot image id ≡ slot_in txs id
-    same id = sym (slot_in_lem image s txs v id)
+    same id = sym (slot_in_lem image txs v id)
 
     turned : (x : Option Group) → read_group w.pass.csn.0 (drop w.pass.end log) ≡ x
         → undone_turn image w (on_group txs x w) ≡ undone_turn image w (turn_step txs log w)

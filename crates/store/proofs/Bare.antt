@@ -1,24 +1,56 @@
 -- A state and the bare state of its extents are judged alike.
-use Prim.Native.Nat.{ℕ, ◌<◌}
+use Prim.Native.Nat.{ℕ, zero, suc, ◌+◌, ◌≤◌, ◌<◌}
+use native.Mathlib.Decide.{dec_lt}
 use native.Mathlib.Omega.{arith}
 use mathlib.Core.Bool.{true}
-use mathlib.Core.List.{List}
+use mathlib.Core.List.{List, [], ◌∷◌}
 use mathlib.Core.Path.{◌≡◌, refl, sym, ap, ◌∙◌, subst}
-use lib.ListN.{length, get_or, take, get_or-map}
+use lib.ListN.{length, get_or, set, take, replicate, get_or-map}
+use lib.Seq.{get_or-set_same, get_or-set_other}
 use Rattle.std.proofs.lemmas.List.{get_or-take}
 use Rattle.transaction.specs.declared.Tx.{Tx}
+use Rattle.transaction.specs.declared.TxExtents.{TxExtents}
+use Rattle.transaction.specs.Flat.{no_tx}
 use Rattle.transaction.specs.View.{extents_of, bare_tx}
 use Rattle.transaction.specs.Rules.{state_ok}
 use Rattle.transaction.proofs.Lists.{every_at}
 use Rattle.store.specs.declared.State.{State}
 use Rattle.store.specs.declared.extents.StateExtents.{StateExtents}
 use Rattle.store.specs.State.{tx_at}
-use Rattle.store.specs.Extents.{no_extents, HasExtents, bare_state}
+use Rattle.store.specs.Extents.{no_extents, Taken, HasExtents, bare_state}
 use Rattle.store.specs.Numbers.{Check, first_number, tx_of}
 use Rattle.store.specs.Admission.{Admission, Choice, admission, disk_admission, choice}
 use Rattle.store.proofs.Choosing.{Slotted}
 use Rattle.store.proofs.Storing.{disk_number, disk_number_lem}
 use Rattle.store.proofs.Sameness.{AlikeTx, Alike, admission_alike, disk_alike, choice_alike}
+
+-- ---- the slots taken so far
+
+past_end : {A : Type 0} (l : List A) (i : ℕ) (d : A) → length l ≤ i → get_or l i d ≡ d
+past_end [] i d h = refl
+past_end (x ∷ l) zero d h = absurd (omega arith)
+past_end (x ∷ l) (suc i) d h = past_end l i d (omega arith)
+
+one_more : (s : State) (ts : List TxExtents) (i : ℕ) → Taken s ts i → get_or ts i no_extents ≡ extents_of (tx_at s i) → Taken s ts (i + 1)
+one_more s ts i h e j l =
+    elim (dec_lt j i) [
+      | yes q ↦ h j q
+      | no q ↦ let z : i ≡ j = omega (arith, l, q) in subst (λ (k : ℕ). get_or ts k no_extents ≡ extents_of (tx_at s k)) z e
+    ]
+
+pub taken_stored : (s : State) (ts : List TxExtents) (i : ℕ) (x : TxExtents) → length ts ≡ 8 → i < 8 → x ≡ extents_of (tx_at s i) → Taken s ts i
+    → Taken s (set ts i x) (i + 1)
+taken_stored s ts i x l b e h =
+    one_more s (set ts i x) i (λ j q. get_or-set_other ts i j x no_extents (λ z. omega (arith, q, z)) ∙ h j q)
+    (get_or-set_same ts i x no_extents (omega (arith, l, b)) ∙ e)
+
+pub taken_past : (s : State) (ts : List TxExtents) (i : ℕ) → length ts ≡ 8 → length s.txs ≡ 8 → 8 ≤ i → Taken s ts i → Taken s ts (i + 1)
+taken_past s ts i l m b h =
+    one_more s ts i h (past_end ts i no_extents (omega (arith, l, b)) ∙ ap extents_of (sym (past_end s.txs i no_tx (omega (arith, m, b)))))
+
+-- the first one's, in every slot
+pub taken_first : (s : State) (x : TxExtents) → x ≡ extents_of (tx_at s 0) → Taken s (replicate 8 x) 1
+taken_first s x e j h = let z : 0 ≡ j = omega (arith, h) in subst (λ (k : ℕ). get_or (replicate 8 x) k no_extents ≡ extents_of (tx_at s k)) z e
 
 -- ---- the state that has them
 

@@ -151,7 +151,7 @@ listed_by_6 s id e =
     let l = slot_within s id (not-false _ e) in
     (l, sym (eqb-true _ _ ((find s id).there (omega arith))))
 
-slotted : (s : State) (x : Admission) (id : ℕ) (r : Choice) (cs : List Check) → Seen x s → positive cs ≡ true → r ≡ choice s x id (check6 s id ∷ cs)
+pub slotted : (s : State) (x : Admission) (id : ℕ) (r : Choice) (cs : List Check) → Seen x s → positive cs ≡ true → r ≡ choice s x id (check6 s id ∷ cs)
     → r.number ≡ 0
     → Slotted s x id r cs
 slotted s x id r cs seen p e h =

@@ -13,7 +13,7 @@ use Rattle.store.specs.Numbers.{check, first_number, shared_checks}
 use Rattle.store.specs.Admission.{Admission, not_admitted, admission, disk_admission}
 use Rattle.store.specs.Calls.{refusing}
 use Rattle.store.specs.Stored.{disk_checks, DiskOutcome, Plan, cut_short, made_whole, carried_out, stored_by}
-use Rattle.store.proofs.Fits.{Fit}
+use Rattle.store.proofs.Fits.{Fit, unfit_no}
 use Rattle.store.proofs.Checks.{passed}
 use Rattle.store.proofs.Admitting.{unrefused, number_is, admitted}
 
@@ -62,6 +62,9 @@ module _ (s : State) (d m t : List ℕ) where
     disk_end h =
         let l = (disk_admitted (sym disk_number_lem ∙ h)).disk in
         (admitted s (length m) t x (e ∙ rw (eq-eqb (length d) 33691 l)) h).end
+
+  pub disk_passes : DiskAdmitted s d m t → disk_number ≡ 0
+  disk_passes a = rw (eq-eqb _ _ a.disk, eq-eqb _ _ a.memory, eq-eqb _ _ a.tail, unfit_no s t a.fits)
 
   -- ---- the outcome, by the number and the stores allowed
 

@@ -26,6 +26,13 @@ zeros_append : (l m : List ℕ) → all_zero (l ++ m) ≡ all_zero l && all_zero
 zeros_append [] m = refl
 zeros_append (x ∷ l) m = ap (λ (b : Bool). eqb x 0 && b) (zeros_append l m) ∙ sym (and_assoc (eqb x 0) (all_zero l) (all_zero m))
 
+-- a part of n bytes, and what comes after it
+pub zeros_part : (at n m : ℕ) (s : List ℕ) → m ≡ n → all_zero (drop at s) ≡ all_zero (take m (drop at s)) && all_zero (drop (at + n) s)
+zeros_part at n m s e =
+    ap all_zero (sym (take-append-drop n (drop at s)))
+    ∙ zeros_append (take n (drop at s)) (drop n (drop at s))
+    ∙ ap₂ (λ (k : ℕ) (l : List ℕ). all_zero (take k (drop at s)) && all_zero l) (sym e) (drop-drop n at s)
+
 chunk_at : (n k i : ℕ) (s : List ℕ) → i < k → get_or (first_chunks n k s) i [] ≡ take n (drop (i * n) s)
 chunk_at n zero i s h = absurd (omega arith)
 chunk_at n (suc k) zero s h = let e : 0 ≡ 0 * n = omega arith in ap (λ (m : ℕ). take n (drop m s)) e
@@ -34,12 +41,11 @@ chunk_at n (suc k) (suc i) s h =
     chunk_at n k i (drop n s) (omega (arith, h)) ∙ ap (take n) (drop-drop (i * n) n s) ∙ ap (λ (m : ℕ). take n (drop m s)) e
 
 -- of parts of n bytes, part i and what comes after it
-pub zeros_part : (n k i : ℕ) (s : List ℕ) → i < k → all_zero (drop (i * n) s) ≡ all_zero (get_or (first_chunks n k s) i []) && all_zero (drop ((i + 1) * n) s)
-zeros_part n k i s h =
+pub zeros_chunk : (n k i : ℕ) (s : List ℕ) → i < k → all_zero (drop (i * n) s) ≡ all_zero (get_or (first_chunks n k s) i []) && all_zero (drop ((i + 1) * n) s)
+zeros_chunk n k i s h =
     let e : i * n + n ≡ (i + 1) * n = omega arith in
-    ap all_zero (sym (take-append-drop n (drop (i * n) s)))
-    ∙ zeros_append (take n (drop (i * n) s)) (drop n (drop (i * n) s))
-    ∙ ap₂ (λ (l m : List ℕ). all_zero l && all_zero m) (sym (chunk_at n k i s h)) (drop-drop n (i * n) s ∙ ap (λ (m : ℕ). drop m s) e)
+    zeros_part (i * n) n n s refl
+    ∙ ap₂ (λ (l m : List ℕ). all_zero l && all_zero m) (sym (chunk_at n k i s h)) (ap (λ (m : ℕ). drop m s) e)
 
 -- zeros are as many zeros
 pub zeros_all : (l : List ℕ) → all_zero l ≡ true → l ≡ replicate (length l) 0

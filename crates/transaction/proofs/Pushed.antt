@@ -24,6 +24,10 @@ use Rattle.transaction.specs.Steps.{pushed_range, pushed}
 use Rattle.transaction.proofs.Lists.{up_snoc, up_same}
 use Rattle.transaction.proofs.Writes.{writes_up}
 
+-- records with other bytes
+abbrev pub holding : Records → List ℕ → Records
+holding r bs = record { ranges = r.ranges; bytes = bs }
+
 -- the arrays' lengths, which every value of the code has
 pub record SizedRanges (r : Ranges) : Type 0 where
   pub addrs : length r.addr ≡ 16

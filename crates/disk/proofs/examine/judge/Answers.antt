@@ -14,7 +14,7 @@ use Rattle.restart.proofs.Recovery.{laid_tail}
 use Rattle.disk.specs.declared.open.Opened.{Opened}
 use Rattle.disk.specs.Open.{open_of}
 use Rattle.disk.specs.Examine.{Meaning, steps_of, examined}
-use Rattle.disk.proofs.Opened.{opened_rules, Handed, handed}
+use Rattle.disk.proofs.Opened.{opened_rules, HandedOk, handed_ok}
 use Rattle.disk.proofs.Examining.{judged_by, shut_judged, shut_left, refused_memory, end_within, undone_within, means_5, means}
 use Rattle.disk.proofs.examine.judge.Goals as goal
 
@@ -28,7 +28,7 @@ returns-in_err-opened-clause-memory_after c = c.open.ensures.memory_after ∙ sh
 
 -- ---- once it is opened
 
-module _ (o : Opened) (disk : List ℕ) (h : Handed o disk) where
+module _ (o : Opened) (disk : List ℕ) (h : HandedOk o disk) where
   abbrev image : Image
   image = image_by o.heads o.txs.now
 
@@ -66,25 +66,25 @@ module _ (o : Opened) (disk : List ℕ) (h : Handed o disk) where
 pub recover-replayed-requires : goal.recover-replayed-requires
 recover-replayed-requires c =
     let o = c.in_ok-opened.opened in
-    let h = handed c.args.disk.now o c.in_ok-opened.ensures.value in
+    let h = handed_ok c.args.disk.now o c.in_ok-opened.ensures.value in
     record { heads_fit = (h.shows, rules o _ h) }
 
 pub overflow_add-end : goal.overflow_add-end
 overflow_add-end c =
     let o = c.in_ok-opened.opened in
-    let h = handed c.args.disk.now o c.in_ok-opened.ensures.value in
+    let h = handed_ok c.args.disk.now o c.in_ok-opened.ensures.value in
     omega (arith, ends o _ h _ c.open.ensures.memory_after c.recover-replayed.result c.recover-replayed.ensures.answer_value)
 
 pub overflow_mul-replayed : goal.overflow_mul-replayed
 overflow_mul-replayed c =
     let o = c.in_ok-opened.opened in
-    let h = handed c.args.disk.now o c.in_ok-opened.ensures.value in
+    let h = handed_ok c.args.disk.now o c.in_ok-opened.ensures.value in
     omega (arith, few o _ h _ c.open.ensures.memory_after c.recover-replayed.result c.recover-replayed.ensures.answer_value)
 
 pub overflow_add-end-2 : goal.overflow_add-end-2
 overflow_add-end-2 c =
     let o = c.in_ok-opened.opened in
-    let h = handed c.args.disk.now o c.in_ok-opened.ensures.value in
+    let h = handed_ok c.args.disk.now o c.in_ok-opened.ensures.value in
     omega (
       arith,
       ends o _ h _ c.open.ensures.memory_after c.recover-replayed.result c.recover-replayed.ensures.answer_value,
@@ -95,7 +95,7 @@ pub returns-then-end-replayed-gt-LOG_LEN-clause-judged_as : goal.returns-then-en
 returns-then-end-replayed-gt-LOG_LEN-clause-judged_as c =
     let disk = c.args.disk.now in
     let o = c.in_ok-opened.opened in
-    let h = handed disk o c.in_ok-opened.ensures.value in
+    let h = handed_ok disk o c.in_ok-opened.ensures.value in
     let t = total o _ h _ c.open.ensures.memory_after c.recover-replayed.result c.recover-replayed.ensures.answer_value in
     rw (means_5 disk h.opened (omega (arith, c.if-end-replayed-gt-LOG_LEN.true, t))) (judged_by _)
 
@@ -103,7 +103,7 @@ pub returns-then-end-replayed-gt-LOG_LEN-clause-memory_after : goal.returns-then
 returns-then-end-replayed-gt-LOG_LEN-clause-memory_after c =
     let disk = c.args.disk.now in
     let o = c.in_ok-opened.opened in
-    let h = handed disk o c.in_ok-opened.ensures.value in
+    let h = handed_ok disk o c.in_ok-opened.ensures.value in
     let t = total o _ h _ c.open.ensures.memory_after c.recover-replayed.result c.recover-replayed.ensures.answer_value in
     let five = means_5 disk h.opened (omega (arith, c.if-end-replayed-gt-LOG_LEN.true, t)) in
     c.fill_zero.ensures
@@ -115,7 +115,7 @@ returns-clause-judged_as c =
     let disk = c.args.disk.now in
     let o = c.in_ok-opened.opened in
     let a = c.recover-replayed in
-    let h = handed disk o c.in_ok-opened.ensures.value in
+    let h = handed_ok disk o c.in_ok-opened.ensures.value in
     let t = total o _ h _ c.open.ensures.memory_after a.result a.ensures.answer_value in
     let f = found o _ h _ c.open.ensures.memory_after a.result a.ensures.answer_value in
     rw (means disk h.opened (omega (arith, c.if-end-replayed-gt-LOG_LEN.false, t)))
@@ -129,7 +129,7 @@ returns-clause-memory_after c =
     let disk = c.args.disk.now in
     let o = c.in_ok-opened.opened in
     let a = c.recover-replayed in
-    let h = handed disk o c.in_ok-opened.ensures.value in
+    let h = handed_ok disk o c.in_ok-opened.ensures.value in
     let t = total o _ h _ c.open.ensures.memory_after a.result a.ensures.answer_value in
     a.ensures.memory_after
     ∙ ap (λ (x : AfterSteps). x.memory) (steps o _ h _ c.open.ensures.memory_after a.result a.ensures.answer_value)

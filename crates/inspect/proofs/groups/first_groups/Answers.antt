@@ -14,7 +14,7 @@ use Rattle.store.specs.Answer.{done}
 use Rattle.store.proofs.Checks.{refused_some}
 use Rattle.disk.specs.declared.open.Opened.{Opened}
 use Rattle.disk.specs.Open.{open_of}
-use Rattle.disk.proofs.Opened.{log_short, opened_rules, opened_log, handed_not, Handed, handed}
+use Rattle.disk.proofs.Opened.{log_short, opened_rules, opened_log, handed_not, HandedOk, handed_ok}
 use Rattle.inspect.specs.Groups.{GroupsTold, GroupsLeft, refused_groups, pass_of, first_groups_of}
 use Rattle.inspect.proofs.Applying.{groups_no_disk, groups_no_memory, groups_shut, groups_open, pass_within}
 use Rattle.inspect.proofs.groups.first_groups.Goals as goal
@@ -48,7 +48,7 @@ module _ (disk array memory : List ℕ) (k : ℕ) (d : length disk ≡ 33691) (s
       → record { result = refused_groups (open_of array).number; memory = (open_of array).memory } ≡ first_groups_of disk memory k
   shut r n = at_disk (groups_shut array memory k (ap length same ∙ d) m (λ z. eqb-false (number_of r) 0 (refused_some r) (sym n ∙ z)))
 
-  module _ (o : Opened) (h : Handed o array) where
+  module _ (o : Opened) (h : HandedOk o array) where
     few : o.heads.counters.count ≤ 8
     few =
         omega (
@@ -107,7 +107,7 @@ forward-p-requires c =
     let a = c.args in
     let d = c.in-Some.ensures.cases in
     let m = c.in-Some-as_mut_array.ensures.cases in
-    let h = handed c.in-Some.disk.now c.in_ok-opened.opened c.in_ok-opened.ensures.value in
+    let h = handed_ok c.in-Some.disk.now c.in_ok-opened.opened c.in_ok-opened.ensures.value in
     record { heads_fit = (h.shows, few a.disk.now c.in-Some.disk.now a.memory.now a.groups d.long d.same m.long c.in_ok-opened.opened h) }
 
 pub overflow_add-result : goal.overflow_add-result
@@ -116,7 +116,7 @@ overflow_add-result c =
     let d = c.in-Some.ensures.cases in
     let m = c.in-Some-as_mut_array.ensures.cases in
     let o = c.in_ok-opened.opened in
-    let h = handed c.in-Some.disk.now o c.in_ok-opened.ensures.value in
+    let h = handed_ok c.in-Some.disk.now o c.in_ok-opened.ensures.value in
     let e = end_fits a.disk.now c.in-Some.disk.now a.memory.now a.groups d.long d.same m.long o h c.open.new.memory c.open.ensures.memory_after
     c.forward-p.result c.forward-p.ensures.value in
     omega (arith, e)
@@ -127,7 +127,7 @@ returns-clause-result_value c =
     let d = c.in-Some.ensures.cases in
     let m = c.in-Some-as_mut_array.ensures.cases in
     let o = c.in_ok-opened.opened in
-    let h = handed c.in-Some.disk.now o c.in_ok-opened.ensures.value in
+    let h = handed_ok c.in-Some.disk.now o c.in_ok-opened.ensures.value in
     is_told a.disk.now c.in-Some.disk.now a.memory.now a.groups d.long d.same m.long o h c.open.new.memory c.open.ensures.memory_after
     c.forward-p.result c.forward-p.ensures.value
 
@@ -137,6 +137,6 @@ returns-clause-memory_after c =
     let d = c.in-Some.ensures.cases in
     let m = c.in-Some-as_mut_array.ensures.cases in
     let o = c.in_ok-opened.opened in
-    let h = handed c.in-Some.disk.now o c.in_ok-opened.ensures.value in
+    let h = handed_ok c.in-Some.disk.now o c.in_ok-opened.ensures.value in
     is_left a.disk.now c.in-Some.disk.now a.memory.now a.groups d.long d.same m.long o h c.open.new.memory c.open.ensures.memory_after _
     c.forward-p.ensures.memory_after

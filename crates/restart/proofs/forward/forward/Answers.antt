@@ -11,7 +11,7 @@ use Rattle.image.specs.Heads.{image_by, HeadsFit, undos_read}
 use Rattle.image.proofs.HeadLaws.{shown_count}
 use Rattle.restart.specs.Slots.{Slot}
 use Rattle.restart.specs.Forward.{Went, went_by, first_of}
-use Rattle.restart.proofs.Shown.{Shown, shown}
+use Rattle.restart.proofs.Shown.{Shown, has_keys, shown}
 use Rattle.restart.proofs.Steps.{rest, group_step, rest_step, rest_none, rest_zero, step_within, undone_at, after_turn, turn_step_lem, turn_stop, turn_undo}
 use Rattle.restart.proofs.forward.forward.Goals.{In-Some, in-Some-undo, in_default-undo}
 use Rattle.restart.proofs.forward.forward.Goals as goal
@@ -31,7 +31,7 @@ turned c x e =
     let w = went_by l.memory l.p in
     ap (λ (y : Slot). went_by (undone_at image y c.step.new.memory) c.in-Some.turn.pass) (sym e)
     ∙ ap₂ (after_turn image w) c.step.ensures.memory_after (sym c.in-Some.is ∙ c.step.ensures.value)
-    ∙ sym (turn_step_lem image a.s.now _ a.log.now w (heads a.h a.s.now c.requires.heads_fit))
+    ∙ sym (turn_step_lem image _ a.log.now w (has_keys image a.s.now _ (heads a.h a.s.now c.requires.heads_fit)))
 
 bounds : (c : In-Some) → c.in-Some.turn.pass.end ≤ length c.args.log.now
 bounds c =
@@ -58,7 +58,7 @@ passed c x m e z =
 undone : (c : In-Some) (i : ℕ) → c.in-Some.turn.undo ≡ Some i → i < length (take c.args.h.counters.count c.args.h.txs)
 undone c i e =
     let l = c.loop-group in
-    turn_undo _ c.args.log.now (went_by l.memory l.p) _ i (sym c.step.ensures.value ∙ c.in-Some.is) e
+    (turn_undo _ c.args.log.now (went_by l.memory l.p) _ i (sym c.step.ensures.value ∙ c.in-Some.is) e).0
 
 -- it is one of the image's
 slot : (c : In-Some) (i : ℕ) → c.in-Some.turn.undo ≡ Some i → i < (image_by c.args.h c.args.s.now).count

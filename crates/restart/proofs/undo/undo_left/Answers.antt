@@ -15,7 +15,7 @@ use Rattle.image.proofs.HeadLaws.{shown_count}
 use Rattle.restart.specs.declared.forward.Ending.TheVariants.{Abort}
 use Rattle.restart.specs.Slots.{transaction_at}
 use Rattle.restart.specs.Turns.{StatusByCsn, undone_list}
-use Rattle.restart.proofs.Shown.{Shown, shown}
+use Rattle.restart.proofs.Shown.{Shown, HasKeys, has_keys, shown}
 use Rattle.restart.proofs.Undos.{undid_more, undid_all}
 use Rattle.restart.proofs.Select.{left_by, left_is, left_few, next_some, next_none}
 use Rattle.restart.proofs.undo.undo_left.Goals.{In-Some}
@@ -28,6 +28,9 @@ few h s shows status = omega (arith, shown_count h s shows, status.few)
 heads : (h : Heads) (s : List ℕ) (f : HeadsFit h s × StatusByCsn (image_by h s)) → Shown (image_by h s) s (take h.counters.count h.txs)
 heads h s f = shown h s f.0 (few h s f.0 f.1)
 
+keys : (h : Heads) (s : List ℕ) (f : HeadsFit h s × StatusByCsn (image_by h s)) → HasKeys (image_by h s) (take h.counters.count h.txs)
+keys h s f = has_keys (image_by h s) s (take h.counters.count h.txs) (heads h s f)
+
 -- the one found is the next to undo
 next : (c : In-Some)
     → let l = c.loop-i in
@@ -38,7 +41,7 @@ next c =
     let a = c.args in
     let f = c.requires.heads_fit in
     let l = c.loop-i in
-    next_some (image_by a.h a.s.now) f.1 a.s.now _ (heads a.h a.s.now f) l.found (omega (arith, l.invariant.endings, f.1.few)) a.p.csn _
+    next_some (image_by a.h a.s.now) f.1 _ (keys a.h a.s.now f) l.found (omega (arith, l.invariant.endings, f.1.few)) a.p.csn _
     (sym c.next.ensures ∙ c.in-Some.is)
 
 -- there is a place for its id
@@ -137,7 +140,7 @@ returns c =
     let image = image_by a.h a.s.now in
     let l = c.loop-i in
     let v = l.invariant in
-    let z = next_none image f.1 a.s.now _ (heads a.h a.s.now f) l.found (omega (arith, v.endings, f.1.few)) a.p.csn (sym c.next.ensures ∙ c.in_default.is) in
+    let z = next_none image f.1 _ (keys a.h a.s.now f) l.found (omega (arith, v.endings, f.1.few)) a.p.csn (sym c.next.ensures ∙ c.in_default.is) in
     let e = left_is image a.p ∙ (v.split ∙ ap (λ (xs : List Tx). v.done ++ xs) z ∙ append-nil v.done) in
     record {
       value = undid_all v.done _ _ _ _ v.undid ∙ ap undone_list (sym e);

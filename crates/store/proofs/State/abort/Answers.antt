@@ -6,7 +6,7 @@ use Rattle.store.proofs.Checks.{named}
 use Rattle.store.proofs.SameNumbers.{abort_first}
 use Rattle.store.proofs.Bare.{judged}
 use Rattle.store.proofs.Calling.{abort_refused, abort_done}
-use Rattle.store.proofs.Judging.{Judged, judged_call}
+use Rattle.store.proofs.Judging.{Judged, judged_by}
 use Rattle.store.proofs.Passing.{abort_passed}
 use Rattle.store.proofs.State.abort.Goals as goal
 use Rattle.store.proofs.State.abort.Goals.{After-extents}
@@ -18,7 +18,7 @@ decided : (c : After-extents) (r : Choice) → let a = c.args in
 decided c =
     let a = c.args in
     let h = c.extents.ensures in
-    judged_call a.self _ h (length a.memory.now) a.tail.now a.id.0 (λ s n. abort_checks s a.id.0) (λ n. abort_first _ _ (judged a.self _ h) a.id.0)
+    judged_by a.self _ h (length a.memory.now) a.tail.now a.id.0 (λ s n. abort_checks s a.id.0) (λ n. abort_first _ _ (judged a.self _ h) a.id.0)
 
 pub returns-in-Err : goal.returns-in-Err
 returns-in-Err c =

@@ -6,7 +6,7 @@ use Rattle.store.proofs.Checks.{named}
 use Rattle.store.proofs.SameNumbers.{go_back_first}
 use Rattle.store.proofs.Bare.{judged}
 use Rattle.store.proofs.Calling.{go_back_refused, go_back_done}
-use Rattle.store.proofs.Judging.{Judged, judged_call}
+use Rattle.store.proofs.Judging.{Judged, judged_by}
 use Rattle.store.proofs.Passing.{same_count, go_back_passed}
 use Rattle.store.proofs.State.go_back.Goals as goal
 use Rattle.store.proofs.State.go_back.Goals.{After-extents}
@@ -18,7 +18,7 @@ decided : (c : After-extents) (r : Choice) → let a = c.args in
 decided c =
     let a = c.args in
     let h = c.extents.ensures in
-    judged_call a.self _ h (length a.memory.now) a.tail.now a.id.0 (λ s n. go_back_checks s n a.id.0 a.name) (λ n. go_back_first _ _ (judged a.self _ h) a.id.0 a.name n n refl)
+    judged_by a.self _ h (length a.memory.now) a.tail.now a.id.0 (λ s n. go_back_checks s n a.id.0 a.name) (λ n. go_back_first _ _ (judged a.self _ h) a.id.0 a.name n n refl)
 
 pub returns-in-Err : goal.returns-in-Err
 returns-in-Err c =

@@ -9,7 +9,7 @@ use Rattle.store.proofs.Sameness.{used_same}
 use Rattle.store.proofs.SameNumbers.{read_first}
 use Rattle.store.proofs.Bare.{judged}
 use Rattle.store.proofs.Calling.{read_refused, read_uncovered, read_done}
-use Rattle.store.proofs.Judging.{Judged, judged_call}
+use Rattle.store.proofs.Judging.{Judged, judged_by}
 use Rattle.store.proofs.Passing.{ReadPassed, read_passed}
 use Rattle.store.proofs.State.read.Goals as goal
 use Rattle.store.proofs.State.read.Goals.{In-Ok}
@@ -20,7 +20,7 @@ returns-in_default c =
     let a = c.args in
     let h = c.extents-seen.ensures in
     let d =
-    judged_call a.self _ h (length a.memory.now) a.tail.now a.id.0 (λ s n. read_checks s a.id.0 a.addr a.len)
+    judged_by a.self _ h (length a.memory.now) a.tail.now a.id.0 (λ s n. read_checks s a.id.0 a.addr a.len)
     (λ n. read_first _ _ (judged a.self _ h) a.id.0 a.addr a.len) _ c.in_default.ensures in
     rw (read_refused a.self a.memory.now a.tail.now a.id a.addr a.len _ d.number (named c.in_default.field-0))
 
@@ -31,7 +31,7 @@ chosen : (c : In-Ok) → let a = c.args in
 chosen c =
     let a = c.args in
     let h = c.extents-seen.ensures in
-    judged_call a.self _ h (length a.memory.now) a.tail.now a.id.0 (λ s n. read_checks s a.id.0 a.addr a.len)
+    judged_by a.self _ h (length a.memory.now) a.tail.now a.id.0 (λ s n. read_checks s a.id.0 a.addr a.len)
     (λ n. read_first _ _ (judged a.self _ h) a.id.0 a.addr a.len) _ c.in-Ok.ensures
 
 passed : (c : In-Ok) → let a = c.args in ReadPassed a.self a.memory.now a.tail.now a.id.0 a.addr a.len

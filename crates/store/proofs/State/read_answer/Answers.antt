@@ -6,7 +6,7 @@ use Rattle.store.proofs.Checks.{named}
 use Rattle.store.proofs.SameNumbers.{answer_first}
 use Rattle.store.proofs.Bare.{judged}
 use Rattle.store.proofs.Calling.{answer_refused, answer_done}
-use Rattle.store.proofs.Judging.{Judged, judged_call}
+use Rattle.store.proofs.Judging.{Judged, judged_by}
 use Rattle.store.proofs.Passing.{answer_passed}
 use Rattle.store.proofs.State.read_answer.Goals as goal
 use Rattle.store.proofs.State.read_answer.Goals.{After-extents}
@@ -18,7 +18,7 @@ decided : (c : After-extents) (r : Choice) → let a = c.args in
 decided c =
     let a = c.args in
     let h = c.extents.ensures in
-    judged_call a.self _ h (length a.memory.now) a.tail.now a.id.0 (λ s n. answer_checks s a.id.0 a.addr a.len) (λ n. answer_first _ _ (judged a.self _ h) a.id.0 a.addr a.len)
+    judged_by a.self _ h (length a.memory.now) a.tail.now a.id.0 (λ s n. answer_checks s a.id.0 a.addr a.len) (λ n. answer_first _ _ (judged a.self _ h) a.id.0 a.addr a.len)
 
 pub returns-in-Err : goal.returns-in-Err
 returns-in-Err c =

@@ -7,7 +7,7 @@ use Rattle.store.proofs.Checks.{named}
 use Rattle.store.proofs.SameNumbers.{savepoint_first}
 use Rattle.store.proofs.Bare.{judged}
 use Rattle.store.proofs.Calling.{savepoint_refused, savepoint_done}
-use Rattle.store.proofs.Judging.{Judged, judged_call}
+use Rattle.store.proofs.Judging.{Judged, judged_by}
 use Rattle.store.proofs.Passing.{savepoint_passed}
 use Rattle.store.proofs.State.savepoint.Goals as goal
 use Rattle.store.proofs.State.savepoint.Goals.{After-extents}
@@ -19,7 +19,7 @@ decided : (c : After-extents) (r : Choice) → let a = c.args in
 decided c =
     let a = c.args in
     let h = c.extents.ensures in
-    judged_call a.self _ h (length a.memory.now) a.tail.now a.id.0 (λ s n. savepoint_checks s a.id.0 a.name) (λ n. savepoint_first _ _ (judged a.self _ h) a.id.0 a.name)
+    judged_by a.self _ h (length a.memory.now) a.tail.now a.id.0 (λ s n. savepoint_checks s a.id.0 a.name) (λ n. savepoint_first _ _ (judged a.self _ h) a.id.0 a.name)
 
 pub returns-in-Err : goal.returns-in-Err
 returns-in-Err c =

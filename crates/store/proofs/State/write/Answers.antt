@@ -6,7 +6,7 @@ use Rattle.store.proofs.Checks.{named}
 use Rattle.store.proofs.SameNumbers.{write_first}
 use Rattle.store.proofs.Bare.{judged}
 use Rattle.store.proofs.Calling.{write_refused, write_done}
-use Rattle.store.proofs.Judging.{Judged, judged_call}
+use Rattle.store.proofs.Judging.{Judged, judged_by}
 use Rattle.store.proofs.Passing.{write_passed}
 use Rattle.store.proofs.State.write.Goals as goal
 use Rattle.store.proofs.State.write.Goals.{After-extents}
@@ -18,7 +18,7 @@ decided : (c : After-extents) (r : Choice) → let a = c.args in
 decided c =
     let a = c.args in
     let h = c.extents.ensures in
-    judged_call a.self _ h (length a.memory.now) a.tail.now a.id.0 (λ s n. write_checks s n a.id.0 a.addr (length a.bytes.now)) (λ n. write_first _ _ (judged a.self _ h) a.id.0 a.addr (length a.bytes.now) n n refl)
+    judged_by a.self _ h (length a.memory.now) a.tail.now a.id.0 (λ s n. write_checks s n a.id.0 a.addr (length a.bytes.now)) (λ n. write_first _ _ (judged a.self _ h) a.id.0 a.addr (length a.bytes.now) n n refl)
 
 pub returns-in-Err : goal.returns-in-Err
 returns-in-Err c =

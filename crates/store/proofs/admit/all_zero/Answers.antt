@@ -1,14 +1,14 @@
 use Rattle.std.proofs.Common.{◌≡◌, ◌+◌, ◌*◌, ◌/◌, ◌<◌, ◌&&◌, ℕ, Bool, [], List, length, get_or, drop, arith, sym, ap, ◌∙◌}
 use Rattle.std.specs.Simd.{first_chunks}
 use Rattle.store.specs.Rules.{all_zero}
-use Rattle.store.proofs.Zeros.{zeros_part}
+use Rattle.store.proofs.Zeros.{zeros_chunk}
 use Rattle.store.proofs.admit.all_zero.Goals as goal
 
 -- what the test of a part says of it and of what comes after it
 tested : (s : List ℕ) (k i : ℕ) → i < k → (parts : List (List ℕ)) → parts ≡ first_chunks 512 k s → (r : Bool) → r ≡ all_zero (get_or parts i [])
     → all_zero (drop (i * 512) s) ≡ (r && all_zero (drop ((i + 1) * 512) s))
 tested s k i h parts e r q =
-    zeros_part 512 k i s h ∙ ap (λ (b : Bool). b && all_zero (drop ((i + 1) * 512) s)) (sym (q ∙ ap (λ (l : List (List ℕ)). all_zero (get_or l i [])) e))
+    zeros_chunk 512 k i s h ∙ ap (λ (b : Bool). b && all_zero (drop ((i + 1) * 512) s)) (sym (q ∙ ap (λ (l : List (List ℕ)). all_zero (get_or l i [])) e))
 
 pub returns-then-not-zero_part : goal.returns-then-not-zero_part
 returns-then-not-zero_part c =

@@ -3,7 +3,8 @@ use Rattle.std.proofs.lemmas.List.Edits.{sets, sets-eq}
 use Rattle.std.proofs.lemmas.Slice.{put_mid-paste}
 use borrow.Rule.Slice.PartMut.{put_mid}
 use lib.Seq.{take_all}
-use Rattle.transaction.specs.Steps.{pushed_range, pushed}
+use Rattle.transaction.specs.Steps.{pushed}
+use Rattle.transaction.proofs.Pushed.{holding}
 use Rattle.transaction.proofs.records.Records.push.Goals as goal
 
 -- bytes copied over a part are set there
@@ -19,4 +20,4 @@ returns c =
     let n = length c.args.src.now in
     let at = r.ranges.count * 32 in
     let e = copied r.bytes c.copy_from_slice.new.self c.args.src.now at (at + n - at) (cc) (omega arith) (omega (arith, c.well_formed)) in
-    rw c.push-self.ensures (ap (λ (bs : List ℕ). record { ranges = pushed_range r.ranges c.args.addr n; bytes = bs }) e)
+    rw c.push-self.ensures (ap (holding (pushed r c.args.addr c.args.src.now)) e)
