@@ -92,9 +92,21 @@ impl Store {
     // One record: the call, and its line.
     fn step<W: Write>(&mut self, to: &mut W, bytes: &[u8]) -> io::Result<()> {
         let r = read_record(bytes);
-        let Ok(call) = Call::try_from(r.call) else {
-            return print_unknown(to);
-        };
+        match Call::try_from(r.call) {
+            Ok(call) => self.answer(to, bytes, r, call),
+            Err(_) => print_unknown(to),
+        }
+    }
+
+    // A hint to LLVM: the room for what the calls give back is cleared for a call alone.
+    #[inline(never)]
+    fn answer<W: Write>(
+        &mut self,
+        to: &mut W,
+        bytes: &[u8],
+        r: Record,
+        call: Call,
+    ) -> io::Result<()> {
         let s = self.state;
         let (disk, memory, tail) = (&mut self.disk, &mut self.memory, &mut self.tail);
         let out = match call {
