@@ -1,4 +1,4 @@
--- What the contracts of the inner functions cite: an outcome noted, and single turns of the walk. `outcomes_of` has none of it.
+-- What the contracts of the inner functions cite: a search in the list of ids, an outcome noted, and single turns of the walk. `outcomes_of` has none of it.
 use Rattle.std.specs.Prelude.{ℕ, ◌+◌, ◌<◌, ◌≡◌, cond, List, [], ◌∷◌, length, get_or, drop, eqb, Option as Maybe, Some, None}
 use Rattle.std.proofs.Math.Option.{Option, none, some}
 use Rattle.recovery.specs.Group.{Group, group_size}
