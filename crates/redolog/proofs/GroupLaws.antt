@@ -12,7 +12,7 @@ use lib.Dec.{eqb}
 use borrow.Author.Tests.{eq-eqb, ne_eqb, eqb-true}
 use Rattle.std.specs.Prelude.{Result, Ok, Err}
 use Rattle.recovery.specs.Group.{Write, Group, committed, aborted, redo_size, group_size}
-use Rattle.redolog.specs.Number.{be16}
+use Rattle.redolog.specs.Number.{be16, be32}
 use Rattle.redolog.specs.Record.{Record, redo, commit, abort, read_record}
 use Rattle.redolog.specs.Group.{group_by, turn_of, more, last, stop, and_then, on_turn, body_step, read_body, committed_if, group_with, read_group, end_of}
 use Rattle.redolog.specs.Stop.{stop_of}
@@ -22,7 +22,7 @@ use Rattle.redolog.specs.declared.stop.Stop.{Stop}
 use Rattle.redolog.specs.declared.stop.Stop.TheVariants.{Torn}
 use Rattle.redolog.proofs.Basics.{clash, and_left, and_right, Turned}
 use Rattle.redolog.proofs.Reader.{Shrinks, step}
-use Rattle.redolog.proofs.RecordLaws.{record_front, record_within, record_none, record_short, record_abort, record_unclosed}
+use Rattle.redolog.proofs.RecordLaws.{record_front, record_within, record_none, record_short, record_abort, record_unclosed, record_commit, record_commit_short, record_commit_unclosed}
 use Rattle.redolog.proofs.StopLaws.{stop_torn, record_torn}
 
 body_shrinks : (next : ℕ) → Shrinks (body_step next)
@@ -213,7 +213,25 @@ group_with_other next id s h k = go (read_record s) refl
         group_with_commit next s i n e ∙ ap (λ (j : ℕ). committed_if j next (read_body next j s)) ((record_front s (commit i n) e).1 ∙ k)
     go (some (abort i)) e = absurd (h (sym (record_front s (abort i) e).0))
 
+-- what begins as a commit is a group alone if its number is the one expected
+pub lone_commit : (next id n : ℕ) (s : List ℕ) → get_or s 0 0 ≡ 2 → be16 s 1 ≡ id → (id ≡ 0 → ⊥) → get_or s 7 0 ≡ 2 → be32 s 3 ≡ n → n ≡ next
+    → group_with next s ≡ some (committed id n [])
+lone_commit next id n s k i z c m e =
+    let r = record_commit s id n k i z c m in
+    group_with_commit next s id n r
+    ∙ ap (committed_if id next) (body_intro next id s [] (r ∙ ap (λ (x : ℕ). some (commit id x)) e))
+    ∙ ap (λ (x : ℕ). some (committed id x [])) (sym e)
+
+pub lone_other : (next id n : ℕ) (s : List ℕ) → get_or s 0 0 ≡ 2 → be16 s 1 ≡ id → (id ≡ 0 → ⊥) → get_or s 7 0 ≡ 2 → be32 s 3 ≡ n → (n ≡ next → ⊥)
+    → group_with next s ≡ none
+lone_other next id n s k i z c m h =
+    let r = record_commit s id n k i z c m in
+    let b : read_body next id s ≡ none = rw (body_step_lem next id s, r) (simp (eq-eqb id id refl, ne_eqb n next h)) in
+    group_with_commit next s id n r ∙ ap (committed_if id next) b
+
 -- what the first bytes say of a group
+pub ruleset lone_fronts = (record_none, record_commit_short, record_commit_unclosed, stop_torn, lone_commit, lone_other, group_with_none)
+
 pub ruleset group_fronts = (record_none, record_short, record_abort, record_unclosed, stop_torn, group_with_other, group_with_abort, group_with_none)
 
 abbrev pub GroupAt : ℕ → List ℕ → Group → Type 0

@@ -97,6 +97,19 @@ pub record_unclosed : (s : List ℕ) → get_or s 0 0 ≡ 3 → (be16 s 1 ≡ 0 
 unfolding read_abort
 record_unclosed s k n e = record_by s 3 (be16 s 1) k refl (ne_eqb (be16 s 1) 0 n) ∙ rw (ne_eqb (get_or s 3 0) 3 e)
 
+-- the same of a commit
+pub record_commit : (s : List ℕ) (id n : ℕ) → get_or s 0 0 ≡ 2 → be16 s 1 ≡ id → (id ≡ 0 → ⊥) → get_or s 7 0 ≡ 2 → be32 s 3 ≡ n
+    → read_record s ≡ some (commit id n)
+unfolding read_commit
+record_commit s id n k i z c m = record_by s 2 id k i (ne_eqb id 0 z) ∙ rw (c, m)
+
+pub record_commit_unclosed : (s : List ℕ) → get_or s 0 0 ≡ 2 → (be16 s 1 ≡ 0 → ⊥) → (get_or s 7 0 ≡ 2 → ⊥) → read_record s ≡ none
+unfolding read_commit
+record_commit_unclosed s k z c = record_by s 2 (be16 s 1) k refl (ne_eqb (be16 s 1) 0 z) ∙ rw (ne_eqb (get_or s 7 0) 2 c)
+
+pub record_commit_short : (s : List ℕ) → get_or s 0 0 ≡ 2 → (be16 s 1 ≡ 0 → ⊥) → length s < 8 → read_record s ≡ none
+record_commit_short s k z h = record_commit_unclosed s k z (λ c. absurd (omega (arith, c, get_or-eq_default s 0 {n = 7} (omega arith))))
+
 -- nothing stands in fewer than 4 bytes
 pub record_short : (s : List ℕ) → length s < 4 → read_record s ≡ none
 unfolding read_record read_redo read_commit read_abort

@@ -1,17 +1,18 @@
 // Groups: an abort, or the redo records of one transaction and their commit.
 ghost use Rattle.std.specs.Prelude.{◌≡◌, ℕ, ◌+◌, ◌*◌, ◌≤◌, ◌<◌, length, get_or};
 ghost use Rattle.std.proofs.lemmas.List.Edits.{sets};
-ghost use Rattle.layout.specs.{max_write};
+ghost use Rattle.layout.specs.{kind_commit, max_write};
 ghost use Rattle.recovery.specs.Group.{group_size, committed};
+ghost use Rattle.redolog.specs.Number.{be16};
 ghost use Rattle.redolog.specs.Group.{encode_group, read_body, committed_if, group_with, read_group, end_of};
 ghost use Rattle.redolog.specs.Stop.{stop_of};
 ghost use Rattle.redolog.specs.Flat.{writes_from};
 
-use crate::number::be16;
+use crate::number::{be16, be32};
 use crate::record::{Record, put_commit, put_redo, read_record};
 use crate::stop::{Stop, stop_at};
 use crate::{Csn, TxId};
-use layout::{ABORT, ABORT_LEN, COMMIT_LEN, MAX_WRITE, REDO_LEN};
+use layout::{ABORT, ABORT_LEN, COMMIT, COMMIT_LEN, MAX_WRITE, REDO_LEN};
 
 // A whole group as read, and where it ends.
 #[derive(Clone, Copy)]
@@ -61,18 +62,48 @@ fn read_body(s: &[u8], id: TxId, next: u64) -> Result<GroupEnd, Stop>
     Err(stop_at(s, 0))
 }
 
+// The group of this id at the front of s, which begins with a commit: no redo record is in it.
+#[inline(always)]
+#[tactic(auto, using(crate::proofs::GroupLaws::lone_fronts))]
+fn read_lone(s: &[u8], id: TxId, next: u64) -> Result<GroupEnd, Stop>
+    requires { (get_or s.now 0 0 ≡ kind_commit) × (be16 s.now 1 ≡ id.0) }
+    ensures { result ≡ end_of (stop_of s.now) (group_with next s.now) }
+{
+    if id.0 == 0 {
+        return Err(Stop::Torn);
+    }
+    if s.len() < COMMIT_LEN {
+        return Err(Stop::Torn);
+    }
+    if s[7] != COMMIT {
+        return Err(Stop::Torn);
+    }
+    let csn = be32(s, 3);
+    if csn as u64 != next {
+        return Err(Stop::Torn);
+    }
+    Ok(GroupEnd::Committed {
+        id,
+        csn: Csn(csn),
+        end: COMMIT_LEN,
+    })
+}
+
 // next is the commit number expected. Behind the highest one it is 2^32, which no commit has.
-// A hint to LLVM: a log can have thousands of aborts, each told without a call then.
+// A hint to LLVM: a log can have thousands of aborts, and of commits alone, each told without a call then.
 #[inline(always)]
 #[tactic(auto, using(crate::proofs::GroupLaws::group_fronts))]
 pub fn read_next(s: &[u8], next: u64) -> Result<GroupEnd, Stop>
     ensures { result ≡ end_of (stop_of s.now) (group_with next s.now) }
 {
-    // An abort is the shortest, and told without a call: a log can have thousands.
+    // An abort is the shortest.
     if s.len() < ABORT_LEN {
         return Err(stop_at(s, 0));
     }
     let id = be16(s, 1);
+    if s[0] == COMMIT {
+        return read_lone(s, TxId(id), next);
+    }
     if s[0] != ABORT {
         return read_body(s, TxId(id), next);
     }
