@@ -2,11 +2,11 @@
 use Prim.Native.Nat.{ℕ, zero, suc, ◌+◌, ◌-◌, ◌≤◌, ◌<◌, ◌/◌}
 use native.Mathlib.Numerals.{add-one}
 use native.Mathlib.Omega.{arith}
-use mathlib.Core.Bool.{Bool, true, false, cond}
+use mathlib.Core.Bool.{Bool, true, false, cond, ◌&&◌}
 use mathlib.Core.List.{List, [], ◌∷◌, map}
 use mathlib.Core.Option.{Option, none, some}
-use mathlib.Core.Path.{◌≡◌, refl, sym, ap, ◌∙◌, subst}
-use lib.ListN.{length, get_or, set, drop, replicate, length-set, length-drop, length-replicate}
+use mathlib.Core.Path.{◌≡◌, refl, sym, ap, ap₂, ◌∙◌, subst}
+use lib.ListN.{length, get_or, set, take, drop, replicate, length-set, length-drop, length-replicate}
 use lib.Seq.{drop-drop, get_or-set_same, get_or-set_other, ext_get_or}
 use lib.Dec.{eqb, ltb}
 use borrow.Author.Tests.{eq-eqb, ne_eqb, eqb-true, eqb-false, lt-ltb, le-ltb, ltb-true, ltb-false}
@@ -106,6 +106,53 @@ rising_answer (x ∷ xs) false h =
     let k : ℕ = h.0 in
     let e = rw add-one at (h.2 0) in
     sym (rising_not x xs k (omega (arith, h.1)) (ltb-false (get_or (x ∷ xs) k 0) (get_or xs k 0) (sym e)))
+
+-- a list by its front, up to the place k, and the rest from there on
+and_both : (a b c : Bool) → (a && (b && c)) ≡ ((a && b) && c)
+and_both true b c = refl
+and_both false b c = refl
+
+pub rising_parts : (k : ℕ) (s : List ℕ) → k < length s → rising s ≡ (rising (take (suc k) s) && rising (drop k s))
+rising_parts k [] h = absurd (omega arith)
+rising_parts zero (x ∷ xs) h = refl
+rising_parts (suc k) (x ∷ []) h = absurd (omega arith)
+rising_parts (suc k) (x ∷ (y ∷ ys)) h =
+    ap (λ (b : Bool). ltb x y && b) (rising_parts k (y ∷ ys) (omega arith))
+    ∙ and_both (ltb x y) (rising (take (suc k) (y ∷ ys))) (rising (drop k (y ∷ ys)))
+
+-- one id more
+pub rising_more : (i : ℕ) (s : List ℕ) → suc i < length s
+    → rising (take (suc (suc i)) s) ≡ (rising (take (suc i) s) && ltb (get_or s i 0) (get_or s (suc i) 0))
+rising_more i [] h = absurd (omega arith)
+rising_more i (x ∷ []) h = absurd (omega arith)
+rising_more zero (x ∷ (y ∷ ys)) h = go (ltb x y)
+  where
+    go : (b : Bool) → (b && true) ≡ b
+    go true = refl
+    go false = refl
+rising_more (suc i) (x ∷ (y ∷ ys)) h =
+    ap (λ (b : Bool). ltb x y && b) (rising_more i (y ∷ ys) (omega arith))
+    ∙ and_both (ltb x y) (rising (take (suc i) (y ∷ ys))) (ltb (get_or (y ∷ ys) i 0) (get_or (y ∷ ys) (suc i) 0))
+
+-- one id, and one id more, as the code counts
+pub rising_one : (s : List ℕ) → rising (take 1 s) ≡ true
+rising_one [] = refl
+rising_one (x ∷ xs) = refl
+
+pub rising_next : (i : ℕ) (s : List ℕ) → 1 ≤ i → i < length s → (rising (take i s) && ltb (get_or s (i - 1) 0) (get_or s i 0)) ≡ rising (take (i + 1) s)
+rising_next zero s l h = absurd (omega arith)
+rising_next (suc i) s l h =
+    let a : suc i - 1 ≡ i = omega arith in
+    let b : suc i + 1 ≡ suc (suc i) = omega arith in
+    rw (a, b) (sym (rising_more i s h))
+
+-- past a part, from a place of a list on
+pub rising_past : (at n m : ℕ) (s : List ℕ) → at + n < length s → m ≡ n + 1
+    → rising (drop at s) ≡ (rising (take m (drop at s)) && rising (drop (at + n) s))
+rising_past at n m s h e =
+    let k : m ≡ suc n = omega arith in
+    rising_parts n (drop at s) (omega (arith, h, length-drop at s))
+    ∙ ap₂ (λ (i : ℕ) (t : List ℕ). rising (take i (drop at s)) && rising t) (sym k) (drop-drop n at s)
 
 -- what is below the id on one side and above it on the other does not hold it
 pub between : (ids : List ℕ) (id i : ℕ) → ((k : ℕ) → k < i → get_or ids k 0 < id) → ((k : ℕ) → i ≤ k → k < length ids → id < get_or ids k 0)
