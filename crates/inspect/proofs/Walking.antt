@@ -2,7 +2,7 @@
 use Prim.Native.Nat.{ℕ, zero, suc, ◌+◌, ◌-◌, ◌≤◌, ◌<◌, ◌/◌}
 use native.Mathlib.Numerals.{add-one}
 use native.Mathlib.Omega.{arith}
-use mathlib.Core.Bool.{Bool, true, false, cond, ◌&&◌}
+use mathlib.Core.Bool.{Bool, true, false, cond, ◌&&◌, and_assoc}
 use mathlib.Core.List.{List, [], ◌∷◌, map}
 use mathlib.Core.Option.{Option, none, some}
 use mathlib.Core.Path.{◌≡◌, refl, sym, ap, ap₂, ◌∙◌, subst}
@@ -108,17 +108,13 @@ rising_answer (x ∷ xs) false h =
     sym (rising_not x xs k (omega (arith, h.1)) (ltb-false (get_or (x ∷ xs) k 0) (get_or xs k 0) (sym e)))
 
 -- a list by its front, up to the place k, and the rest from there on
-and_both : (a b c : Bool) → (a && (b && c)) ≡ ((a && b) && c)
-and_both true b c = refl
-and_both false b c = refl
-
 pub rising_parts : (k : ℕ) (s : List ℕ) → k < length s → rising s ≡ (rising (take (suc k) s) && rising (drop k s))
 rising_parts k [] h = absurd (omega arith)
 rising_parts zero (x ∷ xs) h = refl
 rising_parts (suc k) (x ∷ []) h = absurd (omega arith)
 rising_parts (suc k) (x ∷ (y ∷ ys)) h =
     ap (λ (b : Bool). ltb x y && b) (rising_parts k (y ∷ ys) (omega arith))
-    ∙ and_both (ltb x y) (rising (take (suc k) (y ∷ ys))) (rising (drop k (y ∷ ys)))
+    ∙ sym (and_assoc (ltb x y) (rising (take (suc k) (y ∷ ys))) (rising (drop k (y ∷ ys))))
 
 -- one id more
 pub rising_more : (i : ℕ) (s : List ℕ) → suc i < length s
@@ -132,7 +128,7 @@ rising_more zero (x ∷ (y ∷ ys)) h = go (ltb x y)
     go false = refl
 rising_more (suc i) (x ∷ (y ∷ ys)) h =
     ap (λ (b : Bool). ltb x y && b) (rising_more i (y ∷ ys) (omega arith))
-    ∙ and_both (ltb x y) (rising (take (suc i) (y ∷ ys))) (ltb (get_or (y ∷ ys) i 0) (get_or (y ∷ ys) (suc i) 0))
+    ∙ sym (and_assoc (ltb x y) (rising (take (suc i) (y ∷ ys))) (ltb (get_or (y ∷ ys) i 0) (get_or (y ∷ ys) (suc i) 0)))
 
 -- one id, and one id more, as the code counts
 pub rising_one : (s : List ℕ) → rising (take 1 s) ≡ true

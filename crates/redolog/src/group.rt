@@ -69,7 +69,7 @@ fn read_lone(s: &[u8], id: TxId, next: u64) -> Result<GroupEnd, Stop>
     requires { (get_or s.now 0 0 ≡ kind_commit) × (be16 s.now 1 ≡ id.0) }
     ensures { result ≡ end_of (stop_of s.now) (group_with next s.now) }
 {
-    if id.0 == 0 {
+    if id == TxId(0) {
         return Err(Stop::Torn);
     }
     if s.len() < COMMIT_LEN {
