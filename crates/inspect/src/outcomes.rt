@@ -31,7 +31,7 @@ struct Passed {
     walk: Walk,
 }
 
-// How many neighbours are compared before the answer is looked at.
+// How many pairs of neighbours are compared before the answer is looked at.
 const PART: usize = 64;
 
 // Without a branch for each id: LLVM compares several of them at a time.
